@@ -28,9 +28,13 @@ unfolding has_bit
 has_bit-of_owners bit lt = agree_below_at (has_bit 0x6_0000) is_of_owners 32 bit refl lt
 
 system_or_owner : (bit : ℕ) → bit < 32 → (bit == access_system_security) && (bit == write_owner) ≡ false
-system_or_owner bit lt = agree_below_at (λ (n : ℕ). (n == access_system_security) && (n == write_owner)) (λ (n : ℕ). false) 32 bit refl lt
+system_or_owner bit lt = agree_below_at (λ (n : ℕ). (n == access_system_security) && (n == write_owner))
+    (λ (n : ℕ). false) 32 bit refl lt
 
-by_cases : (wanted system owner security take holders : Bool) → system && owner ≡ false → (wanted && ((system && security) || (owner && take))) || ((wanted && not system && not (wanted && ((system && security) || (owner && take)))) && holders) ≡ wanted && (if system then security else (if owner && take then true else holders))
+by_cases : (wanted system owner security take holders : Bool) → system && owner ≡ false
+    → (wanted && ((system && security) || (owner && take)))
+    || ((wanted && not system && not (wanted && ((system && security) || (owner && take)))) && holders) ≡ wanted
+    && (if system then security else (if owner && take then true else holders))
 by_cases false system owner security take holders e = refl
 by_cases true true true security take holders e = absurd cc
 by_cases true true false true take holders e = refl
@@ -40,17 +44,25 @@ by_cases true false true security false holders e = refl
 by_cases true false false security take holders e = refl
 
 -- a right is granted by privilege, or, where it is not to the SACL, by the principals
-pub by_privilege_or_holders : (bit : ℕ) (wanted security take holders : Bool) → bit < 32 → (wanted && (((bit == access_system_security) && security) || ((bit == write_owner) && take))) || ((wanted && not (bit == access_system_security) && not (wanted && (((bit == access_system_security) && security) || ((bit == write_owner) && take)))) && holders) ≡ wanted && (if bit == access_system_security then security else (if (bit == write_owner) && take then true else holders))
-by_privilege_or_holders bit wanted security take holders lt = by_cases wanted (bit == access_system_security) (bit == write_owner) security take holders (system_or_owner bit lt)
+pub by_privilege_or_holders : (bit : ℕ) (wanted security take holders : Bool) → bit < 32
+    → (wanted && (((bit == access_system_security) && security) || ((bit == write_owner) && take)))
+    || ((wanted && not (bit == access_system_security)
+    && not (wanted && (((bit == access_system_security) && security) || ((bit == write_owner) && take)))) && holders)
+    ≡ wanted && (if bit == access_system_security then security
+    else (if (bit == write_owner) && take then true else holders))
+by_privilege_or_holders bit wanted security take holders lt = by_cases wanted (bit == access_system_security)
+    (bit == write_owner) security take holders (system_or_owner bit lt)
 
 -- the rights of a mapped mask among others, where this is so
-pub of_mask : (undecided mapped mask bit : ℕ) (so : Bool) → has_bit mapped bit ≡ mapped_has mask bit → has_bit (bit_and undecided mapped) bit && so ≡ has_bit undecided bit && (mapped_has mask bit && so)
+pub of_mask : (undecided mapped mask bit : ℕ) (so : Bool) → has_bit mapped bit ≡ mapped_has mask bit
+    → has_bit (bit_and undecided mapped) bit && so ≡ has_bit undecided bit && (mapped_has mask bit && so)
 of_mask undecided mapped mask bit so e =
     ap (λ (b : Bool). b && so) (has_bit-and undecided mapped bit ∙ ap (λ (b : Bool). has_bit undecided bit && b) e)
     ∙ and_assoc (has_bit undecided bit) (mapped_has mask bit) so
 
 -- what is decided, in the order in which it is asked
-pub for_holder : (undecided mapped spoken matched : Bool) → (undecided && (mapped && spoken)) && matched ≡ undecided && ((spoken && matched) && mapped)
+pub for_holder : (undecided mapped spoken matched : Bool) → (undecided && (mapped && spoken)) && matched ≡ undecided
+    && ((spoken && matched) && mapped)
 for_holder false mapped spoken matched = refl
 for_holder true false false matched = refl
 for_holder true false true false = refl
@@ -59,7 +71,8 @@ for_holder true true false matched = refl
 for_holder true true true false = refl
 for_holder true true true true = refl
 
-pub on_path : (undecided mapped spoken about matched : Bool) → ((undecided && (mapped && spoken)) && about) && matched ≡ undecided && (((spoken && about) && matched) && mapped)
+pub on_path : (undecided mapped spoken about matched : Bool) → ((undecided && (mapped && spoken)) && about) && matched
+    ≡ undecided && (((spoken && about) && matched) && mapped)
 on_path false mapped spoken about matched = refl
 on_path true false false about matched = refl
 on_path true false true false matched = refl

@@ -8,5 +8,7 @@ use Rattle.ad_access.specs.Matching.{answers_to_self}
 
 -- each principal answers to both or to neither, for an entry of each kind
 pub record AnswerAlike (token : Token) (self other : Option SidValue) : Type 0 where
-  pub first : (kind : AceKind) → answers_to_self kind (first_holder token) self ≡ answers_to_self kind (first_holder token) other
-  pub second : (kind : AceKind) → answers_to_self kind (second_holder token) self ≡ answers_to_self kind (second_holder token) other
+  pub first : (kind : AceKind) → answers_to_self kind (first_holder token) self
+      ≡ answers_to_self kind (first_holder token) other
+  pub second : (kind : AceKind) → answers_to_self kind (second_holder token) self
+      ≡ answers_to_self kind (second_holder token) other

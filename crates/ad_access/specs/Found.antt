@@ -1,5 +1,6 @@
 -- What the sweep over a tree finds of a node.
-use Rattle.std.specs.Prelude.{◌≡◌, ℕ, ◌<◌, Bool, true, false, not, ◌&&◌, ◌||◌, Option, None, Some, List, slice_index_or, length, bit_or}
+use Rattle.std.specs.Prelude.{◌≡◌, ℕ, ◌<◌, Bool, true, false, not, ◌&&◌, ◌||◌, Option, None, Some, List}
+use Rattle.std.specs.Prelude.{slice_index_or, length, bit_or}
 use Rattle.ad_ids.specs.declared.guid.Guid.{Guid}
 use Rattle.ad_ids.specs.SidValue.{SidValue}
 use Rattle.ad_acl.specs.Mask.{has_bit}
@@ -27,11 +28,12 @@ abbrev pub is_about_below : Option Guid → Bool → Guid → Bool
 is_about_below None above guid = true
 is_about_below (Some object) above guid = above || same_guid guid object
 
--- What is found of a node after an entry that decides these rights, where it is about the node: those of them that were
--- undecided are so no longer, and are allowed where the entry allows.
+-- What is found of a node after an entry that decides these rights, where it is about the node: those of them that
+-- were undecided are so no longer, and are allowed where the entry allows.
 pub record Decides (about : Bool) (rights : ℕ) (allows : Bool) (before after : Found) : Type 0 where
   pub about_is : after.about ≡ about
-  pub undecided : (bit : ℕ) → bit < 32 → has_bit after.undecided bit ≡ has_bit before.undecided bit && not (about && has_bit rights bit)
+  pub undecided : (bit : ℕ) → bit < 32 → has_bit after.undecided bit ≡ has_bit before.undecided bit
+      && not (about && has_bit rights bit)
   pub allowed : (bit : ℕ) → bit < 32 → has_bit after.allowed bit
       ≡ has_bit before.allowed bit || ((has_bit before.undecided bit && (about && has_bit rights bit)) && allows)
 
@@ -46,7 +48,8 @@ undecided want = record { about = false; undecided = want; allowed = 0 }
 
 -- What is allowed at each node, and what the principal has as the owner, are together what is granted to the
 -- principal on the node's path.
-pub record IsSwept (sd : Sd) (holder : Holder) (self : Option SidValue) (nodes : List Node) (want : ℕ) (found : List Found) (owned : ℕ) : Type 0 where
+pub record IsSwept (sd : Sd) (holder : Holder) (self : Option SidValue) (nodes : List Node) (want : ℕ)
+    (found : List Found) (owned : ℕ) : Type 0 where
   pub len : length found ≡ length nodes
   pub each : (place bit : ℕ) → place < length nodes → bit < 32
       → has_bit (bit_or (found_at found place).allowed owned) bit

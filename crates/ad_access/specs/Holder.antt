@@ -29,7 +29,8 @@ holds holder sid = contains_sid holder.held sid
 abbrev pub denies_by : Holder → SidValue → Bool
 denies_by holder sid = contains_sid holder.denied_by sid
 
--- The principal answers to the identifier: an allow entry asks whether it holds it, any other whether it denies by it.
+-- The principal answers to the identifier: an allow entry asks whether it holds it, any other whether it denies by
+-- it.
 abbrev pub answers_to : AceKind → Holder → SidValue → Bool
 answers_to Allow holder sid = holds holder sid
 answers_to Deny holder sid = denies_by holder sid

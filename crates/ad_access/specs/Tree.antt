@@ -14,7 +14,8 @@ use Rattle.ad_access.specs.Grant.{granted}
 unfoldable pub granted_down : ℕ → List Node → (List Guid → Bool) → ℕ → Bool
 granted_down zero nodes grants place = false
 granted_down (suc levels) nodes grants place =
-    if is_leaf nodes place then grants (path_at nodes place) else list_all (granted_down levels nodes grants) (children nodes place)
+    if is_leaf nodes place then grants (path_at nodes place) else list_all (granted_down levels nodes grants)
+    (children nodes place)
 
 -- A tree has no more levels than nodes.
 abbrev pub granted_at_node : List Node → (List Guid → Bool) → ℕ → Bool
@@ -22,4 +23,5 @@ granted_at_node nodes grants place = granted_down (length nodes) nodes grants pl
 
 -- the right is granted to the token at the node at a place
 abbrev pub node_granted : Sd → Token → Option SidValue → List Node → ℕ → ℕ → Bool
-node_granted sd token self nodes place bit = granted_at_node nodes (λ (path : List Guid). granted sd.owner sd.dacl.entries token self path bit) place
+node_granted sd token self nodes place bit
+    = granted_at_node nodes (λ (path : List Guid). granted sd.owner sd.dacl.entries token self path bit) place

@@ -14,7 +14,8 @@ fn open_inner(nodes: &[Node], want: u32, rights: &mut [u32])
     requires each { length rights.old ≡ length nodes.now }
     ensures len { length rights.new ≡ length nodes.now }
     ensures opened { (place : ℕ) → place < length nodes.now
-        → slice_index_or rights.new place 0 ≡ (if is_leaf nodes.now place then slice_index_or rights.old place 0 else want) }
+        → slice_index_or rights.new place 0
+        ≡ (if is_leaf nodes.now place then slice_index_or rights.old place 0 else want) }
 {
     for node in nodes {
         let Some(above) = node.above else {
@@ -24,14 +25,16 @@ fn open_inner(nodes: &[Node], want: u32, rights: &mut [u32])
     }
 }
 
-// Takes from each node what one of its children doesn't have, from the last node up, so that a node is judged after all
-// that stand below it.
+// Takes from each node what one of its children doesn't have, from the last node up, so that a node is judged after
+// all that stand below it.
 fn close_upwards(nodes: &[Node], rights: &mut [u32])
     requires tree { is_tree nodes.now ≡ true }
     requires each { length rights.old ≡ length nodes.now }
     ensures len { length rights.new ≡ length nodes.now }
     ensures closed { (place bit : ℕ) → place < length nodes.now
-        → right_at rights.new bit place ≡ (right_at rights.old bit place && list_all (right_at rights.new bit) (children nodes.now place)) }
+        → right_at rights.new bit place
+        ≡ (right_at rights.old bit place && list_all (right_at rights.new bit)
+        (children nodes.now place)) }
 {
     let mut i = nodes.len();
     while i > 0 {

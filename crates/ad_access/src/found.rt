@@ -79,7 +79,8 @@ pub fn take(
     requires each { length found.old ≡ length nodes.now }
     ensures len { length found.new ≡ length nodes.now }
     ensures decided { (place : ℕ) → place < length nodes.now
-        → Decides (is_about object (path_at nodes.now place)) rights allows (found_at found.old place) (found_at found.new place) }
+        → Decides (is_about object (path_at nodes.now place)) rights allows
+        (found_at found.old place) (found_at found.new place) }
     ensures still { AreOpen (length nodes.now) found.new result }
 {
     let mut open = 0;

@@ -24,7 +24,8 @@ fn granted_to_holders(
 ) -> u32
     ensures { (bit : ℕ) → bit < 32 → has_bit result bit
         ≡ (has_bit want bit
-        && granted_to_holders (seen view.now).owner (seen view.now).dacl.entries token.now (option_copied self_sid.entry) path.now bit) }
+        && granted_to_holders (seen view.now).owner (seen view.now).dacl.entries token.now
+        (option_copied self_sid.entry) path.now bit) }
 {
     let first = granted_to(view, token, Rank::First, self_sid, path, want);
     if token.restricting.is_empty() {
@@ -43,14 +44,17 @@ pub fn granted_on(
 ) -> u32
     ensures { (bit : ℕ) → bit < 32 → has_bit result bit
         ≡ (mapped_has want bit
-        && granted (seen view.now).owner (seen view.now).dacl.entries token.now (option_copied self_sid.entry) path.now bit) }
+        && granted (seen view.now).owner (seen view.now).dacl.entries token.now
+        (option_copied self_sid.entry) path.now bit) }
 {
     let asked = split_wanted(token.privileges, want);
     asked.by_privilege | granted_to_holders(view, token, self_sid, path, asked.others)
 }
 
-/// The rights of the wanted mask, after generic mapping, that the descriptor grants to the token on the path ([MS-DTYP]
-/// 2.5.3.2, [MS-ADTS] 5.1.3.3). `self_sid` is the identifier that the object has of its own, if it has one: entries for
+/// The rights of the wanted mask, after generic mapping, that the descriptor grants to the token on the path
+/// ([MS-DTYP]
+/// 2.5.3.2, [MS-ADTS] 5.1.3.3). `self_sid` is the identifier that the object has of its own, if it has one: entries
+///   for
 /// S-1-5-10 are for whoever that is.
 ///
 /// It takes no memory. Each entry is looked at at most once for each principal of the token.
@@ -63,7 +67,8 @@ pub fn granted(
 ) -> u32
     ensures { (bit : ℕ) → bit < 32 → has_bit result bit
         ≡ (mapped_has want bit
-        && granted (seen view.entry).owner (seen view.entry).dacl.entries token.now (option_copied self_sid.entry) (guids_of path.now) bit) }
+        && granted (seen view.entry).owner (seen view.entry).dacl.entries token.now
+        (option_copied self_sid.entry) (guids_of path.now) bit) }
 {
     granted_on(&view, token, self_sid, path.guids(), want)
 }

@@ -24,7 +24,8 @@ pub fn is_inherit_only(ace: &AceIn<'_>) -> bool
 /// Whether the entry allows or denies something of the object itself.
 #[inline]
 pub fn is_spoken(ace: &AceIn<'_>) -> bool
-    ensures { result ≡ (decides_access (entry_seen ace.now).kind && not (is_inherit_only (entry_seen ace.now))) }
+    ensures { result ≡ (decides_access (entry_seen ace.now).kind
+        && not (is_inherit_only (entry_seen ace.now))) }
 {
     ace.kind() != AceKind::Audit && !is_inherit_only(ace)
 }
@@ -69,7 +70,8 @@ fn is_for(ace: &AceIn<'_>, authority: u64, sub_authority: u32) -> bool
 #[inline]
 fn may_be_for_known(ace: &AceIn<'_>) -> bool
     ensures { (authority sub_authority : ℕ) → same_sid (entry_seen ace.now).sid
-        (record { authority = authority; sub_authorities = sub_authority ∷ [] }) ≡ true → result ≡ true }
+        (record { authority = authority; sub_authorities = sub_authority ∷ [] }) ≡ true → result
+        ≡ true }
 {
     Sid::may_be_well_known(ace.from_sid())
 }
@@ -77,14 +79,16 @@ fn may_be_for_known(ace: &AceIn<'_>) -> bool
 // Whether the principal answers to the identifier that the entry is for.
 #[inline]
 fn answers_to_entry(ace: &AceIn<'_>, token: &Token, rank: Rank) -> bool
-    ensures { result ≡ answers_to (entry_seen ace.now).kind (holder_of token.now rank) (entry_seen ace.now).sid }
+    ensures { result ≡ answers_to (entry_seen ace.now).kind (holder_of token.now rank)
+        (entry_seen ace.now).sid }
 {
     answers_to_begun(ace.kind(), token, rank, ace.from_sid())
 }
 
 // Whether the object has an identifier and the principal answers to it.
 fn answers_to_self(kind: AceKind, token: &Token, rank: Rank, self_sid: Option<&Sid>) -> bool
-    ensures { result ≡ answers_to_self kind (holder_of token.now rank) (option_copied self_sid.entry) }
+    ensures { result ≡ answers_to_self kind (holder_of token.now rank)
+        (option_copied self_sid.entry) }
 {
     match self_sid {
         Some(sid) => answers_to(kind, token, rank, sid),
@@ -103,7 +107,8 @@ pub fn matches(
     token: &Token,
     rank: Rank,
 ) -> bool
-    ensures { result ≡ matches (entry_seen ace.now) (holder_of token.now rank) (option_copied self_sid.entry) owner.now }
+    ensures { result ≡ matches (entry_seen ace.now) (holder_of token.now rank)
+        (option_copied self_sid.entry) owner.now }
 {
     // Most entries are for longer identifiers.
     if !may_be_for_known(ace) {

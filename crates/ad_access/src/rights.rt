@@ -42,7 +42,8 @@ pub struct Asked {
 
 /// Parts the wanted rights: to the SACL only the privilege counts, and to write the owner it is enough.
 pub fn split_wanted(privileges: u8, want: u32) -> Asked
-    ensures { (bit : ℕ) (holders : Bool) → bit < 32 → (has_bit result.by_privilege bit || (has_bit result.others bit && holders))
+    ensures { (bit : ℕ) (holders : Bool) → bit < 32
+        → (has_bit result.by_privilege bit || (has_bit result.others bit && holders))
         ≡ (mapped_has want bit
         && (if bit == access_system_security then has_bit privileges 0
         else (if (bit == write_owner) && has_bit privileges 1 then true else holders))) }

@@ -22,7 +22,8 @@ fn spoken(ace: &AceIn<'_>, undecided: u32) -> u32
     ensures { (bit : ℕ) → bit < 32 → has_bit result bit
         ≡ (has_bit undecided bit
         && (mapped_has (entry_seen ace.now).mask bit
-        && (decides_access (entry_seen ace.now).kind && not (is_inherit_only (entry_seen ace.now))))) }
+        && (decides_access (entry_seen ace.now).kind
+        && not (is_inherit_only (entry_seen ace.now))))) }
 {
     let rights = undecided & map_generic(ace.mask());
     if rights == 0 {
@@ -43,8 +44,10 @@ pub fn decided_for(
 ) -> u32
     ensures { (bit : ℕ) → bit < 32 → has_bit result bit
         ≡ (has_bit undecided bit
-        && (((decides_access (entry_seen ace.now).kind && not (is_inherit_only (entry_seen ace.now)))
-        && matches (entry_seen ace.now) (holder_of token.now rank) (option_copied self_sid.entry) owner.now)
+        && (((decides_access (entry_seen ace.now).kind
+        && not (is_inherit_only (entry_seen ace.now)))
+        && matches (entry_seen ace.now) (holder_of token.now rank) (option_copied self_sid.entry)
+        owner.now)
         && mapped_has (entry_seen ace.now).mask bit)) }
 {
     let rights = spoken(ace, undecided);
@@ -67,7 +70,8 @@ fn decided_by(
 ) -> u32
     ensures { (bit : ℕ) → bit < 32 → has_bit result bit
         ≡ (has_bit undecided bit
-        && decides (entry_seen ace.now) (holder_of token.now rank) (option_copied self_sid.entry) owner.now path.now bit) }
+        && decides (entry_seen ace.now) (holder_of token.now rank) (option_copied self_sid.entry)
+        owner.now path.now bit) }
 {
     let rights = spoken(ace, undecided);
     if rights == 0 {
@@ -83,7 +87,8 @@ fn decided_by(
 // The rights, where the entry allows, else none.
 #[inline]
 fn allowed_by(ace: &AceIn<'_>, rights: u32) -> u32
-    ensures { (bit : ℕ) → has_bit result bit ≡ (has_bit rights bit && is_allow (entry_seen ace.now).kind) }
+    ensures { (bit : ℕ) → has_bit result bit
+        ≡ (has_bit rights bit && is_allow (entry_seen ace.now).kind) }
 {
     rights_if(allows(ace), rights)
 }
@@ -91,7 +96,8 @@ fn allowed_by(ace: &AceIn<'_>, rights: u32) -> u32
 /// The rights, unless the entry sets the owner's rights.
 #[inline]
 pub fn left_by(ace: &AceIn<'_>, rights: u32) -> u32
-    ensures { (bit : ℕ) → has_bit result bit ≡ (has_bit rights bit && not (sets_owner_rights (entry_seen ace.now))) }
+    ensures { (bit : ℕ) → has_bit result bit
+        ≡ (has_bit rights bit && not (sets_owner_rights (entry_seen ace.now))) }
 {
     if rights == 0 {
         return 0;
@@ -110,7 +116,8 @@ pub fn granted_to(
 ) -> u32
     ensures { (bit : ℕ) → bit < 32 → has_bit result bit
         ≡ (has_bit want bit
-        && granted_to (seen view.now).owner (seen view.now).dacl.entries (holder_of token.now rank) (option_copied self_sid.entry) path.now bit) }
+        && granted_to (seen view.now).owner (seen view.now).dacl.entries (holder_of token.now rank)
+        (option_copied self_sid.entry) path.now bit) }
 {
     let owner = view.owner();
     let mut undecided = want;

@@ -36,7 +36,8 @@ fn sweep(
 ) -> u32
     requires tree { is_tree nodes.now ≡ true }
     requires none { found.old ≡ replicate (length nodes.now) (undecided want) }
-    ensures { IsSwept (seen view.now) (holder_of token.now rank) (option_copied self_sid.entry) nodes.now want found.new result }
+    ensures { IsSwept (seen view.now) (holder_of token.now rank) (option_copied self_sid.entry)
+        nodes.now want found.new result }
 {
     let owner = view.owner();
     let mut owned = rights_as_owner(&owner, token, rank, want);
@@ -83,7 +84,8 @@ fn granted_at(
 fn keep_both(first: &mut [u32], second: &[u32])
     requires { length first.old ≡ length second.now }
     ensures len { length first.new ≡ length first.old }
-    ensures both { (place bit : ℕ) → place < length first.old → right_at first.new bit place ≡ (right_at first.old bit place && right_at second.now bit place) }
+    ensures both { (place bit : ℕ) → place < length first.old → right_at first.new bit place
+        ≡ (right_at first.old bit place && right_at second.now bit place) }
 {
     for i in 0..second.len() {
         first[i] &= second[i];
@@ -93,7 +95,8 @@ fn keep_both(first: &mut [u32], second: &[u32])
 // These rights beside those at each node.
 fn add(rights: &mut [u32], more: u32)
     ensures len { length rights.new ≡ length rights.old }
-    ensures added { (place bit : ℕ) → place < length rights.old → right_at rights.new bit place ≡ (has_bit more bit || right_at rights.old bit place) }
+    ensures added { (place bit : ℕ) → place < length rights.old → right_at rights.new bit place
+        ≡ (has_bit more bit || right_at rights.old bit place) }
 {
     for i in 0..rights.len() {
         rights[i] |= more;
@@ -114,7 +117,8 @@ fn granted_to_holders_at(
     ensures granted { IfOk result (λ rights. (place bit : ℕ) → place < length nodes.now → bit < 32
         → right_at rights.items bit place
         ≡ (has_bit want bit
-        && granted_to_holders (seen view.now).owner (seen view.now).dacl.entries token.now (option_copied self_sid.entry) (path_at nodes.now place) bit)) }
+        && granted_to_holders (seen view.now).owner (seen view.now).dacl.entries token.now
+        (option_copied self_sid.entry) (path_at nodes.now place) bit)) }
 {
     let mut first = granted_at(alloc, view, token, Rank::First, self_sid, nodes, want)?;
     if token.restricting.is_empty() {
@@ -139,7 +143,8 @@ fn granted_on_paths(
     ensures granted { IfOk result (λ rights. (place bit : ℕ) → place < length nodes.now → bit < 32
         → right_at rights.items bit place
         ≡ (mapped_has want bit
-        && granted (seen view.now).owner (seen view.now).dacl.entries token.now (option_copied self_sid.entry) (path_at nodes.now place) bit)) }
+        && granted (seen view.now).owner (seen view.now).dacl.entries token.now
+        (option_copied self_sid.entry) (path_at nodes.now place) bit)) }
 {
     let asked = split_wanted(token.privileges, want);
     let mut rights = granted_to_holders_at(alloc, view, token, self_sid, nodes, asked.others)?;
@@ -170,7 +175,8 @@ pub fn check_tree(
     // It is the wanted rights that are granted there.
     ensures granted { IfOk result (λ rights. (place bit : ℕ) → place < length tree.now → bit < 32
         → right_at rights.items bit place
-        ≡ (mapped_has want bit && node_granted (seen view.entry) token.now (option_copied self_sid.entry) tree.now place bit)) }
+        ≡ (mapped_has want bit && node_granted (seen view.entry) token.now
+        (option_copied self_sid.entry) tree.now place bit)) }
 {
     let nodes = tree.nodes();
     let mut rights = granted_on_paths(alloc, &view, token, self_sid, nodes, want)?;

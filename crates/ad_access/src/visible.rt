@@ -26,15 +26,17 @@ fn lists_object(view: &SdView<'_>, self_sid: Option<&Sid>, token: &Token) -> boo
 
 // Whether to list the children and whether to list the object is granted, asked for together.
 fn listing(view: &SdView<'_>, self_sid: Option<&Sid>, token: &Token) -> u32
-    ensures children { not (nat_eq (bit_and result 4) 0) ≡ grants_on_object (seen view.now) token.now (option_copied self_sid.entry) 2 }
-    ensures object { not (nat_eq (bit_and result 128) 0) ≡ grants_on_object (seen view.now) token.now (option_copied self_sid.entry) 7 }
+    ensures children { not (nat_eq (bit_and result 4) 0) ≡ grants_on_object (seen view.now)
+        token.now (option_copied self_sid.entry) 2 }
+    ensures object { not (nat_eq (bit_and result 128) 0) ≡ grants_on_object (seen view.now)
+        token.now (option_copied self_sid.entry) 7 }
 {
     granted_on(view, token, self_sid, &[], LIST_CHILDREN | LIST_OBJECT)
 }
 
-/// Whether the token sees an object below the root ([MS-ADTS] 5.1.3.3.6): where it may list the children of the parent,
-/// or, in list-object mode, where it may list the parent and the object themselves. Each of the two is judged with the
-/// identifier that it has of its own, if it has one.
+/// Whether the token sees an object below the root ([MS-ADTS] 5.1.3.3.6): where it may list the children of the
+/// parent, or, in list-object mode, where it may list the parent and the object themselves. Each of the two is judged
+/// with the identifier that it has of its own, if it has one.
 ///
 /// It takes no memory.
 pub fn sees(
@@ -46,7 +48,8 @@ pub fn sees(
     token: &Token,
 ) -> bool
     ensures { result
-        ≡ sees list_mode (seen parent.entry) (option_copied parent_self.entry) (seen own.entry) (option_copied own_self.entry) token.now }
+        ≡ sees list_mode (seen parent.entry) (option_copied parent_self.entry) (seen own.entry)
+        (option_copied own_self.entry) token.now }
 {
     if !list_mode {
         return lists_children(&parent, parent_self, token);

@@ -1,5 +1,6 @@
 -- The attributes that objects of a class may have, one after the other.
-use Rattle.std.proofs.Common.{◌≡◌, ℕ, zero, suc, ◌+◌, ◌<◌, ◌≤◌, Bool, true, false, List, [], ◌∷◌, ◌++◌, Option, Some, length, refl, sym, ap, subst, ◌∙◌, if◌then◌else◌, arith, get_or, add-one, inl, inr}
+use Rattle.std.proofs.Common.{◌≡◌, ℕ, zero, suc, ◌+◌, ◌<◌, ◌≤◌, Bool, true, false, List, [], ◌∷◌, ◌++◌, Option, Some}
+use Rattle.std.proofs.Common.{length, refl, sym, ap, subst, ◌∙◌, if◌then◌else◌, arith, get_or, add-one, inl, inr}
 use Rattle.std.specs.Prelude.{All, slice_get}
 use Rattle.std.proofs.lemmas.List.{length-append, get_or_append_left}
 use Rattle.std.proofs.Math.Seq.{get_or-append_seam}
@@ -14,26 +15,35 @@ use Rattle.ad_access_dir.specs.Allowed.{allowed_below, allowed_attrs}
 
 -- ---- they are of the schema
 
-allowed_one : (n : ℕ) (wanted : Bool) → All (λ (id : AttrId). id.0 < suc n) (if wanted then record { 0 = n } ∷ [] else [])
-allowed_one n true = All-cons (λ (id : AttrId). id.0 < suc n) (record { 0 = n }) [] (omega arith) (All-nil (λ (id : AttrId). id.0 < suc n))
+allowed_one : (n : ℕ) (wanted : Bool) → All (λ (id : AttrId). id.0 < suc n)
+    (if wanted then record { 0 = n } ∷ [] else [])
+allowed_one n true = All-cons (λ (id : AttrId). id.0 < suc n) (record { 0 = n }) [] (omega arith)
+    (All-nil (λ (id : AttrId). id.0 < suc n))
 allowed_one n false = All-nil (λ (id : AttrId). id.0 < suc n)
 
-below_within : (schema : List SchemaRecord) (class n : ℕ) → All (λ (id : AttrId). id.0 < n) (allowed_below schema class n)
+below_within : (schema : List SchemaRecord) (class n : ℕ) → All (λ (id : AttrId). id.0 < n)
+    (allowed_below schema class n)
 unfolding allowed_below
 below_within schema class zero = All-nil (λ (id : AttrId). id.0 < zero)
-below_within schema class (suc n) = All-append (λ (id : AttrId). id.0 < suc n) (allowed_below schema class n) (if is_allowed schema class n then record { 0 = n } ∷ [] else [])
-    (All-weaker (λ (id : AttrId). id.0 < n) (λ (id : AttrId). id.0 < suc n) (λ id lt. omega arith) (allowed_below schema class n) (below_within schema class n))
+below_within schema class (suc n) = All-append (λ (id : AttrId). id.0 < suc n) (allowed_below schema class n)
+    (if is_allowed schema class n then record { 0 = n } ∷ [] else [])
+    (All-weaker (λ (id : AttrId). id.0 < n) (λ (id : AttrId). id.0 < suc n) (λ id lt. omega arith)
+    (allowed_below schema class n) (below_within schema class n))
     (allowed_one n (is_allowed schema class n))
 
-pub allowed_within : (schema : List SchemaRecord) (class : ℕ) → All (λ (id : AttrId). id.0 < length (attrs_of schema)) (allowed_attrs schema class)
+pub allowed_within : (schema : List SchemaRecord) (class : ℕ) → All (λ (id : AttrId). id.0 < length (attrs_of schema))
+    (allowed_attrs schema class)
 allowed_within schema class = below_within schema class (length (attrs_of schema))
 
-pub allowed_all : (schema : List SchemaRecord) (class : ℕ) (ids : List AttrId) → ids ≡ allowed_attrs schema class → All (λ (id : AttrId). id.0 < length (attrs_of schema)) ids
-allowed_all schema class ids is = subst (All (λ (id : AttrId). id.0 < length (attrs_of schema))) (sym is) (allowed_within schema class)
+pub allowed_all : (schema : List SchemaRecord) (class : ℕ) (ids : List AttrId) → ids ≡ allowed_attrs schema class
+    → All (λ (id : AttrId). id.0 < length (attrs_of schema)) ids
+allowed_all schema class ids is = subst (All (λ (id : AttrId). id.0 < length (attrs_of schema))) (sym is)
+    (allowed_within schema class)
 
 -- ---- one more
 
-pub allowed_more : (schema : List SchemaRecord) (class n : ℕ) (before after : List AttrId) (wanted : Bool) → before ≡ allowed_below schema class n → wanted ≡ is_allowed schema class n
+pub allowed_more : (schema : List SchemaRecord) (class n : ℕ) (before after : List AttrId) (wanted : Bool) → before
+    ≡ allowed_below schema class n → wanted ≡ is_allowed schema class n
     → after ≡ before ++ (if wanted then record { 0 = n } ∷ [] else []) → after ≡ allowed_below schema class (n + 1)
 unfolding allowed_below
 allowed_more schema class n before after wanted is_before is_wanted is =
@@ -52,13 +62,15 @@ in_front xs ys i x is =
 
 at_the_end : (xs : List AttrId) (x : AttrId) → slice_get (xs ++ x ∷ []) (length xs) ≡ Some x
 at_the_end xs x =
-    slice_get_read (xs ++ x ∷ []) (length (xs ++ x ∷ [])) (length xs) x refl (omega (arith, length-append xs (x ∷ []))) (sym (get_or-append_seam xs x [] x))
+    slice_get_read (xs ++ x ∷ []) (length (xs ++ x ∷ [])) (length xs) x refl
+    (omega (arith, length-append xs (x ∷ []))) (sym (get_or-append_seam xs x [] x))
 
 allowed_last : (schema : List SchemaRecord) (class n : ℕ) → is_allowed schema class n ≡ true
     → slice_get (allowed_below schema class (suc n)) (length (allowed_below schema class n)) ≡ Some (record { 0 = n })
 unfolding allowed_below
 allowed_last schema class n is =
-    ap (λ (w : Bool). slice_get (allowed_below schema class n ++ (if w then record { 0 = n } ∷ [] else [])) (length (allowed_below schema class n))) is
+    ap (λ (w : Bool). slice_get (allowed_below schema class n ++ (if w then record { 0 = n } ∷ [] else []))
+    (length (allowed_below schema class n))) is
     ∙ at_the_end (allowed_below schema class n) (record { 0 = n })
 
 -- an attribute that objects may have stands after those before it
@@ -68,8 +80,10 @@ unfolding allowed_below
 allowed_at schema class n zero lt is = absurd (omega (arith, lt))
 allowed_at schema class n (suc whole) lt is = elim (eq-or-lt_of_le {n = n} {m = whole} (omega (arith, lt))) [
   | inl last ↦
-      subst (λ (m : ℕ). slice_get (allowed_below schema class (suc m)) (length (allowed_below schema class n)) ≡ Some (record { 0 = n })) last (allowed_last schema class n is)
+      subst (λ (m : ℕ). slice_get (allowed_below schema class (suc m)) (length (allowed_below schema class n))
+      ≡ Some (record { 0 = n })) last (allowed_last schema class n is)
   | inr before ↦
-      in_front (allowed_below schema class whole) (if is_allowed schema class whole then record { 0 = whole } ∷ [] else [])
+      in_front (allowed_below schema class whole) (if is_allowed schema class whole then record { 0 = whole } ∷ []
+      else [])
       (length (allowed_below schema class n)) (record { 0 = n }) (allowed_at schema class n whole before is)
 ]

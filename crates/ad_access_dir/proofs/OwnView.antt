@@ -6,7 +6,8 @@ use Rattle.ad_sd.specs.declared.parts.Sd.{Sd}
 use Rattle.ad_dir_model.specs.Object.{Object, no_object}
 use Rattle.ad_dir_model.specs.Objects.{object_of, object_at, sd_at}
 
-pub view_shown : (os : List Object) (n : ℕ) (sd : Sd) → Some sd ≡ option_map (λ (o : Object). o.sd) (object_of os n) → sd ≡ sd_at os n
+pub view_shown : (os : List Object) (n : ℕ) (sd : Sd) → Some sd ≡ option_map (λ (o : Object). o.sd) (object_of os n)
+    → sd ≡ sd_at os n
 unfolding object_at
 view_shown os n sd e = by_found (object_of os n) e
   where

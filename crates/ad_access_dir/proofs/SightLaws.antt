@@ -15,7 +15,8 @@ pub root_visible : (dir : Directory) (token : Token) (number : ℕ) → number �
 unfolding is_visible
 root_visible dir token number is = rw is refl
 
-pub visible_by : (dir : Directory) (token : Token) (number parent : ℕ) (mode : Bool) (above own : Sd) (r : Bool) → (number ≡ 1 → ⊥) → parent ≡ parent_at dir.objects number
+pub visible_by : (dir : Directory) (token : Token) (number parent : ℕ) (mode : Bool) (above own : Sd) (r : Bool)
+    → (number ≡ 1 → ⊥) → parent ≡ parent_at dir.objects number
     → mode ≡ list_object_mode dir → above ≡ sd_at dir.objects parent → own ≡ sd_at dir.objects number
     → r ≡ sees mode above (self_sid dir parent) own (self_sid dir number) token → r ≡ is_visible dir token number
 unfolding is_visible
@@ -23,6 +24,10 @@ visible_by dir token number parent mode above own r below is_parent is_mode is_a
     is
     ∙ ap (λ (m : Bool). sees m above (self_sid dir parent) own (self_sid dir number) token) is_mode
     ∙ ap (λ (s : Sd). sees (list_object_mode dir) s (self_sid dir parent) own (self_sid dir number) token) is_above
-    ∙ ap (λ (s : Sd). sees (list_object_mode dir) (sd_at dir.objects parent) (self_sid dir parent) s (self_sid dir number) token) is_own
-    ∙ ap (λ (p : ℕ). sees (list_object_mode dir) (sd_at dir.objects p) (self_sid dir p) (sd_at dir.objects number) (self_sid dir number) token) is_parent
-    ∙ sym (ap (λ (b : Bool). b || sees (list_object_mode dir) (sd_at dir.objects (parent_at dir.objects number)) (self_sid dir (parent_at dir.objects number)) (sd_at dir.objects number) (self_sid dir number) token) (ne_eqb number root below))
+    ∙ ap (λ (s : Sd). sees (list_object_mode dir) (sd_at dir.objects parent) (self_sid dir parent) s
+    (self_sid dir number) token) is_own
+    ∙ ap (λ (p : ℕ). sees (list_object_mode dir) (sd_at dir.objects p) (self_sid dir p) (sd_at dir.objects number)
+    (self_sid dir number) token) is_parent
+    ∙ sym (ap (λ (b : Bool). b || sees (list_object_mode dir) (sd_at dir.objects (parent_at dir.objects number))
+    (self_sid dir (parent_at dir.objects number)) (sd_at dir.objects number) (self_sid dir number) token)
+    (ne_eqb number root below))

@@ -24,7 +24,8 @@ unfoldable pub is_visible : Directory → Token → ℕ → Bool
 is_visible dir token number =
     let parent = parent_at dir.objects number in
     number == root
-    || sees (list_object_mode dir) (sd_at dir.objects parent) (self_sid dir parent) (sd_at dir.objects number) (self_sid dir number) token
+    || sees (list_object_mode dir) (sd_at dir.objects parent) (self_sid dir parent) (sd_at dir.objects number)
+    (self_sid dir number) token
 
 abbrev pub if_visible : Directory → Token → ℕ → Option ℕ
 if_visible dir token number = if is_visible dir token number then Some number else None

@@ -42,7 +42,8 @@ pub fn class_count(dir: &Dir) -> u32
 }
 
 fn push_if(attrs: &mut Vec<AttrId>, wanted: bool, attr: AttrId) -> Result<(), AllocError>
-    ensures { OnOk result (attrs.new.items ≡ attrs.old.items ++ (if wanted then attr ∷ [] else [])) }
+    ensures { OnOk result (attrs.new.items ≡ attrs.old.items
+        ++ (if wanted then attr ∷ [] else [])) }
 {
     if wanted {
         attrs.push(attr)?;

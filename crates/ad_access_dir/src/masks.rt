@@ -48,9 +48,12 @@ pub fn tree_masks(
     requires live { is_live dir.now.objects number ≡ true }
     requires class { class.0 < length (classes_of dir.now.schema) }
     requires attrs { All (λ attr. attr.0 < length (attrs_of dir.now.schema)) attrs.now }
-    ensures nodes { IfOk result (λ masks. length masks.items ≡ length (tree_of dir.now.schema class attrs.now)) }
-    ensures granted { IfOk result (λ masks. (place : ℕ) → place < length (tree_of dir.now.schema class attrs.now)
-        → IsMask want (node_granted (sd_at dir.now.objects number) token.now (self_sid dir.now number) (tree_of dir.now.schema class attrs.now) place)
+    ensures nodes { IfOk result (λ masks. length masks.items
+        ≡ length (tree_of dir.now.schema class attrs.now)) }
+    ensures granted { IfOk result (λ masks. (place : ℕ) → place
+        < length (tree_of dir.now.schema class attrs.now)
+        → IsMask want (node_granted (sd_at dir.now.objects number) token.now
+        (self_sid dir.now number) (tree_of dir.now.schema class attrs.now) place)
         (slice_index masks.items place)) }
 {
     let tree = TypeTree::build(alloc, dir.schema(), class, attrs)?;

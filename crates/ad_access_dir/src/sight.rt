@@ -28,7 +28,8 @@ pub(crate) fn view_of(dir: &Dir, number: u32) -> SdView<'_>
 #[tactic(auto, unfolding(crate::specs::Sight::is_granted))]
 pub fn granted(dir: &Dir, token: &Token, number: u32, path: &Path, want: u32) -> u32
     requires { is_live dir.now.objects number ≡ true }
-    ensures { (bit : ℕ) → bit < 32 → has_bit result bit ≡ (mapped_has want bit && is_granted dir.now token.now number (guids_of path.now) bit) }
+    ensures { (bit : ℕ) → bit < 32 → has_bit result bit
+        ≡ (mapped_has want bit && is_granted dir.now token.now number (guids_of path.now) bit) }
 {
     ad_access::granted(
         view_of(dir, number),
@@ -43,7 +44,8 @@ pub fn granted(dir: &Dir, token: &Token, number: u32, path: &Path, want: u32) ->
 /// takes no memory.
 pub fn grants(dir: &Dir, token: &Token, number: u32, path: &Path, right: u32) -> bool
     requires { is_live dir.now.objects number ≡ true }
-    ensures { (bit : ℕ) → right ≡ 2 ^ bit → bit < 28 → result ≡ is_granted dir.now token.now number (guids_of path.now) bit }
+    ensures { (bit : ℕ) → right ≡ 2 ^ bit → bit < 28 → result ≡ is_granted dir.now token.now number
+        (guids_of path.now) bit }
 {
     granted(dir, token, number, path, right) & right != 0
 }

@@ -1,5 +1,6 @@
 -- The flags of an entry without the bit 0x20.
-use Rattle.std.proofs.Common.{◌≡◌, ℕ, zero, suc, ◌+◌, ◌<◌, ◌⊎◌, Bool, true, false, cond, eqb, refl, ap, subst, ◌∙◌, arith, inl, inr}
+use Rattle.std.proofs.Common.{◌≡◌, ℕ, zero, suc, ◌+◌, ◌<◌, ◌⊎◌, Bool, true, false, cond, eqb, refl, ap, subst, ◌∙◌}
+use Rattle.std.proofs.Common.{arith, inl, inr}
 use Rattle.std.specs.Prelude.{◌&&◌, ◌||◌, bit_and}
 use Rattle.std.proofs.lemmas.Bool.{eqb-true, cases_lt}
 use Rattle.ad_acl.specs.Entry.{SpellsFlags}
@@ -26,12 +27,14 @@ one_below test (suc n) i all lt =
 
 -- what is kept of a byte has the bit clear, and is the byte or 32 less
 abbrev is_kept : ℕ → Bool
-is_kept byte = eqb (bit_and (bit_and byte 223) 32) 0 && (eqb byte (bit_and byte 223) || eqb byte (bit_and byte 223 + 32))
+is_kept byte = eqb (bit_and (bit_and byte 223) 32) 0
+    && (eqb byte (bit_and byte 223) || eqb byte (bit_and byte 223 + 32))
 
 each_kept : all_below is_kept 256 ≡ true
 each_kept = refl
 
-kept_parts : (byte : ℕ) → byte < 256 → (eqb (bit_and (bit_and byte 223) 32) 0 ≡ true) × ((eqb byte (bit_and byte 223) || eqb byte (bit_and byte 223 + 32)) ≡ true)
+kept_parts : (byte : ℕ) → byte < 256 → (eqb (bit_and (bit_and byte 223) 32) 0 ≡ true)
+    × ((eqb byte (bit_and byte 223) || eqb byte (bit_and byte 223 + 32)) ≡ true)
 kept_parts byte lt = both_true _ _ (one_below is_kept 256 byte each_kept lt)
 
 pub kept-clear : (byte : ℕ) → byte < 256 → bit_and (kept byte) 32 ≡ 0
@@ -41,7 +44,8 @@ pub kept-spelled : (byte : ℕ) → byte < 256 → SpellsFlags (kept byte) byte
 kept-spelled byte lt = record {
   fits = lt;
   clear = kept-clear byte lt;
-  with_or_without = elim (or_true (eqb byte (kept byte)) (eqb byte (kept byte + 32)) (kept_parts byte lt).1) [ inl same ↦ inl (eqb-true _ _ same) | inr more ↦ inr (eqb-true _ _ more) ];
+  with_or_without = elim (or_true (eqb byte (kept byte)) (eqb byte (kept byte + 32)) (kept_parts byte lt).1)
+      [ inl same ↦ inl (eqb-true _ _ same) | inr more ↦ inr (eqb-true _ _ more) ];
 }
 
 -- what has the bit clear is kept as it is, and so it is with the bit set
@@ -53,8 +57,11 @@ each_stays = refl
 
 stays_parts : (flags : ℕ) → flags < 256 → bit_and flags 32 ≡ 0 → (kept flags ≡ flags) × (kept (flags + 32) ≡ flags)
 stays_parts flags lt clear =
-    let one : cond (eqb (bit_and flags 32) 0) (eqb (bit_and flags 223) flags && eqb (bit_and (flags + 32) 223) flags) true ≡ true = one_below stays 256 flags each_stays lt in
-    let same : eqb (bit_and flags 223) flags && eqb (bit_and (flags + 32) 223) flags ≡ true = subst (λ (n : ℕ). cond (eqb n 0) (eqb (bit_and flags 223) flags && eqb (bit_and (flags + 32) 223) flags) true ≡ true) clear one in
+    let one : cond (eqb (bit_and flags 32) 0) (eqb (bit_and flags 223) flags && eqb (bit_and (flags + 32) 223) flags)
+    true ≡ true = one_below stays 256 flags each_stays lt in
+    let same : eqb (bit_and flags 223) flags && eqb (bit_and (flags + 32) 223) flags ≡ true
+    = subst (λ (n : ℕ). cond (eqb n 0) (eqb (bit_and flags 223) flags && eqb (bit_and (flags + 32) 223) flags)
+    true ≡ true) clear one in
     let both = both_true _ _ same in
     (eqb-true _ _ both.0, eqb-true _ _ both.1)
 

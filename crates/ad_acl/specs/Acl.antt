@@ -19,4 +19,5 @@ pub record SpellsList (entries : List Entry) (text : List ℕ) : Type 0 where
   pub size_fits : length text < 2 ^ 16
   pub spelled : SpellsEach SpellsEntry entries body
   pub behind_fits : IsBytes behind
-  pub parts : text ≡ revision ∷ free ∷ le_bytes 2 (length text) ++ (le_bytes 2 (length entries) ++ (le_bytes 2 free_two ++ (body ++ behind)))
+  pub parts : text ≡ revision ∷ free ∷ le_bytes 2 (length text)
+      ++ (le_bytes 2 (length entries) ++ (le_bytes 2 free_two ++ (body ++ behind)))

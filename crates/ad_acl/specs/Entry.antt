@@ -1,5 +1,6 @@
 -- An access control entry, as contracts see it, and its bytes.
-use Rattle.std.specs.Prelude.{◌≡◌, ℕ, ◌+◌, ◌^◌, ◌<◌, ◌⊎◌, Bool, true, false, not, ◌==◌, bit_and, Option, None, Some, List, [], ◌∷◌, ◌++◌, length}
+use Rattle.std.specs.Prelude.{◌≡◌, ℕ, ◌+◌, ◌^◌, ◌<◌, ◌⊎◌, Bool, true, false, not, ◌==◌, bit_and, Option, None, Some}
+use Rattle.std.specs.Prelude.{List, [], ◌∷◌, ◌++◌, length}
 use Rattle.ad_bytes.specs.Reading.{IsBytes}
 use Rattle.ad_bytes.specs.Numbers.{le_bytes, SpellsLe}
 use Rattle.ad_ids.specs.declared.guid.Guid.{Guid}

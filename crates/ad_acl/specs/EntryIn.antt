@@ -9,7 +9,15 @@ use Rattle.ad_acl.specs.Reading.{entry_at}
 -- what was read, or a blank
 abbrev pub given : Reading Entry AclFault → Entry
 given (Ok x) = x.0
-given (Err e) = record { kind = Allow; flags = 0; mask = 0; object = None; inherited = None; sid = record { authority = 0; sub_authorities = [] } }
+given (Err e) = record {
+  kind = Allow;
+  flags = 0;
+  mask = 0;
+  object = None;
+  inherited = None;
+  sid
+      = record { authority = 0; sub_authorities = [] };
+}
 
 abbrev pub is_given : Reading Entry AclFault → Bool
 is_given (Ok x) = true

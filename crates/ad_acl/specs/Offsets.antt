@@ -47,7 +47,8 @@ offset_after_flags which =
 abbrev pub written_offset : List ℕ → Option ℕ
 written_offset bytes =
     if nat_le (slice_index bytes 0) 2 then Some 8
-    else (if nat_le 5 (slice_index bytes 0) && nat_le (slice_index bytes 0) 7 then offset_after_flags (little_number 4 (drop 8 bytes))
+    else (if nat_le 5 (slice_index bytes 0) && nat_le (slice_index bytes 0) 7
+    then offset_after_flags (little_number 4 (drop 8 bytes))
     else None)
 
 -- an identifier's header stands at the offset, and says that it takes so many bytes

@@ -1,5 +1,6 @@
 -- How an access control list is read, with the fault that stands first.
-use Rattle.std.specs.Prelude.{ℕ, ◌-◌, Bool, true, false, ◌==◌, ◌||◌, nat_le, bit_and, if◌then◌else◌, Option, None, Some, List, Result, Ok, Err}
+use Rattle.std.specs.Prelude.{ℕ, ◌-◌, Bool, true, false, ◌==◌, ◌||◌, nat_le, bit_and, if◌then◌else◌, Option, None}
+use Rattle.std.specs.Prelude.{Some, List, Result, Ok, Err}
 use Rattle.ad_bytes.specs.Reading.{Reading, ◌>>=◌, need, or_fault, fault_as, many_at}
 use Rattle.ad_bytes.specs.Numbers.{byte_at, le_at, part_at}
 use Rattle.ad_bytes.specs.declared.input.Short.{Short as Absent}
@@ -7,7 +8,8 @@ use Rattle.ad_ids.specs.declared.guid.Guid.{Guid}
 use Rattle.ad_ids.specs.Guid.{guid_at}
 use Rattle.ad_ids.specs.SidReading.{sid_at}
 use Rattle.ad_acl.specs.declared.fault.AclFault.{AclFault}
-use Rattle.ad_acl.specs.declared.fault.AclFault.TheVariants.{Short, Revision, Size, AceKind as KindFault, AceSize, Sid, Memory}
+use Rattle.ad_acl.specs.declared.fault.AclFault.TheVariants.{Short, Revision, Size, AceKind as KindFault, AceSize}
+use Rattle.ad_acl.specs.declared.fault.AclFault.TheVariants.{Sid, Memory}
 use Rattle.ad_acl.specs.declared.kind.AceKind.TheVariants.{Allow, Deny, Audit}
 use Rattle.ad_acl.specs.declared.entry.Header.{Header}
 use Rattle.ad_acl.specs.declared.entry.Shape.{Shape}

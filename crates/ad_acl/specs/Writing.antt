@@ -45,7 +45,8 @@ behind_header e = fixed_bytes e.mask e.object e.inherited ++ sid_bytes e.sid
 
 -- the type, the flags, the size and what stands after them
 unfoldable pub entry_bytes : Entry → List ℕ
-entry_bytes e = type_code (has_guid e.object e.inherited) e.kind ∷ e.flags ∷ le_bytes 2 (4 + length (behind_header e)) ++ behind_header e
+entry_bytes e = type_code (has_guid e.object e.inherited) e.kind ∷ e.flags ∷ le_bytes 2 (4 + length (behind_header e))
+    ++ behind_header e
 
 -- ---- the list
 

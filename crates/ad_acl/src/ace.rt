@@ -26,9 +26,25 @@ impl Model for Ace {
 
     ghost Value = { Entry };
 
-    ghost view = { λ a. record { kind = a.kind; flags = a.flags; mask = a.mask; object = a.object; inherited = a.inherited; sid = a.sid } };
+    ghost view = { λ a. record {
+      kind = a.kind;
+      flags = a.flags;
+      mask = a.mask;
+      object
+          = a.object;
+      inherited = a.inherited;
+      sid = a.sid;
+    } };
 
     ghost invariant = { λ a. bit_and a.flags 32 ≡ 0 };
 
-    ghost inverse = { λ e. record { kind = e.kind; flags = e.flags; mask = e.mask; object = e.object; inherited = e.inherited; sid = e.sid } };
+    ghost inverse = { λ e. record {
+      kind = e.kind;
+      flags = e.flags;
+      mask = e.mask;
+      object
+          = e.object;
+      inherited = e.inherited;
+      sid = e.sid;
+    } };
 }

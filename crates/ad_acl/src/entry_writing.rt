@@ -6,7 +6,8 @@ ghost use Rattle.ad_bytes.specs.Numbers.{le_bytes};
 ghost use Rattle.ad_ids.specs.Sid.{SpellsSid, sid_bytes};
 ghost use Rattle.ad_acl.specs.Entry.{type_code};
 ghost use Rattle.ad_acl.specs.Exact.{IsFront};
-ghost use Rattle.ad_acl.specs.Writing.{IsEntry, IsGuidIf, has_guid, which_of, which_bytes, guid_bytes, fixed_bytes, entry_bytes};
+ghost use Rattle.ad_acl.specs.Writing.{IsEntry, IsGuidIf, has_guid, which_of, which_bytes, guid_bytes, fixed_bytes};
+ghost use Rattle.ad_acl.specs.Writing.{entry_bytes};
 
 use crate::ace::Ace;
 use crate::kind::AceKind;
@@ -139,7 +140,8 @@ fn put_fixed(
     object: &Option<Guid>,
     inherited: &Option<Guid>,
 ) -> Result<(), AllocError>
-    ensures put { OnOk result (into.new.items ≡ into.old.items ++ fixed_bytes mask object.now inherited.now) }
+    ensures put { OnOk result (into.new.items ≡ into.old.items ++ fixed_bytes mask object.now
+        inherited.now) }
     ensures grown { OnErr result (IsFront into.old.items into.new.items) }
     ensures fits { OnOk result (mask < 2 ^ 32) }
 {

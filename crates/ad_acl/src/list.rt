@@ -45,7 +45,8 @@ fn read_header(input: &mut Input<'_>) -> Result<ListHeader, Short>
 
 // The entries one after the other. Memory is taken once, for as many as the bytes can hold.
 fn read_entries(alloc: Global, body: &mut Input<'_>, count: u16) -> Result<Vec<Ace>, AclFault>
-    ensures { ReadsUnless is_memory (λ v. v.items) result body.new (many_at entry_at count body.old) }
+    ensures { ReadsUnless is_memory (λ v. v.items) result body.new
+        (many_at entry_at count body.old) }
 {
     let room = usize::from(count).min(body.len() / SMALLEST_ENTRY);
     let mut entries = Vec::with_capacity(alloc, room)?;
@@ -103,12 +104,15 @@ fn list_through(alloc: Global, input: &mut Input<'_>) -> Result<Vec<Ace>, AclFau
 /// where its identifier has a fault. `Memory` may come instead of any answer.
 pub fn read_acl(alloc: Global, bytes: &[u8]) -> Result<Vec<Ace>, AclFault>
     // What is read is encoded so, at the start of the bytes.
-    ensures found { IfOk result (λ list. (rest : List ℕ) × TakesFront SpellsList bytes.now list.items rest) }
+    ensures found { IfOk result (λ list. (rest : List ℕ) × TakesFront SpellsList bytes.now
+        list.items rest) }
     // Whatever is encoded so is read, unless memory runs out.
-    ensures only { (entries : List Entry) (text rest : List ℕ) → SpellsList entries text → bytes.now ≡ text ++ rest
+    ensures only { (entries : List Entry) (text rest : List ℕ) → SpellsList entries text → bytes.now
+        ≡ text ++ rest
         → GivesUnless is_memory (λ v. v.items) result (Ok entries) }
     // Which fault it is.
-    ensures fault { IfErr result (λ fault. is_memory fault ≡ false → list_at bytes.now ≡ Err fault) }
+    ensures fault { IfErr result (λ fault. is_memory fault ≡ false → list_at bytes.now
+        ≡ Err fault) }
 {
     let mut input = Input::new(bytes);
     read_list(alloc, &mut input)

@@ -25,7 +25,8 @@ fn entries_written(alloc: Global, list: &[Ace]) -> Result<Vec<u8>, AclWriteFault
     ensures written { IfOk result (λ v. v.items ≡ flat_map entry_bytes list.now) }
     ensures are { OnOk result (AllByRecursion IsEntry list.now) }
     ensures fit { IfOk result (λ v. 8 + length v.items ≤ 65535) }
-    ensures too_long { IfErr result (λ fault. fault ≡ TooLong → 65535 < 8 + length (flat_map entry_bytes list.now)) }
+    ensures too_long { IfErr result
+        (λ fault. fault ≡ TooLong → 65535 < 8 + length (flat_map entry_bytes list.now)) }
 {
     let mut bytes = Vec::new(alloc);
     for ace in list {
@@ -53,7 +54,8 @@ fn revision_by(has_guid: bool) -> u8
 // Puts the header: the revision, the size of the whole list, and the number of its entries.
 #[tactic(auto, unfolding(ad_bytes::specs::Numbers::le_bytes))]
 fn put_header(into: &mut Vec<u8>, revision: u8, size: u16, count: u16) -> Result<(), AllocError>
-    ensures { OnOk result (into.new.items ≡ into.old.items ++ revision ∷ 0 ∷ le_bytes 2 size ++ (le_bytes 2 count ++ le_bytes 2 0)) }
+    ensures { OnOk result (into.new.items ≡ into.old.items ++ revision ∷ 0 ∷ le_bytes 2 size
+        ++ (le_bytes 2 count ++ le_bytes 2 0)) }
 {
     into.extend_from_slice(&[revision, 0])?;
     into.extend_from_slice(&size.to_le_bytes())?;
@@ -76,8 +78,10 @@ pub fn write_list_of(
 ) -> Result<Vec<u8>, AclWriteFault>
     // Each entry takes a byte at least.
     requires { count ≤ length entries.now }
-    ensures written { (list : List Entry) → entries.now ≡ flat_map entry_bytes list → count ≡ length list
-        → has_guid ≡ list_any is_object_entry list → GivesUnless is_memory (λ v. v.items) result (written list) }
+    ensures written { (list : List Entry) → entries.now ≡ flat_map entry_bytes list → count
+        ≡ length list
+        → has_guid ≡ list_any is_object_entry list → GivesUnless is_memory (λ v. v.items) result
+        (written list) }
     ensures few { IfOk result (λ v. length v.items ≤ 65535) }
 {
     if entries.len() > MAX_BYTES - HEADER_BYTES {

@@ -70,7 +70,8 @@ const READ_RIGHTS: u32 = READ_CONTROL | READ_PROPERTY | LIST_CHILDREN | LIST_OBJ
 // The rights, where the mask has the generic right that represents them; else none.
 #[inline]
 fn stood_for(mask: u32, generic: u32, rights: u32) -> u32
-    ensures { (place bit : ℕ) → generic ≡ 2 ^ place → has_bit result bit ≡ (has_bit mask place && has_bit rights bit) }
+    ensures { (place bit : ℕ) → generic ≡ 2 ^ place → has_bit result bit
+        ≡ (has_bit mask place && has_bit rights bit) }
 {
     if mask & generic == 0 { 0 } else { rights }
 }

@@ -103,7 +103,8 @@ fn exact_size(bytes: &[u8]) -> Option<usize>
 pub fn written_size(bytes: &[u8]) -> Option<usize>
     ensures some { IfSome result (λ size. BeginsWritten size bytes.now) }
     ensures within { IfSome result (λ size. size ≤ length bytes.now) }
-    ensures none { IfNone result ((entry : Entry) → IsEntry entry → IsFront (entry_bytes entry) bytes.now → ⊥) }
+    ensures none { IfNone result ((entry : Entry) → IsEntry entry → IsFront (entry_bytes entry)
+        bytes.now → ⊥) }
 {
     exact_size(bytes)
 }

@@ -1,5 +1,6 @@
 -- A mask of which a test asks whether it is 0, bit by bit.
-use Rattle.std.proofs.Common.{◌≡◌, ℕ, zero, suc, ◌*◌, ◌<◌, ◌≤◌, ◌^◌, ◌/◌, ◌%◌, Bool, true, false, not, ◌&&◌, ◌||◌, sym, refl, ap, ◌∙◌, inl, inr, arith}
+use Rattle.std.proofs.Common.{◌≡◌, ℕ, zero, suc, ◌*◌, ◌<◌, ◌≤◌, ◌^◌, ◌/◌, ◌%◌, Bool, true, false, not, ◌&&◌, ◌||◌}
+use Rattle.std.proofs.Common.{sym, refl, ap, ◌∙◌, inl, inr, arith}
 use Rattle.std.specs.Prelude.{nat_eq, bit_and, ◌==◌}
 use Rattle.std.proofs.lemmas.Nat.{and_le_r}
 use Rattle.std.proofs.lemmas.Bool.{cases_lt, ne_eqb, eq-eqb}
@@ -28,16 +29,21 @@ clear_top n k small clear =
       | inr above ↦ let set = top_set n k small above in absurd cc
     ]
 
-by_top : (b : Bool) (k n mask rights : ℕ) → has_bit n k ≡ b → n < 2 ^ suc k → has_bit n k ≡ has_bit rights k && mapped_has mask k
-    → (n < 2 ^ k → not (nat_eq n 0) ≡ has_right_below k mask rights) → not (nat_eq n 0) ≡ has_right_below (suc k) mask rights
+by_top : (b : Bool) (k n mask rights : ℕ) → has_bit n k ≡ b → n < 2 ^ suc k → has_bit n k ≡ has_bit rights k
+    && mapped_has mask k
+    → (n < 2 ^ k → not (nat_eq n 0) ≡ has_right_below k mask rights) → not (nat_eq n 0) ≡ has_right_below (suc k) mask
+    rights
 unfolding has_right_below
 by_top true k n mask rights top small here below =
-    let above : not (nat_eq n 0) ≡ true = ap not (ne_eqb n 0 (λ e. let zero : has_bit n k ≡ false = ap (λ (m : ℕ). has_bit m k) e ∙ has_bit-zero k in absurd cc)) in
+    let above : not (nat_eq n 0) ≡ true = ap not
+    (ne_eqb n 0 (λ e. let zero : has_bit n k ≡ false = ap (λ (m : ℕ). has_bit m k) e ∙ has_bit-zero k
+    in absurd cc)) in
     above ∙ sym (ap (λ (b : Bool). b || has_right_below k mask rights) (sym here ∙ top))
 by_top false k n mask rights top small here below =
     below (clear_top n k small top) ∙ sym (ap (λ (b : Bool). b || has_right_below k mask rights) (sym here ∙ top))
 
-pub one_below : (k n mask rights : ℕ) → n < 2 ^ k → ((bit : ℕ) → bit < k → has_bit n bit ≡ has_bit rights bit && mapped_has mask bit)
+pub one_below : (k n mask rights : ℕ) → n < 2 ^ k
+    → ((bit : ℕ) → bit < k → has_bit n bit ≡ has_bit rights bit && mapped_has mask bit)
     → not (nat_eq n 0) ≡ has_right_below k mask rights
 unfolding has_right_below
 one_below zero n mask rights small agree = ap not (eq-eqb n 0 (omega arith))

@@ -1,5 +1,6 @@
 -- Which access is audited, by which entry of the SACL.
-use Rattle.std.specs.Prelude.{ℕ, zero, suc, ◌+◌, ◌-◌, ◌^◌, Bool, true, false, not, ◌&&◌, ◌||◌, min, Option, None, Some, List, [], ◌∷◌, if◌then◌else◌}
+use Rattle.std.specs.Prelude.{ℕ, zero, suc, ◌+◌, ◌-◌, ◌^◌, Bool, true, false, not, ◌&&◌, ◌||◌, min, Option, None}
+use Rattle.std.specs.Prelude.{Some, List, [], ◌∷◌, if◌then◌else◌}
 use Rattle.ad_ids.specs.SidValue.{SidValue}
 use Rattle.ad_ids.specs.declared.guid.Guid.{Guid}
 use Rattle.ad_ids.specs.declared.token.Token.{Token}
@@ -61,7 +62,8 @@ next_place place = min (place + 1) last_place
 -- the place of the first entry that asks, where the list begins at this place
 unfoldable pub first_asking : (Entry → Bool) → ℕ → List Entry → Option ℕ
 first_asking asking place [] = None
-first_asking asking place (entry ∷ others) = if asking entry then Some place else first_asking asking (next_place place) others
+first_asking asking place (entry ∷ others) = if asking entry then Some place
+    else first_asking asking (next_place place) others
 
 -- the place of the first entry of the SACL that asks for the event, none where no entry does
 unfoldable pub audited : Sd → Token → Option SidValue → List Guid → ℕ → Bool → Option ℕ

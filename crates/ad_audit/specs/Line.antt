@@ -1,5 +1,6 @@
 -- The line of an event.
-use Rattle.std.specs.Prelude.{◌≡◌, ℕ, Bool, true, false, ◌==◌, Option, None, Some, codes, decimal, List, [], ◌++◌, if◌then◌else◌}
+use Rattle.std.specs.Prelude.{◌≡◌, ℕ, Bool, true, false, ◌==◌, Option, None, Some, codes, decimal, List, [], ◌++◌}
+use Rattle.std.specs.Prelude.{if◌then◌else◌}
 use Rattle.ad_ids.specs.declared.guid.Guid.{Guid}
 use Rattle.ad_ids.specs.GuidText.{guid_text}
 use Rattle.ad_ids.specs.SidText.{sid_text}
@@ -45,6 +46,7 @@ guid_or_hyphen (Some guid) = guid_text guid
 -- the frame's number, its connection, whether the access was granted, the right, the last GUID of the path, the
 -- user and the name of the object, each but the last with a blank after it, and a line end
 unfoldable pub event_line : Event → List ℕ
-event_line event = spaced (decimal event.frame) ++ (spaced (decimal event.connection) ++ (spaced (outcome_word event.success)
+event_line event = spaced (decimal event.frame)
+    ++ (spaced (decimal event.connection) ++ (spaced (outcome_word event.success)
     ++ (spaced (code_of event.right) ++ (spaced (guid_or_hyphen event.guid) ++ (spaced (sid_text event.user)
     ++ (event.dn ++ codes "\n"))))))

@@ -50,7 +50,8 @@ fn asks(
     right: u32,
     success: bool,
 ) -> bool
-    ensures { result ≡ asks (entry_seen ace.now) owner.now token.now (option_copied self_sid.entry) path.now right success }
+    ensures { result ≡ asks (entry_seen ace.now) owner.now token.now (option_copied self_sid.entry)
+        path.now right success }
 {
     if !is_audit(ace) {
         return false;
@@ -83,7 +84,8 @@ pub fn audited(
     right: u32,
     success: bool,
 ) -> Option<u32>
-    ensures { result ≡ audited (seen view.entry) token.now (option_copied self_sid.entry) path.now right success }
+    ensures { result ≡ audited (seen view.entry) token.now (option_copied self_sid.entry) path.now
+        right success }
 {
     let owner = view.owner();
     let mut place: u32 = 0;

@@ -12,7 +12,8 @@ ghost use Rattle.ad_audit.specs.Audited.{is_audit, audited};
 /// Where the SACL has no audit entry of the object itself, no access to the object is audited, by whatever token, on
 /// whatever path, granted or not.
 pub fn a_list_that_asks_for_nothing_audits_nothing()
-    ensures { (sd : SdValue) (token : TokenValue) (self : Option SidValue) (path : List GuidValue) (right : ℕ)
+    ensures { (sd : SdValue) (token : TokenValue) (self : Option SidValue) (path : List GuidValue)
+        (right : ℕ)
         (success : Bool) → list_any is_audit sd.sacl.entries ≡ false
         → audited sd token self path right success ≡ None }
 {}

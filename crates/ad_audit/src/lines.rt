@@ -69,7 +69,8 @@ fn put_number(into: &mut Vec<u8>, n: u32) -> Result<(), AllocError>
 
 // The text of a GUID, or a hyphen, and a blank.
 fn put_guid(alloc: Global, into: &mut Vec<u8>, guid: Option<&Guid>) -> Result<(), AllocError>
-    ensures { OnOk result (Puts into.old.items into.new.items (spaced (guid_or_hyphen (option_copied guid.entry)))) }
+    ensures { OnOk result (Puts into.old.items into.new.items
+        (spaced (guid_or_hyphen (option_copied guid.entry)))) }
 {
     match guid {
         Some(guid) => {

@@ -1,5 +1,7 @@
 -- The encoding that is written has as few bytes as any, and is one of the encodings that are read.
-use Rattle.std.proofs.Common.{◌≡◌, inl, inr, ◌⊎◌, ℕ, zero, suc, ◌+◌, ◌-◌, ◌*◌, ◌^◌, ◌%◌, ◌<◌, ◌≤◌, Bool, true, false, cond, ltb, List, [], ◌∷◌, ◌++◌, length, take, drop, refl, sym, ap, subst, ◌∙◌, append_assoc, length-append, arith}
+use Rattle.std.proofs.Common.{◌≡◌, inl, inr, ◌⊎◌, ℕ, zero, suc, ◌+◌, ◌-◌, ◌*◌, ◌^◌, ◌%◌, ◌<◌, ◌≤◌, Bool, true, false}
+use Rattle.std.proofs.Common.{cond, ltb, List, [], ◌∷◌, ◌++◌, length, take, drop, refl, sym, ap, subst, ◌∙◌}
+use Rattle.std.proofs.Common.{append_assoc, length-append, arith}
 use Rattle.std.specs.Int.{bytes_high_first, to_be_bytes, w64}
 use Rattle.std.proofs.lemmas.Bool.{cases_Bool, cases_lt, ltb-true, ltb-false, lt-ltb, le-ltb}
 use Rattle.std.proofs.lemmas.List.{take_all}
@@ -22,34 +24,45 @@ fits_or n k rest h = by_cases (λ m. n < 256 ^ m) (ltb n (256 ^ k)) k rest (λ y
 
 pub fits_width : (n : ℕ) → n < 2 ^ 64 → n < 256 ^ width n
 unfolding width
-fits_width n h = fits_or n 1 _ (fits_or n 2 _ (fits_or n 3 _ (fits_or n 4 _ (fits_or n 5 _ (fits_or n 6 _ (fits_or n 7 8 h))))))
+fits_width n h = fits_or n 1 _ (fits_or n 2 _
+    (fits_or n 3 _ (fits_or n 4 _ (fits_or n 5 _ (fits_or n 6 _ (fits_or n 7 8 h))))))
 
-within_or : (b : Bool) (k rest : ℕ) → (1 ≤ k) × (k ≤ 8) → (1 ≤ rest) × (rest ≤ 8) → (1 ≤ cond b k rest) × (cond b k rest ≤ 8)
+within_or : (b : Bool) (k rest : ℕ) → (1 ≤ k) × (k ≤ 8) → (1 ≤ rest) × (rest ≤ 8) → (1 ≤ cond b k rest)
+    × (cond b k rest ≤ 8)
 within_or b k rest h i = by_cases (λ m. (1 ≤ m) × (m ≤ 8)) b k rest (λ _. h) (λ _. i)
 
 pub width_within : (n : ℕ) → (1 ≤ width n) × (width n ≤ 8)
 unfolding width
 width_within n =
     let between : (k : ℕ) → 1 ≤ k → k ≤ 8 → (1 ≤ k) × (k ≤ 8) = λ k a b. (a, b) in
-    within_or _ 1 _ (omega arith, omega arith) (within_or _ 2 _ (omega arith, omega arith) (within_or _ 3 _ (omega arith, omega arith) (within_or _ 4 _ (omega arith, omega arith)
-    (within_or _ 5 _ (omega arith, omega arith) (within_or _ 6 _ (omega arith, omega arith) (within_or _ 7 8 (omega arith, omega arith) (omega arith, omega arith)))))))
+    within_or _ 1 _ (omega arith, omega arith)
+    (within_or _ 2 _ (omega arith, omega arith)
+    (within_or _ 3 _ (omega arith, omega arith) (within_or _ 4 _ (omega arith, omega arith)
+    (within_or _ 5 _ (omega arith, omega arith)
+    (within_or _ 6 _ (omega arith, omega arith)
+    (within_or _ 7 8 (omega arith, omega arith) (omega arith, omega arith)))))))
 
 -- a number that doesn't fit k bytes and fits m of them
 more_than : (n k m : ℕ) → ltb n (256 ^ k) ≡ false → n < 256 ^ m → k < m
 more_than n k m no_less fits =
     elim (cases_lt k m) [
       | inl lt ↦ lt
-      | inr le ↦ let above : 256 ^ m ≤ 256 ^ k = pow-le-pow_right (omega arith) le in absurd (omega (arith, ltb-false _ _ no_less))
+      | inr le ↦ let above : 256 ^ m ≤ 256 ^ k = pow-le-pow_right (omega arith) le
+          in absurd (omega (arith, ltb-false _ _ no_less))
     ]
 
 least_or : (n k rest m : ℕ) → k ≤ m → n < 256 ^ m → (k < m → rest ≤ m) → cond (ltb n (256 ^ k)) k rest ≤ m
-least_or n k rest m le fits others = by_cases (λ (w : ℕ). w ≤ m) (ltb n (256 ^ k)) k rest (λ _. le) (λ no_less. others (more_than n k m no_less fits))
+least_or n k rest m le fits others = by_cases (λ (w : ℕ). w ≤ m) (ltb n (256 ^ k)) k rest (λ _. le)
+    (λ no_less. others (more_than n k m no_less fits))
 
 pub width_least : (n m : ℕ) → 1 ≤ m → n < 256 ^ m → width n ≤ m
 unfolding width
 width_least n m some fits =
-    least_or n 1 _ m some fits (λ l1. least_or n 2 _ m (omega arith) fits (λ l2. least_or n 3 _ m (omega arith) fits (λ l3. least_or n 4 _ m (omega arith) fits
-    (λ l4. least_or n 5 _ m (omega arith) fits (λ l5. least_or n 6 _ m (omega arith) fits (λ l6. least_or n 7 8 m (omega arith) fits (λ l7. omega arith)))))))
+    least_or n 1 _ m some fits (λ l1. least_or n 2 _ m (omega arith) fits
+    (λ l2. least_or n 3 _ m (omega arith) fits (λ l3. least_or n 4 _ m (omega arith) fits
+    (λ l4. least_or n 5 _ m (omega arith) fits
+    (λ l5. least_or n 6 _ m (omega arith) fits
+    (λ l6. least_or n 7 8 m (omega arith) fits (λ l7. omega arith)))))))
 
 -- ---- the bytes that are put
 
@@ -73,7 +86,8 @@ low_part k n le =
     let len : length (be_bytes k n) ≡ k = length-be_bytes k n in
     ap (take (8 - (8 - k))) (low_bytes k n le) ∙ take_all (8 - (8 - k)) (be_bytes k n) (omega arith)
 
-pub length_put : (old new : List ℕ) (n w : ℕ) → 128 ≤ n → w ≡ width n → new ≡ (old ++ (128 + w) ∷ []) ++ take (8 - (8 - w)) (drop (8 - w) (to_be_bytes w64 n)) → new ≡ old ++ length_bytes n
+pub length_put : (old new : List ℕ) (n w : ℕ) → 128 ≤ n → w ≡ width n → new ≡ (old ++ (128 + w) ∷ [])
+    ++ take (8 - (8 - w)) (drop (8 - w) (to_be_bytes w64 n)) → new ≡ old ++ length_bytes n
 unfolding length_bytes
 length_put old new n w high is_width is_new =
     let test : ltb n 128 ≡ false = le-ltb _ _ high in
@@ -82,7 +96,8 @@ length_put old new n w high is_width is_new =
     ∙ ap (λ (t : List ℕ). (old ++ (128 + width n) ∷ []) ++ t) (low_part (width n) n (width_within n).1) in
     rw test (part ∙ append_assoc old ((128 + width n) ∷ []) (be_bytes (width n) n))
 
-pub number_put : (bytes : List ℕ) (n w : ℕ) → w ≡ width (2 * n) → bytes ≡ to_be_bytes w64 n → take (8 - (8 - w)) (drop (8 - w) bytes) ≡ number_bytes n
+pub number_put : (bytes : List ℕ) (n w : ℕ) → w ≡ width (2 * n) → bytes ≡ to_be_bytes w64 n
+    → take (8 - (8 - w)) (drop (8 - w) bytes) ≡ number_bytes n
 unfolding number_bytes
 number_put bytes n w is_width are_bytes =
     ap (λ (bs : List ℕ). take (8 - (8 - w)) (drop (8 - w) bs)) are_bytes
@@ -124,12 +139,20 @@ length_spelled n low =
               count = width n;
               some = omega (arith, within.0);
               few = omega (arith, within.1);
-              text_is = record { front = (128 + width n) ∷ []; behind = be_bytes (width n) n; parts = refl; spelled = (omega (arith, within.1), refl); follows = (fits_width n (omega arith), refl) };
+              text_is = record {
+                front = (128 + width n) ∷ [];
+                behind = be_bytes (width n) n;
+                parts = refl;
+                spelled
+                    = (omega (arith, within.1), refl);
+                follows = (fits_width n (omega arith), refl);
+              };
             }),
           )
     ]
 
-pub element_spelled : (tag : ℕ) (body : List ℕ) → tag < 256 → tag % 32 < 31 → length body < 2 ^ 32 → SpellsElement (record { tag = tag; body = body }) (element_bytes tag body)
+pub element_spelled : (tag : ℕ) (body : List ℕ) → tag < 256 → tag % 32 < 31 → length body < 2 ^ 32
+    → SpellsElement (record { tag = tag; body = body }) (element_bytes tag body)
 unfolding element_bytes header
 element_spelled tag body byte number low = record {
   number = number;
@@ -138,7 +161,14 @@ element_spelled tag body byte number low = record {
     behind = length_bytes (length body) ++ body;
     parts = refl;
     spelled = (byte, refl);
-    follows = record { front = length_bytes (length body); behind = body; parts = refl; spelled = length_spelled (length body) low; follows = (refl, refl) };
+    follows = record {
+      front = length_bytes (length body);
+      behind = body;
+      parts = refl;
+      spelled
+          = length_spelled (length body) low;
+      follows = (refl, refl);
+    };
   };
 }
 
@@ -150,7 +180,8 @@ length_shortest n text (low, inl s) =
     rw (test, s.1.1) (omega arith)
 length_shortest n text (low, inr s) =
     let t = s.text_is in
-    let long : length text ≡ 1 + s.count = ap length t.parts ∙ length-append t.front t.behind ∙ rw (t.spelled.1, t.follows.1, length-be_bytes s.count n) refl in
+    let long : length text ≡ 1 + s.count = ap length t.parts ∙ length-append t.front t.behind
+    ∙ rw (t.spelled.1, t.follows.1, length-be_bytes s.count n) refl in
     let some : 0 < s.count = s.some in
     let least : width n ≤ s.count = width_least n s.count (omega arith) t.follows.0 in
     elim (cases_Bool (ltb n 128)) [

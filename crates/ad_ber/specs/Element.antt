@@ -4,7 +4,8 @@ use Rattle.ad_bytes.specs.Reading.{StartsWith}
 use Rattle.ad_bytes.specs.Numbers.{SpellsByte, SpellsBe, SpellsPart}
 use Rattle.ad_ber.specs.declared.finding.Tagged.{Tagged}
 
--- a length above 127, or any other: a byte 128 + k, and the length in k bytes, from one on, the most significant first
+-- a length above 127, or any other: a byte 128 + k, and the length in k bytes, from one on, the most significant
+-- first
 pub record SpellsLong (n : ℕ) (text : List ℕ) : Type 0 where
   pub count : ℕ
   pub some : 0 < count
@@ -18,4 +19,5 @@ SpellsLength n text = (n < 2 ^ 32) × (((n < 128) × SpellsByte n text) ⊎ Spel
 -- the tag, whose number in its low five bits is at most 30, the length of the body, and the body
 pub record SpellsElement (e : Tagged) (text : List ℕ) : Type 0 where
   pub number : e.tag % 32 < 31
-  pub text_is : StartsWith SpellsByte e.tag (StartsWith SpellsLength (length e.body) (SpellsPart (length e.body) e.body)) text
+  pub text_is : StartsWith SpellsByte e.tag
+      (StartsWith SpellsLength (length e.body) (SpellsPart (length e.body) e.body)) text

@@ -41,7 +41,8 @@ fn tag(input: &mut Input<'_>) -> Result<u8, BerFault>
 
 // The number in the bytes, the most significant first, where it is below 2^32.
 fn small_number(digits: &[u8]) -> Option<u32>
-    ensures { MatchOption result (2 ^ 32 ≤ big_number (length digits.now) digits.now) (λ n. n ≡ big_number (length digits.now) digits.now) }
+    ensures { MatchOption result (2 ^ 32 ≤ big_number (length digits.now) digits.now)
+        (λ n. n ≡ big_number (length digits.now) digits.now) }
 {
     let mut number: u64 = 0;
     for digit in digits {
@@ -108,8 +109,8 @@ impl<'a> Tagged<'a> {
     }
 }
 
-/// The element that begins at a place in the bytes (X.690 8.1, RFC 4511 5.1). Any bytes may stand after it. It takes no
-/// memory.
+/// The element that begins at a place in the bytes (X.690 8.1, RFC 4511 5.1). Any bytes may stand after it. It takes
+/// no memory.
 ///
 /// The tag is one byte. The length is a byte below 128, or a byte 128 + k, for k from 1 to 127, and k bytes, the most
 /// significant first; it may have more bytes than it needs.
@@ -122,10 +123,12 @@ impl<'a> Tagged<'a> {
 /// - 1.
 pub fn element(bytes: &[u8], at: usize) -> Result<Tlv<'_>, BerFault>
     // What is found is encoded so, from the place up to the next one.
-    ensures found { IfOk result (λ t. TakesFront SpellsElement (drop at bytes.now) (element_of t) (drop t.next bytes.now)) }
+    ensures found { IfOk result (λ t. TakesFront SpellsElement (drop at bytes.now) (element_of t)
+        (drop t.next bytes.now)) }
     ensures next { IfOk result (λ t. (at < t.next) × (t.next ≤ length bytes.now)) }
     // Whatever is encoded so is found, whatever follows.
-    ensures only { (e : ElementValue) (text rest : List ℕ) → SpellsElement e text → drop at bytes.now ≡ text ++ rest
+    ensures only { (e : ElementValue) (text rest : List ℕ) → SpellsElement e text
+        → drop at bytes.now ≡ text ++ rest
         → IsOkAnd result (λ t. (element_of t ≡ e) × (t.next ≡ at + length text)) }
     // Which fault it is.
     ensures fault { FaultOf result (element_at (drop at bytes.now)) }

@@ -12,5 +12,6 @@ pub fn what_is_put_is_an_element()
 
 /// No encoding of a length has fewer bytes than the one that is put.
 pub fn no_length_is_shorter()
-    ensures { (n : ℕ) (text : List ℕ) → SpellsLength n text → length (length_bytes n) ≤ length text }
+    ensures { (n : ℕ) (text : List ℕ) → SpellsLength n text → length (length_bytes n)
+        ≤ length text }
 {}

@@ -4,12 +4,14 @@ use Rattle.std.proofs.Common.{◌≡◌, Bool, true, false, cond, Result, Ok, Er
 use Rattle.ad_bytes.specs.Reading.{◌>>=◌, need, fault_as, or_fault}
 
 -- what a step gave, and what follows from it
-pub from_bind : {A B E P : Type 0} (r : Result A E) (f : A → Result B E) (y : B) → (r >>= f) ≡ Ok y → ((x : A) → r ≡ Ok x → f x ≡ Ok y → P) → P
+pub from_bind : {A B E P : Type 0} (r : Result A E) (f : A → Result B E) (y : B) → (r >>= f) ≡ Ok y
+    → ((x : A) → r ≡ Ok x → f x ≡ Ok y → P) → P
 from_bind (Ok x) f y e k = k x refl e
 from_bind (Err d) f y e k = absurd cc
 
 -- a test that held, and what follows from it
-pub from_need : {B E P : Type 0} (b : Bool) (d : E) (f : Unit {0} → Result B E) (y : B) → (need b d >>= f) ≡ Ok y → (b ≡ true → f tt ≡ Ok y → P) → P
+pub from_need : {B E P : Type 0} (b : Bool) (d : E) (f : Unit {0} → Result B E) (y : B) → (need b d >>= f) ≡ Ok y
+    → (b ≡ true → f tt ≡ Ok y → P) → P
 from_need true d f y e k = k refl e
 from_need false d f y e k = absurd cc
 
@@ -29,6 +31,7 @@ pub from_ok : {A E : Type 0} (x y : A) → ok_of {E = E} x ≡ ok_of y → x ≡
 from_ok x y e = cc
 
 -- a value after a test that did not fail
-pub from_guard : {A E P : Type 0} (b : Bool) (d : E) (x y : A) → cond b (Err d) (Ok x) ≡ Ok y → (b ≡ false → x ≡ y → P) → P
+pub from_guard : {A E P : Type 0} (b : Bool) (d : E) (x y : A) → cond b (Err d) (Ok x) ≡ Ok y
+    → (b ≡ false → x ≡ y → P) → P
 from_guard true d x y e k = absurd cc
 from_guard false d x y e k = k refl cc

@@ -1,6 +1,7 @@
 -- Reading from left to right: the value that stands at the start and the bytes after it, or the first fault that is
 -- met.
-use Rattle.std.specs.Prelude.{◌≡◌, ◌<◌, ℕ, zero, suc, slice_index, Bool, true, false, List, [], ◌∷◌, ◌++◌, length, Result, Ok, Err}
+use Rattle.std.specs.Prelude.{◌≡◌, ◌<◌, ℕ, zero, suc, slice_index, Bool, true, false, List, [], ◌∷◌, ◌++◌, length}
+use Rattle.std.specs.Prelude.{Result, Ok, Err}
 
 -- every number of the list is a byte
 abbrev pub IsBytes : List ℕ → Type 0
@@ -56,18 +57,21 @@ GivesUnless is_memory view (Ok x) read = read ≡ Ok (view x)
 GivesUnless is_memory view (Err e) read = is_memory e ≡ false → read ≡ Err e
 
 -- A prefix of the bytes is an encoding of the value, and the rest stands after it.
-pub record TakesFront {A : Type 0} (Spells : A → List ℕ → Type 0) (bytes : List ℕ) (value : A) (rest : List ℕ) : Type 0 where
+pub record TakesFront {A : Type 0} (Spells : A → List ℕ → Type 0) (bytes : List ℕ) (value : A) (rest : List ℕ) : Type
+    0 where
   pub text : List ℕ
   pub parts : bytes ≡ text ++ rest
   pub spelled : Spells value text
 
 -- A reader is one of a format: what it reads is encoded so, and what is encoded so is read, whatever follows.
 pub record IsReaderOf {A E : Type 0} (Spells : A → List ℕ → Type 0) (read : List ℕ → Reading A E) : Type 0 where
-  pub takes : (bytes : List ℕ) (value : A) (rest : List ℕ) → IsBytes bytes → read bytes ≡ Ok (value, rest) → TakesFront Spells bytes value rest
+  pub takes : (bytes : List ℕ) (value : A) (rest : List ℕ) → IsBytes bytes → read bytes ≡ Ok (value, rest)
+      → TakesFront Spells bytes value rest
   pub again : (value : A) (text rest : List ℕ) → Spells value text → read (text ++ rest) ≡ Ok (value, rest)
 
 -- The text starts with an encoding of the value, and what follows is as said.
-pub record StartsWith {A : Type 0} (Spells : A → List ℕ → Type 0) (value : A) (Follows : List ℕ → Type 0) (text : List ℕ) : Type 0 where
+pub record StartsWith {A : Type 0} (Spells : A → List ℕ → Type 0) (value : A) (Follows : List ℕ → Type 0)
+    (text : List ℕ) : Type 0 where
   pub front : List ℕ
   pub behind : List ℕ
   pub parts : text ≡ front ++ behind

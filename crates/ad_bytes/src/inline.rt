@@ -87,7 +87,8 @@ impl Inline {
     }
 
     pub(crate) fn make_ascii_lowercase(&mut self)
-        ensures { take self.new.len self.new.bytes ≡ map to_ascii_lowercase (take self.old.len self.old.bytes) }
+        ensures { take self.new.len self.new.bytes
+            ≡ map to_ascii_lowercase (take self.old.len self.old.bytes) }
     {
         self.bytes.make_ascii_lowercase();
     }

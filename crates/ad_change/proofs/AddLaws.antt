@@ -1,5 +1,6 @@
 -- The checks of an addition one after the other, and the attributes that it has.
-use Rattle.std.proofs.Common.{◌≡◌, ℕ, ◌+◌, ◌<◌, ◌≤◌, Bool, true, false, not, List, [], ◌∷◌, ◌++◌, map, length, get_or, drop, Option, Some, None, refl, sym, ap, ◌∙◌, append_assoc, arith}
+use Rattle.std.proofs.Common.{◌≡◌, ℕ, ◌+◌, ◌<◌, ◌≤◌, Bool, true, false, not, List, [], ◌∷◌, ◌++◌, map, length, get_or}
+use Rattle.std.proofs.Common.{drop, Option, Some, None, refl, sym, ap, ◌∙◌, append_assoc, arith}
 use Rattle.std.specs.Prelude.{nat_lt, ◌&&◌, ◌||◌, is_some, is_none, option_map, codes, if◌then◌else◌}
 use Rattle.std.proofs.lemmas.List.{map-append, drop_all}
 use Rattle.std.proofs.lemmas.Option.{none-some, same_Some}
@@ -50,49 +51,62 @@ pub then_fails : (before rest : List Check) (b : Bool) (n : ℕ) → first_faili
     → first_failing (before ++ or_code b n ∷ rest) ≡ Some (code n)
 then_fails before rest b n none fails = all_pass before (or_code b n ∷ rest) none ∙ head_fails (or_code b n) rest fails
 
-pub then_holds : (before : List Check) (b : Bool) (n : ℕ) → first_failing before ≡ None → b ≡ true → first_failing (before ++ or_code b n ∷ []) ≡ None
+pub then_holds : (before : List Check) (b : Bool) (n : ℕ) → first_failing before ≡ None → b ≡ true
+    → first_failing (before ++ or_code b n ∷ []) ≡ None
 unfolding first_failing
 then_holds before b n none holds = all_pass before (or_code b n ∷ []) none ∙ head_passes (or_code b n) [] holds
 
-pub both_none : (before others : List Check) → first_failing before ≡ None → first_failing others ≡ None → first_failing (before ++ others) ≡ None
+pub both_none : (before others : List Check) → first_failing before ≡ None → first_failing others ≡ None
+    → first_failing (before ++ others) ≡ None
 both_none before others none other = all_pass before others none ∙ other
 
-pub later_fails : (before others rest : List Check) (r : Refusal) → first_failing before ≡ None → first_failing others ≡ Some r
+pub later_fails : (before others rest : List Check) (r : Refusal) → first_failing before ≡ None → first_failing others
+    ≡ Some r
     → first_failing (before ++ (others ++ rest)) ≡ Some r
 later_fails before others rest r none fails = all_pass before (others ++ rest) none ∙ one_fails others rest r fails
 
 -- ---- the checks of each of some
 
-pub each_more : {A : Type 0} (f : A → List Check) (xs : List A) (i : ℕ) (x : A) → i < length xs → x ≡ get_or xs i x → first_failing (f x) ≡ None
+pub each_more : {A : Type 0} (f : A → List Check) (xs : List A) (i : ℕ) (x : A) → i < length xs → x ≡ get_or xs i x
+    → first_failing (f x) ≡ None
     → first_failing (flat_map f (drop (i + 1) xs)) ≡ first_failing (flat_map f (drop i xs))
 each_more f xs i x less is none =
-    sym (ap (λ (ys : List _). first_failing (flat_map f ys)) (cut xs i x less is) ∙ all_pass (f x) (flat_map f (drop (i + 1) xs)) none)
+    sym (ap (λ (ys : List _). first_failing (flat_map f ys)) (cut xs i x less is)
+    ∙ all_pass (f x) (flat_map f (drop (i + 1) xs)) none)
 
-pub each_stops : {A : Type 0} (f : A → List Check) (xs : List A) (i : ℕ) (x : A) (r : Refusal) → i < length xs → x ≡ get_or xs i x
+pub each_stops : {A : Type 0} (f : A → List Check) (xs : List A) (i : ℕ) (x : A) (r : Refusal) → i < length xs → x
+    ≡ get_or xs i x
     → first_failing (f x) ≡ Some r → first_failing (flat_map f (drop i xs)) ≡ Some r
 each_stops f xs i x r less is fails =
-    ap (λ (ys : List _). first_failing (flat_map f ys)) (cut xs i x less is) ∙ one_fails (f x) (flat_map f (drop (i + 1) xs)) r fails
+    ap (λ (ys : List _). first_failing (flat_map f ys)) (cut xs i x less is)
+    ∙ one_fails (f x) (flat_map f (drop (i + 1) xs)) r fails
 
-pub each_done : {A : Type 0} (f : A → List Check) (xs : List A) (i : ℕ) → length xs ≤ i → first_failing (flat_map f (drop i xs)) ≡ None
+pub each_done : {A : Type 0} (f : A → List Check) (xs : List A) (i : ℕ) → length xs ≤ i
+    → first_failing (flat_map f (drop i xs)) ≡ None
 unfolding first_failing
 each_done f xs i past = ap (λ (ys : List _). first_failing (flat_map f ys)) (drop_all i xs past)
 
 -- ---- the checks of what is sent, and the others
 
-pub add_parts : (dir : Directory) (token : Token) (parent class : ℕ) (name : List ℕ) (values : List (AttrId × List (List ℕ))) (sd : Option SdParts)
+pub add_parts : (dir : Directory) (token : Token) (parent class : ℕ) (name : List ℕ)
+    (values : List (AttrId × List (List ℕ))) (sd : Option SdParts)
     → add_later dir token parent class name values sd
     ≡ sent_checks dir token parent class values sd ++ (or_code (is_none (child_named dir.objects parent name)) 68
     ∷ or_code (fits_in dir (new_object dir token parent class name values sd)) 11 ∷ [])
 unfolding add_later
 add_parts dir token parent class name values sd =
-    ap (λ (checks : List Check). or_code (is_owner_allowed token sd) 19 ∷ or_code (is_under dir.schema class (class_at dir parent)) 64 ∷ checks)
+    ap (λ (checks : List Check). or_code (is_owner_allowed token sd) 19
+    ∷ or_code (is_under dir.schema class (class_at dir parent)) 64 ∷ checks)
     (sym (append_assoc (flat_map (attr_checks dir) values)
-    (or_code (list_all (λ attr. is_allowed dir.schema class attr.0.0) values) 65 ∷ or_code (has_musts dir class values) 65 ∷ [])
-    (or_code (is_none (child_named dir.objects parent name)) 68 ∷ or_code (fits_in dir (new_object dir token parent class name values sd)) 11 ∷ [])))
+    (or_code (list_all (λ attr. is_allowed dir.schema class attr.0.0) values) 65
+    ∷ or_code (has_musts dir class values) 65 ∷ [])
+    (or_code (is_none (child_named dir.objects parent name)) 68
+    ∷ or_code (fits_in dir (new_object dir token parent class name values sd)) 11 ∷ [])))
 
 -- ---- the attributes
 
-pub held_is : (dir : Directory) (values : List (AttrId × List (List ℕ))) → all_before (all_read dir values) [] ≡ all_held dir values
+pub held_is : (dir : Directory) (values : List (AttrId × List (List ℕ))) → all_before (all_read dir values) []
+    ≡ all_held dir values
 unfolding all_before all_held
 held_is dir [] = refl
 held_is dir (attr ∷ values) = ap (held_before attr.0.0 (all_stored dir attr.0.0 attr.1)) (held_is dir values)
@@ -107,18 +121,21 @@ pub none_before : (others : List Held) → all_before [] others ≡ others
 unfolding all_before
 none_before others = refl
 
-pub rise_before : (attr : ℕ) (new : List Stored) (others : List Held) → AttrsRiseFrom 0 others → AttrsRiseFrom 0 (held_before attr new others)
+pub rise_before : (attr : ℕ) (new : List Stored) (others : List Held) → AttrsRiseFrom 0 others
+    → AttrsRiseFrom 0 (held_before attr new others)
 rise_before attr [] others rise = rise
 rise_before attr (first ∷ new) others rise = rise_with attr (first ∷ new) 0 others rise (omega arith)
 
 pub rise_all : (dir : Directory) (values : List (AttrId × List (List ℕ))) → AttrsRiseFrom 0 (all_held dir values)
 unfolding all_held
 rise_all dir [] = tt
-rise_all dir (attr ∷ values) = rise_before attr.0.0 (all_stored dir attr.0.0 attr.1) (all_held dir values) (rise_all dir values)
+rise_all dir (attr ∷ values) = rise_before attr.0.0 (all_stored dir attr.0.0 attr.1) (all_held dir values)
+    (rise_all dir values)
 
 -- ---- limits
 
-pub counts_sid : (sid : Option SidValue) (gets fits : Bool) → gets ≡ is_some sid → (not gets || fits) ≡ option_map_or (λ (s : SidValue). fits) sid true
+pub counts_sid : (sid : Option SidValue) (gets fits : Bool) → gets ≡ is_some sid → (not gets || fits)
+    ≡ option_map_or (λ (s : SidValue). fits) sid true
 counts_sid None gets fits is = rw is refl
 counts_sid (Some s) gets fits is = rw is refl
 
@@ -128,14 +145,17 @@ these_before attr [] others some = absurd (some refl)
 these_before attr (x ∷ xs) others some = refl
 
 pub pops : (read rest : List HeldIn) (last : HeldIn) (held held' whole : List Held) → read ≡ rest ++ last ∷ []
-    → held' ≡ held_before (held_seen last).attr (held_seen last).values held → all_before (map held_seen read) held ≡ whole
+    → held' ≡ held_before (held_seen last).attr (held_seen last).values held → all_before (map held_seen read) held
+    ≡ whole
     → all_before (map held_seen rest) held' ≡ whole
 pops read rest last held held' whole parts put so_far =
     ap (all_before (map held_seen rest)) put ∙ sym (before_last (map held_seen rest) (held_seen last) held)
-    ∙ ap (λ (hs : List Held). all_before hs held) (sym (map-append held_seen rest (last ∷ [])) ∙ ap (map held_seen) (sym parts))
+    ∙ ap (λ (hs : List Held). all_before hs held)
+    (sym (map-append held_seen rest (last ∷ [])) ∙ ap (map held_seen) (sym parts))
     ∙ so_far
 
-pub popped_all : (read : List HeldIn) (held whole : List Held) → length read ≡ 0 → all_before (map held_seen read) held ≡ whole → held ≡ whole
+pub popped_all : (read : List HeldIn) (held whole : List Held) → length read ≡ 0 → all_before (map held_seen read)
+    held ≡ whole → held ≡ whole
 unfolding all_before
 popped_all [] held whole none so_far = so_far
 popped_all (x ∷ xs) held whole none so_far = absurd (omega (arith, none))
@@ -150,12 +170,15 @@ pub no_domain : (dir : Directory) (s : SidValue) → None ≡ self_sid dir root 
 unfolding domain_sid
 no_domain dir s none is = none-some s (none ∙ is)
 
-pub sid_attr_within : (schema other : List SchemaRecord) (id : AttrId) → other ≡ schema → Some id ≡ attr_of_rule other rule.ObjectSid
+pub sid_attr_within : (schema other : List SchemaRecord) (id : AttrId) → other ≡ schema → Some id
+    ≡ attr_of_rule other rule.ObjectSid
     → id.0 < length (attrs_of schema)
 unfolding rule_place
 sid_attr_within schema other id same is =
     place_within schema (codes "objectSid") id.0
-    (rule_is_named schema rule.ObjectSid id.0 (ap (option_map (λ (x : AttrId). x.0)) (ap (λ (s : List SchemaRecord). attr_of_rule s rule.ObjectSid) (sym same) ∙ sym is)))
+    (rule_is_named schema rule.ObjectSid id.0
+    (ap (option_map (λ (x : AttrId). x.0))
+    (ap (λ (s : List SchemaRecord). attr_of_rule s rule.ObjectSid) (sym same) ∙ sym is)))
 
 pub no_new_sid : (attr : Option ℕ) (values : List Held) → values ≡ with_new_sid attr None values
 no_new_sid None values = refl
@@ -163,19 +186,46 @@ no_new_sid (Some attr) values = refl
 
 -- ---- an object that is made
 
-pub numbered_made : (dir : Directory) (parent : ℕ) (class : ClassId) (name sent : List ℕ) (held : List Held) (values : List HeldIn) (next : ℕ)
+pub numbered_made : (dir : Directory) (parent : ℕ) (class : ClassId) (name sent : List ℕ) (held : List Held)
+    (values : List HeldIn) (next : ℕ)
     (sid : Option SidValue) (sd : Sd) → next ≡ dir.meta.next_number → name ≡ sent → sid ≡ new_sid dir class.0
     → map held_seen values ≡ with_new_sid (object_sid dir.schema) sid held
     → object_seen (record { number = next; parent = parent; class = class; name = name; values = values }) sd
     ≡ numbered dir (record { number = 0; parent = parent; class = class.0; name = sent; values = held; sd = sd })
 numbered_made dir parent class name sent held values next sid sd number same is put =
-    ap (λ (n : ℕ). record { number = n; parent = parent; class = class.0; name = name; values = map held_seen values; sd = sd }) number
-    ∙ ap (λ (t : List ℕ). record { number = dir.meta.next_number; parent = parent; class = class.0; name = t; values = map held_seen values; sd = sd }) same
-    ∙ ap (λ (vs : List Held). record { number = dir.meta.next_number; parent = parent; class = class.0; name = sent; values = vs; sd = sd })
+    ap (λ (n : ℕ). record {
+      number = n;
+      parent = parent;
+      class = class.0;
+      name = name;
+      values
+          = map held_seen values;
+      sd = sd;
+    }) number
+    ∙ ap (λ (t : List ℕ). record {
+      number = dir.meta.next_number;
+      parent = parent;
+      class = class.0;
+      name = t;
+      values
+          = map held_seen values;
+      sd = sd;
+    }) same
+    ∙ ap (λ (vs : List Held). record {
+      number = dir.meta.next_number;
+      parent = parent;
+      class = class.0;
+      name
+          = sent;
+      values = vs;
+      sd = sd;
+    })
     (put ∙ ap (λ (s : Option SidValue). with_new_sid (object_sid dir.schema) s held) is)
 
-pub counted_made : (dir : Directory) (meta : Meta) (gets : Bool) (number rid : ℕ) (suffix : List Rdn) (sid : Option SidValue) → meta ≡ dir.meta
-    → number ≡ meta.next_number + 1 → rid ≡ (if gets then meta.next_rid + 1 else meta.next_rid) → suffix ≡ meta.suffix → gets ≡ is_some sid
+pub counted_made : (dir : Directory) (meta : Meta) (gets : Bool) (number rid : ℕ) (suffix : List Rdn)
+    (sid : Option SidValue) → meta ≡ dir.meta
+    → number ≡ meta.next_number + 1 → rid ≡ (if gets then meta.next_rid + 1 else meta.next_rid) → suffix ≡ meta.suffix
+    → gets ≡ is_some sid
     → record { next_number = number; next_rid = rid; suffix = suffix } ≡ counted_on dir.meta sid
 counted_made dir meta gets number rid suffix None is next more same none =
     ap (λ (n : ℕ). record { next_number = n; next_rid = rid; suffix = suffix }) next
@@ -187,10 +237,12 @@ counted_made dir meta gets number rid suffix (Some s) is next more same some =
     ap (λ (n : ℕ). record { next_number = n; next_rid = rid; suffix = suffix }) next
     ∙ ap (λ (r : ℕ). record { next_number = meta.next_number + 1; next_rid = r; suffix = suffix })
     (more ∙ ap (λ (b : Bool). if b then meta.next_rid + 1 else meta.next_rid) some)
-    ∙ ap (λ (t : List Rdn). record { next_number = meta.next_number + 1; next_rid = meta.next_rid + 1; suffix = t }) same
+    ∙ ap (λ (t : List Rdn). record { next_number = meta.next_number + 1; next_rid = meta.next_rid + 1; suffix = t })
+    same
     ∙ ap (λ (m : Meta). counted_on m (Some s)) is
 
-pub fits_is : (dir : Directory) (o : Object) (object : ObjectIn) (gets few shallow light counted all : Bool) → IsNewObject dir o object gets
+pub fits_is : (dir : Directory) (o : Object) (object : ObjectIn) (gets few shallow light counted all : Bool)
+    → IsNewObject dir o object gets
     → few ≡ nat_lt (length dir.objects) max_objects → shallow ≡ nat_lt (depth_of (parents dir) object.parent) max_depth
     → ((sd : Sd) → light ≡ is_light_with dir (object_seen object sd))
     → counted ≡ (nat_lt dir.meta.next_number max_counter && (not gets || nat_lt dir.meta.next_rid max_counter))
@@ -200,9 +252,11 @@ fits_is dir o object gets few shallow light counted all new f s l c a =
     a ∙ ap (λ (b : Bool). b && (shallow && (light && counted))) f
     ∙ ap (λ (b : Bool). nat_lt (length dir.objects) max_objects && (b && (light && counted)))
     (s ∙ ap (λ (x : Object). nat_lt (depth_of (parents dir) x.parent) max_depth) new.seen)
-    ∙ ap (λ (b : Bool). nat_lt (length dir.objects) max_objects && (nat_lt (depth_of (parents dir) o.parent) max_depth && (b && counted)))
+    ∙ ap (λ (b : Bool). nat_lt (length dir.objects) max_objects
+    && (nat_lt (depth_of (parents dir) o.parent) max_depth && (b && counted)))
     (l o.sd ∙ ap (is_light_with dir) new.seen)
-    ∙ ap (λ (b : Bool). nat_lt (length dir.objects) max_objects && (nat_lt (depth_of (parents dir) o.parent) max_depth && (is_light_with dir (numbered dir o) && b)))
+    ∙ ap (λ (b : Bool). nat_lt (length dir.objects) max_objects
+    && (nat_lt (depth_of (parents dir) o.parent) max_depth && (is_light_with dir (numbered dir o) && b)))
     (c ∙ ap (λ (b : Bool). nat_lt dir.meta.next_number max_counter && b)
     (counts_sid (new_sid dir o.class) gets (nat_lt dir.meta.next_rid max_counter) new.gets))
 
@@ -217,125 +271,183 @@ attr_rest dir attr sent =
     ∷ []
 
 module _ (dir : Directory) (attr : AttrId) (sent : List (List ℕ)) where
-  pub attr_read_stops : (r : Refusal) → first_failing (reading_checks dir.schema attr.0 sent) ≡ Some r → first_failing (attr_checks dir (attr, sent)) ≡ Some r
+  pub attr_read_stops : (r : Refusal) → first_failing (reading_checks dir.schema attr.0 sent) ≡ Some r
+      → first_failing (attr_checks dir (attr, sent)) ≡ Some r
   attr_read_stops r is = one_fails (reading_checks dir.schema attr.0 sent) (attr_rest dir attr sent) r is
 
   module _ (none : first_failing (reading_checks dir.schema attr.0 sent) ≡ None) where
-    pub attr_twice : is_given_twice dir.schema attr.0 sent ≡ true → first_failing (attr_checks dir (attr, sent)) ≡ Some (code 20)
-    attr_twice is = then_fails (reading_checks dir.schema attr.0 sent) (drop 1 (attr_rest dir attr sent)) (not (is_given_twice dir.schema attr.0 sent)) 20 none (ap not is)
+    pub attr_twice : is_given_twice dir.schema attr.0 sent ≡ true → first_failing (attr_checks dir (attr, sent))
+        ≡ Some (code 20)
+    attr_twice is = then_fails (reading_checks dir.schema attr.0 sent) (drop 1 (attr_rest dir attr sent))
+        (not (is_given_twice dir.schema attr.0 sent)) 20 none (ap not is)
 
     once : is_given_twice dir.schema attr.0 sent ≡ false
-        → first_failing (reading_checks dir.schema attr.0 sent ++ or_code (not (is_given_twice dir.schema attr.0 sent)) 20 ∷ []) ≡ None
-    once is = then_holds (reading_checks dir.schema attr.0 sent) (not (is_given_twice dir.schema attr.0 sent)) 20 none (ap not is)
+        → first_failing (reading_checks dir.schema attr.0 sent
+        ++ or_code (not (is_given_twice dir.schema attr.0 sent)) 20 ∷ []) ≡ None
+    once is = then_holds (reading_checks dir.schema attr.0 sent) (not (is_given_twice dir.schema attr.0 sent)) 20 none
+        (ap not is)
 
     module _ (single : is_given_twice dir.schema attr.0 sent ≡ false) where
-      pub attr_many : (is_single dir.schema attr.0 && nat_lt 1 (length sent)) ≡ true → first_failing (attr_checks dir (attr, sent)) ≡ Some (code 19)
-      attr_many is = then_fails (reading_checks dir.schema attr.0 sent ++ or_code (not (is_given_twice dir.schema attr.0 sent)) 20 ∷ [])
-          (drop 2 (attr_rest dir attr sent)) (not (is_single dir.schema attr.0 && nat_lt 1 (length sent))) 19 (once single) (ap not is)
+      pub attr_many : (is_single dir.schema attr.0 && nat_lt 1 (length sent)) ≡ true
+          → first_failing (attr_checks dir (attr, sent)) ≡ Some (code 19)
+      attr_many is = then_fails (reading_checks dir.schema attr.0 sent
+          ++ or_code (not (is_given_twice dir.schema attr.0 sent)) 20 ∷ [])
+          (drop 2 (attr_rest dir attr sent)) (not (is_single dir.schema attr.0 && nat_lt 1 (length sent))) 19
+          (once single) (ap not is)
 
       few : (is_single dir.schema attr.0 && nat_lt 1 (length sent)) ≡ false
-          → first_failing (reading_checks dir.schema attr.0 sent ++ (or_code (not (is_given_twice dir.schema attr.0 sent)) 20
+          → first_failing (reading_checks dir.schema attr.0 sent
+          ++ (or_code (not (is_given_twice dir.schema attr.0 sent)) 20
           ∷ or_code (not (is_single dir.schema attr.0 && nat_lt 1 (length sent))) 19 ∷ [])) ≡ None
-      few is = then_holds (reading_checks dir.schema attr.0 sent ++ or_code (not (is_given_twice dir.schema attr.0 sent)) 20 ∷ [])
+      few is = then_holds (reading_checks dir.schema attr.0 sent
+          ++ or_code (not (is_given_twice dir.schema attr.0 sent)) 20 ∷ [])
           (not (is_single dir.schema attr.0 && nat_lt 1 (length sent))) 19 (once single) (ap not is)
 
       module _ (one : (is_single dir.schema attr.0 && nat_lt 1 (length sent)) ≡ false) where
-        pub attr_lead_stops : (r : Refusal) → first_failing (or_code (list_all (leads dir attr.0) sent) 19 ∷ []) ≡ Some r
+        pub attr_lead_stops : (r : Refusal) → first_failing (or_code (list_all (leads dir attr.0) sent) 19 ∷ [])
+            ≡ Some r
             → first_failing (attr_checks dir (attr, sent)) ≡ Some r
-        attr_lead_stops r is = later_fails (reading_checks dir.schema attr.0 sent ++ (or_code (not (is_given_twice dir.schema attr.0 sent)) 20
+        attr_lead_stops r is = later_fails
+            (reading_checks dir.schema attr.0 sent ++ (or_code (not (is_given_twice dir.schema attr.0 sent)) 20
             ∷ or_code (not (is_single dir.schema attr.0 && nat_lt 1 (length sent))) 19 ∷ []))
-            (or_code (list_all (leads dir attr.0) sent) 19 ∷ []) (or_code (list_all (is_no_empty_password dir.schema attr.0) sent) 19 ∷ []) r (few one) is
+            (or_code (list_all (leads dir attr.0) sent) 19 ∷ [])
+            (or_code (list_all (is_no_empty_password dir.schema attr.0) sent) 19 ∷ []) r (few one) is
 
         lead : first_failing (or_code (list_all (leads dir attr.0) sent) 19 ∷ []) ≡ None
-            → first_failing (reading_checks dir.schema attr.0 sent ++ (or_code (not (is_given_twice dir.schema attr.0 sent)) 20
-            ∷ or_code (not (is_single dir.schema attr.0 && nat_lt 1 (length sent))) 19 ∷ or_code (list_all (leads dir attr.0) sent) 19 ∷ [])) ≡ None
-        lead is = both_none (reading_checks dir.schema attr.0 sent ++ (or_code (not (is_given_twice dir.schema attr.0 sent)) 20
-            ∷ or_code (not (is_single dir.schema attr.0 && nat_lt 1 (length sent))) 19 ∷ [])) (or_code (list_all (leads dir attr.0) sent) 19 ∷ []) (few one) is
+            → first_failing (reading_checks dir.schema attr.0 sent
+            ++ (or_code (not (is_given_twice dir.schema attr.0 sent)) 20
+            ∷ or_code (not (is_single dir.schema attr.0 && nat_lt 1 (length sent))) 19
+            ∷ or_code (list_all (leads dir attr.0) sent) 19 ∷ [])) ≡ None
+        lead is = both_none (reading_checks dir.schema attr.0 sent
+            ++ (or_code (not (is_given_twice dir.schema attr.0 sent)) 20
+            ∷ or_code (not (is_single dir.schema attr.0 && nat_lt 1 (length sent))) 19 ∷ []))
+            (or_code (list_all (leads dir attr.0) sent) 19 ∷ []) (few one) is
 
         pub attr_empty : first_failing (or_code (list_all (leads dir attr.0) sent) 19 ∷ []) ≡ None
-            → list_all (is_no_empty_password dir.schema attr.0) sent ≡ false → first_failing (attr_checks dir (attr, sent)) ≡ Some (code 19)
-        attr_empty leads_all is = then_fails (reading_checks dir.schema attr.0 sent ++ (or_code (not (is_given_twice dir.schema attr.0 sent)) 20
-            ∷ or_code (not (is_single dir.schema attr.0 && nat_lt 1 (length sent))) 19 ∷ or_code (list_all (leads dir attr.0) sent) 19 ∷ []))
+            → list_all (is_no_empty_password dir.schema attr.0) sent ≡ false
+            → first_failing (attr_checks dir (attr, sent)) ≡ Some (code 19)
+        attr_empty leads_all is = then_fails
+            (reading_checks dir.schema attr.0 sent ++ (or_code (not (is_given_twice dir.schema attr.0 sent)) 20
+            ∷ or_code (not (is_single dir.schema attr.0 && nat_lt 1 (length sent))) 19
+            ∷ or_code (list_all (leads dir attr.0) sent) 19 ∷ []))
             [] (list_all (is_no_empty_password dir.schema attr.0) sent) 19 (lead leads_all) is
 
         pub attr_fine : first_failing (or_code (list_all (leads dir attr.0) sent) 19 ∷ []) ≡ None
-            → list_all (is_no_empty_password dir.schema attr.0) sent ≡ true → first_failing (attr_checks dir (attr, sent)) ≡ None
-        attr_fine leads_all is = then_holds (reading_checks dir.schema attr.0 sent ++ (or_code (not (is_given_twice dir.schema attr.0 sent)) 20
-            ∷ or_code (not (is_single dir.schema attr.0 && nat_lt 1 (length sent))) 19 ∷ or_code (list_all (leads dir attr.0) sent) 19 ∷ []))
+            → list_all (is_no_empty_password dir.schema attr.0) sent ≡ true
+            → first_failing (attr_checks dir (attr, sent)) ≡ None
+        attr_fine leads_all is = then_holds
+            (reading_checks dir.schema attr.0 sent ++ (or_code (not (is_given_twice dir.schema attr.0 sent)) 20
+            ∷ or_code (not (is_single dir.schema attr.0 && nat_lt 1 (length sent))) 19
+            ∷ or_code (list_all (leads dir attr.0) sent) 19 ∷ []))
             (list_all (is_no_empty_password dir.schema attr.0) sent) 19 (lead leads_all) is
 
 -- ---- the checks of what is sent
 
-module _ (dir : Directory) (token : Token) (parent class : ℕ) (values : List (AttrId × List (List ℕ))) (sd : Option SdParts) where
-  pub sent_owner : is_owner_allowed token sd ≡ false → first_failing (sent_checks dir token parent class values sd) ≡ Some (code 19)
+module _ (dir : Directory) (token : Token) (parent class : ℕ) (values : List (AttrId × List (List ℕ)))
+    (sd : Option SdParts) where
+  pub sent_owner : is_owner_allowed token sd ≡ false → first_failing (sent_checks dir token parent class values sd)
+      ≡ Some (code 19)
   sent_owner is = head_fails (or_code (is_owner_allowed token sd) 19) _ is
 
   module _ (owner : is_owner_allowed token sd ≡ true) where
-    pub sent_under : is_under dir.schema class (class_at dir parent) ≡ false → first_failing (sent_checks dir token parent class values sd) ≡ Some (code 64)
-    sent_under is = head_passes (or_code (is_owner_allowed token sd) 19) _ owner ∙ head_fails (or_code (is_under dir.schema class (class_at dir parent)) 64) _ is
+    pub sent_under : is_under dir.schema class (class_at dir parent) ≡ false
+        → first_failing (sent_checks dir token parent class values sd) ≡ Some (code 64)
+    sent_under is = head_passes (or_code (is_owner_allowed token sd) 19) _ owner
+        ∙ head_fails (or_code (is_under dir.schema class (class_at dir parent)) 64) _ is
 
     module _ (under : is_under dir.schema class (class_at dir parent) ≡ true) where
       rest : List Check
-      rest = or_code (list_all (λ (attr : AttrId × List (List ℕ)). is_allowed dir.schema class attr.0.0) values) 65 ∷ or_code (has_musts dir class values) 65 ∷ []
+      rest = or_code (list_all (λ (attr : AttrId × List (List ℕ)). is_allowed dir.schema class attr.0.0) values) 65
+          ∷ or_code (has_musts dir class values) 65 ∷ []
 
-      decided : first_failing (sent_checks dir token parent class values sd) ≡ first_failing (flat_map (attr_checks dir) values
-          ++ (or_code (list_all (λ (attr : AttrId × List (List ℕ)). is_allowed dir.schema class attr.0.0) values) 65 ∷ or_code (has_musts dir class values) 65 ∷ []))
-      decided = head_passes (or_code (is_owner_allowed token sd) 19) _ owner ∙ head_passes (or_code (is_under dir.schema class (class_at dir parent)) 64) _ under
+      decided : first_failing (sent_checks dir token parent class values sd)
+          ≡ first_failing (flat_map (attr_checks dir) values
+          ++ (or_code (list_all (λ (attr : AttrId × List (List ℕ)). is_allowed dir.schema class attr.0.0) values) 65
+          ∷ or_code (has_musts dir class values) 65 ∷ []))
+      decided = head_passes (or_code (is_owner_allowed token sd) 19) _ owner
+          ∙ head_passes (or_code (is_under dir.schema class (class_at dir parent)) 64) _ under
 
-      pub sent_values : (r : Refusal) → first_failing (flat_map (attr_checks dir) values) ≡ Some r → first_failing (sent_checks dir token parent class values sd) ≡ Some r
+      pub sent_values : (r : Refusal) → first_failing (flat_map (attr_checks dir) values) ≡ Some r
+          → first_failing (sent_checks dir token parent class values sd) ≡ Some r
       sent_values r is = decided ∙ one_fails (flat_map (attr_checks dir) values) _ r is
 
       module _ (each : first_failing (flat_map (attr_checks dir) values) ≡ None) where
-        pub sent_allowed : list_all (λ (attr : AttrId × List (List ℕ)). is_allowed dir.schema class attr.0.0) values ≡ false
+        pub sent_allowed : list_all (λ (attr : AttrId × List (List ℕ)). is_allowed dir.schema class attr.0.0) values
+            ≡ false
             → first_failing (sent_checks dir token parent class values sd) ≡ Some (code 65)
-        sent_allowed is = decided ∙ then_fails (flat_map (attr_checks dir) values) (or_code (has_musts dir class values) 65 ∷ [])
+        sent_allowed is = decided ∙ then_fails (flat_map (attr_checks dir) values)
+            (or_code (has_musts dir class values) 65 ∷ [])
             (list_all (λ (attr : AttrId × List (List ℕ)). is_allowed dir.schema class attr.0.0) values) 65 each is
 
-        pub sent_musts : list_all (λ (attr : AttrId × List (List ℕ)). is_allowed dir.schema class attr.0.0) values ≡ true → has_musts dir class values ≡ false
+        pub sent_musts : list_all (λ (attr : AttrId × List (List ℕ)). is_allowed dir.schema class attr.0.0) values
+            ≡ true → has_musts dir class values ≡ false
             → first_failing (sent_checks dir token parent class values sd) ≡ Some (code 65)
         sent_musts allowed is = decided ∙ all_pass (flat_map (attr_checks dir) values) _ each
-            ∙ head_passes (or_code (list_all (λ (attr : AttrId × List (List ℕ)). is_allowed dir.schema class attr.0.0) values) 65) _ allowed
+            ∙ head_passes (or_code (list_all (λ (attr : AttrId × List (List ℕ)). is_allowed dir.schema class attr.0.0)
+            values) 65) _ allowed
             ∙ head_fails (or_code (has_musts dir class values) 65) [] is
 
-        pub sent_fine : list_all (λ (attr : AttrId × List (List ℕ)). is_allowed dir.schema class attr.0.0) values ≡ true → has_musts dir class values ≡ true
+        pub sent_fine : list_all (λ (attr : AttrId × List (List ℕ)). is_allowed dir.schema class attr.0.0) values
+            ≡ true → has_musts dir class values ≡ true
             → first_failing (sent_checks dir token parent class values sd) ≡ None
         unfolding first_failing
         sent_fine allowed is = decided ∙ all_pass (flat_map (attr_checks dir) values) _ each
-            ∙ head_passes (or_code (list_all (λ (attr : AttrId × List (List ℕ)). is_allowed dir.schema class attr.0.0) values) 65) (or_code (has_musts dir class values) 65 ∷ []) allowed
+            ∙ head_passes (or_code (list_all (λ (attr : AttrId × List (List ℕ)). is_allowed dir.schema class attr.0.0)
+            values) 65) (or_code (has_musts dir class values) 65 ∷ []) allowed
             ∙ head_passes (or_code (has_musts dir class values) 65) [] is
 
 -- ---- all checks
 
-module _ (dir : Directory) (token : Token) (parent class : ℕ) (name : List ℕ) (values : List (AttrId × List (List ℕ))) (sd : Option SdParts) where
+module _ (dir : Directory) (token : Token) (parent class : ℕ) (name : List ℕ) (values : List (AttrId × List (List ℕ)))
+    (sd : Option SdParts) where
   pub add_stops : (r : Refusal) → first_failing (sent_checks dir token parent class values sd) ≡ Some r
       → first_failing (add_later dir token parent class name values sd) ≡ Some r
-  add_stops r is = ap first_failing (add_parts dir token parent class name values sd) ∙ one_fails (sent_checks dir token parent class values sd) _ r is
+  add_stops r is = ap first_failing (add_parts dir token parent class name values sd)
+      ∙ one_fails (sent_checks dir token parent class values sd) _ r is
 
   module _ (none : first_failing (sent_checks dir token parent class values sd) ≡ None) where
-    pub add_taken : is_none (child_named dir.objects parent name) ≡ false → first_failing (add_later dir token parent class name values sd) ≡ Some (code 68)
+    pub add_taken : is_none (child_named dir.objects parent name) ≡ false
+        → first_failing (add_later dir token parent class name values sd) ≡ Some (code 68)
     add_taken is = ap first_failing (add_parts dir token parent class name values sd)
-        ∙ then_fails (sent_checks dir token parent class values sd) (or_code (fits_in dir (new_object dir token parent class name values sd)) 11 ∷ [])
+        ∙ then_fails (sent_checks dir token parent class values sd)
+        (or_code (fits_in dir (new_object dir token parent class name values sd)) 11 ∷ [])
         (is_none (child_named dir.objects parent name)) 68 none is
 
-    pub add_full : is_none (child_named dir.objects parent name) ≡ true → fits_in dir (new_object dir token parent class name values sd) ≡ false
+    pub add_full : is_none (child_named dir.objects parent name) ≡ true
+        → fits_in dir (new_object dir token parent class name values sd) ≡ false
         → first_failing (add_later dir token parent class name values sd) ≡ Some (code 11)
     add_full free is = ap first_failing (add_parts dir token parent class name values sd)
-        ∙ all_pass (sent_checks dir token parent class values sd) _ none ∙ head_passes (or_code (is_none (child_named dir.objects parent name)) 68) _ free
+        ∙ all_pass (sent_checks dir token parent class values sd) _ none
+        ∙ head_passes (or_code (is_none (child_named dir.objects parent name)) 68) _ free
         ∙ head_fails (or_code (fits_in dir (new_object dir token parent class name values sd)) 11) [] is
 
-    pub add_fine : is_none (child_named dir.objects parent name) ≡ true → fits_in dir (new_object dir token parent class name values sd) ≡ true
+    pub add_fine : is_none (child_named dir.objects parent name) ≡ true
+        → fits_in dir (new_object dir token parent class name values sd) ≡ true
         → first_failing (add_later dir token parent class name values sd) ≡ None
     unfolding first_failing
     add_fine free is = ap first_failing (add_parts dir token parent class name values sd)
-        ∙ all_pass (sent_checks dir token parent class values sd) _ none ∙ head_passes (or_code (is_none (child_named dir.objects parent name)) 68) (or_code (fits_in dir (new_object dir token parent class name values sd)) 11 ∷ []) free
+        ∙ all_pass (sent_checks dir token parent class values sd) _ none
+        ∙ head_passes (or_code (is_none (child_named dir.objects parent name)) 68)
+        (or_code (fits_in dir (new_object dir token parent class name values sd)) 11 ∷ []) free
         ∙ head_passes (or_code (fits_in dir (new_object dir token parent class name values sd)) 11) [] is
 
   pub made_is_new : (object : ObjectIn) (held : List Held) (gets : Bool) → held ≡ all_held dir values
-      → ((s : Sd) → object_seen object s ≡ numbered dir (record { number = 0; parent = parent; class = class; name = name; values = held; sd = s }))
-      → gets ≡ is_some (new_sid dir class) → IsNewObject dir (new_object dir token parent class name values sd) object gets
+      → ((s : Sd) → object_seen object s ≡ numbered dir
+      (record { number = 0; parent = parent; class = class; name = name; values = held; sd = s }))
+      → gets ≡ is_some (new_sid dir class) → IsNewObject dir (new_object dir token parent class name values sd) object
+      gets
   unfolding new_object
   made_is_new object held gets is seen gets_is = record {
     seen = seen (new_object dir token parent class name values sd).sd
-        ∙ ap (λ (vs : List Held). numbered dir (record { number = 0; parent = parent; class = class; name = name; values = vs; sd = (new_object dir token parent class name values sd).sd })) is;
+        ∙ ap (λ (vs : List Held). numbered dir
+        (record {
+          number = 0;
+          parent = parent;
+          class = class;
+          name = name;
+          values = vs;
+          sd
+              = (new_object dir token parent class name values sd).sd;
+        })) is;
     gets = gets_is;
   }

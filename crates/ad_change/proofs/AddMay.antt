@@ -1,5 +1,6 @@
 -- The edits of an addition may be applied, and make it.
-use Rattle.std.proofs.Common.{◌≡◌, ℕ, ◌<◌, ◌≤◌, true, List, [], ◌∷◌, ◌++◌, map, Option, None, refl, sym, subst, ap, ◌∙◌, arith}
+use Rattle.std.proofs.Common.{◌≡◌, ℕ, ◌<◌, ◌≤◌, true, List, [], ◌∷◌, ◌++◌, map, Option, None, refl, sym, subst, ap}
+use Rattle.std.proofs.Common.{◌∙◌, arith}
 use Rattle.std.specs.List.{AllByRecursion, flat_map}
 use Rattle.std.specs.Prelude.{is_some, length, Bool, Some, IfSome}
 use Rattle.std.proofs.lemmas.Bool.{false≢true}
@@ -57,20 +58,23 @@ use Rattle.ad_change.proofs.ResolvedValues.{HasByteAttr, IsAddition}
 
 -- ---- where the new directory is sound
 
-module _ (dir : Directory) (o : Object) (sound : IsSound dir) (after : IsSound (added dir o)) (parent_live : is_live dir.objects o.parent ≡ true) where
+module _ (dir : Directory) (o : Object) (sound : IsSound dir) (after : IsSound (added dir o))
+    (parent_live : is_live dir.objects o.parent ≡ true) where
   new_put : MayPut dir (settled dir (numbered dir o))
   unfolding added max_counter
   new_put =
       let x : Object = settled dir (numbered dir o) in
       let new : IsNew dir dir.meta.next_number = next_is_new dir sound in
-      let is : IsSoundObject (added dir o) (settled dir (numbered dir o)) = after.each dir.meta.next_number (settled dir (numbered dir o))
+      let is : IsSoundObject (added dir o) (settled dir (numbered dir o)) = after.each dir.meta.next_number
+      (settled dir (numbered dir o))
       (of-put_same (settled dir (numbered dir o)) dir.objects) in
       record {
         some =
             let first : root < dir.meta.next_number = sound.frame.counters.number_above root sound.frame.root_live in
             omega (arith, first);
         fits_number =
-            let above : dir.meta.next_number < (added dir o).meta.next_number = after.frame.counters.number_above dir.meta.next_number
+            let above : dir.meta.next_number < (added dir o).meta.next_number = after.frame.counters.number_above
+            dir.meta.next_number
             (live-put_same (settled dir (numbered dir o)) dir.objects) in
             let within : (added dir o).meta.next_number ≤ max_counter = after.frame.counters.number_fits in
             omega (arith, above, within);
@@ -78,9 +82,11 @@ module _ (dir : Directory) (o : Object) (sound : IsSound dir) (after : IsSound (
           content = is.content;
           links = is.links;
           own_name = λ m other at same_parent same_name. is.own_name m other
-              (of-put_other (settled dir (numbered dir o)) dir.objects m (new.apart m (live-of dir.objects m other at)) ∙ at) same_parent same_name;
+              (of-put_other (settled dir (numbered dir o)) dir.objects m
+              (new.apart m (live-of dir.objects m other at)) ∙ at) same_parent same_name;
           own_sid = λ m other sid at has own. is.own_sid m other sid
-              (of-put_other (settled dir (numbered dir o)) dir.objects m (new.apart m (live-of dir.objects m other at)) ∙ at) has own;
+              (of-put_other (settled dir (numbered dir o)) dir.objects m
+              (new.apart m (live-of dir.objects m other at)) ∙ at) has own;
         };
         no_parent = λ top. absurd (new.below top);
         parent_live = λ below. parent_live;
@@ -92,7 +98,8 @@ module _ (dir : Directory) (o : Object) (sound : IsSound dir) (after : IsSound (
   new_may = (new_put, (tt, tt))
 
 added_is : ReadsBack → SidsRead → (dir : Directory) (token : Token) (parent class : ℕ) (name : List ℕ)
-    (values : List (AttrId × List (List ℕ))) (sd : Option SdParts) → IsSound dir → HasDomain dir → IsAddition dir parent class name values
+    (values : List (AttrId × List (List ℕ))) (sd : Option SdParts) → IsSound dir → HasDomain dir
+    → IsAddition dir parent class name values
     → AllByRecursion HasByteAttr values → first_failing (add_later dir token parent class name values sd) ≡ None
     → IsSound (added dir (new_object dir token parent class name values sd))
 unfolding add_later
@@ -104,18 +111,22 @@ added_is back w dir token parent class name values sd sound has is bytes none =
     let musts = head_holds _ _ allowed.1 in
     let free = head_holds _ _ musts.1 in
     let fits = head_holds _ _ free.1 in
-    add_is_sound back w dir token parent class name values sd sound has is.parent_live is.class_within is.value (is.attrs bytes) free.0 fits.0
+    add_is_sound back w dir token parent class name values sd sound has is.parent_live is.class_within is.value
+    (is.attrs bytes) free.0 fits.0
 
-parent_of_new : (dir : Directory) (token : Token) (parent class : ℕ) (name : List ℕ) (values : List (AttrId × List (List ℕ))) (sd : Option SdParts)
+parent_of_new : (dir : Directory) (token : Token) (parent class : ℕ) (name : List ℕ)
+    (values : List (AttrId × List (List ℕ))) (sd : Option SdParts)
     → (new_object dir token parent class name values sd).parent ≡ parent
 unfolding new_object
 parent_of_new dir token parent class name values sd = refl
 
-pub addition_is : ReadsBack → SidsRead → (dir : Directory) (token : Token) (parent : ℕ) (class : ClassId) (name : List ℕ)
+pub addition_is : ReadsBack → SidsRead → (dir : Directory) (token : Token) (parent : ℕ) (class : ClassId)
+    (name : List ℕ)
     (values : List (AttrId × List (List ℕ))) (sd : Option SdParts) (edits : List EditIn) → IsSound dir → HasDomain dir
     → IsAddition dir parent class.0 name values → AllByRecursion HasByteAttr values
     → first_failing (add_later dir token parent class.0 name values sd) ≡ None
-    → AreEdits (add_edits dir (new_object dir token parent class.0 name values sd)) edits → AreEditsOf dir token (act.Add parent class name values sd) edits
+    → AreEdits (add_edits dir (new_object dir token parent class.0 name values sd)) edits
+    → AreEditsOf dir token (act.Add parent class name values sd) edits
 unfolding later_checks made
 addition_is back w dir token parent class name values sd edits sound has is bytes none are = record {
   holds = none;
@@ -133,7 +144,8 @@ addition_is back w dir token parent class name values sd edits sound has is byte
 
 -- ---- what the two edits are
 
-pub new_made : (dir : Directory) (token : Token) (o : Object) (object : ObjectIn) (items : List EditIn) (bytes : Vec ℕ) (meta : MetaIn)
+pub new_made : (dir : Directory) (token : Token) (o : Object) (object : ObjectIn) (items : List EditIn)
+    (bytes : Vec ℕ) (meta : MetaIn)
     (sd : Option SdParts) → IsSound dir → items ≡ ([] ++ edit.PutObject object bytes ∷ []) ++ edit.PutMeta meta ∷ []
     → SpellsNormal (new_whole dir token object.parent object.class.0 sd) bytes.items
     → meta_seen meta ≡ counted_on dir.meta (new_sid dir o.class) → o.parent ≡ object.parent → o.class ≡ object.class.0
@@ -142,7 +154,8 @@ pub new_made : (dir : Directory) (token : Token) (o : Object) (object : ObjectIn
 new_made dir token o object items bytes meta sd sound parts spelled counted parent class own seen = record {
   are = ap (map edit_seen) parts ∙ ap (λ (x : Object). put_object x ∷ put_meta (meta_seen meta) ∷ []) object_is
       ∙ ap (λ (m : Meta). put_object (settled dir (numbered dir o)) ∷ put_meta m ∷ []) counted;
-  normal = subst (AllByRecursion HasNormal) (sym parts) (subst (λ (x : Sd). SpellsNormal x bytes.items) (sym in_bytes) spelled, (tt, tt));
+  normal = subst (AllByRecursion HasNormal) (sym parts)
+      (subst (λ (x : Sd). SpellsNormal x bytes.items) (sym in_bytes) spelled, (tt, tt));
 }
   where
     in_bytes : sd_in bytes.items ≡ new_whole dir token object.parent object.class.0 sd
@@ -150,17 +163,21 @@ new_made dir token o object items bytes meta sd sound parts spelled counted pare
 
     whole_is : new_whole dir token object.parent object.class.0 sd ≡ whole_at dir (numbered dir o)
     whole_is =
-        ap (λ (p : ℕ). new_whole dir token p object.class.0 sd) (sym parent) ∙ ap (λ (c : ℕ). new_whole dir token o.parent c sd) (sym class)
+        ap (λ (p : ℕ). new_whole dir token p object.class.0 sd) (sym parent)
+        ∙ ap (λ (c : ℕ). new_whole dir token o.parent c sd) (sym class)
         ∙ ap (λ (x : Sd). whole (sd_at dir.objects o.parent) x (guid_at dir.schema o.class)) (sym own)
         ∙ sym (whole_below dir (numbered dir o) (next_is_new dir sound).below)
 
     object_is : object_seen object (sd_in bytes.items) ≡ settled dir (numbered dir o)
-    object_is = ap (object_seen object) (in_bytes ∙ whole_is) ∙ ap (λ (x : Object). record x { sd = whole_at dir (numbered dir o) }) seen
+    object_is = ap (object_seen object) (in_bytes ∙ whole_is)
+        ∙ ap (λ (x : Object). record x { sd = whole_at dir (numbered dir o) }) seen
 
 -- ---- as the code has it
 
-pub whole_made : (dir : Directory) (token : Token) (parent class : ℕ) (sd given : Option SdParts) (above : Sd) (default : SdParts) (guid : Guid)
-    (schema : List SchemaRecord) (domain : Option SidValue) → above ≡ sd_at dir.objects parent → given ≡ sd → schema ≡ dir.schema → domain ≡ self_sid dir root
+pub whole_made : (dir : Directory) (token : Token) (parent class : ℕ) (sd given : Option SdParts) (above : Sd)
+    (default : SdParts) (guid : Guid)
+    (schema : List SchemaRecord) (domain : Option SidValue) → above ≡ sd_at dir.objects parent → given ≡ sd → schema
+    ≡ dir.schema → domain ≡ self_sid dir root
     → default ≡ default_of schema domain class → guid ≡ guid_at schema class
     → whole above (chosen given default token.owner token.primary) guid ≡ new_whole dir token parent class sd
 unfolding domain_sid
@@ -168,8 +185,10 @@ whole_made dir token parent class sd given above default guid schema domain a g 
     ap (λ (x : Sd). whole x (chosen given default token.owner token.primary) guid) a
     ∙ ap (λ (x : Option SdParts). whole (sd_at dir.objects parent) (chosen x default token.owner token.primary) guid) g
     ∙ ap (λ (x : SdParts). whole (sd_at dir.objects parent) (chosen sd x token.owner token.primary) guid)
-    (p ∙ ap (λ (x : List SchemaRecord). default_of x domain class) s ∙ ap (λ (x : Option SidValue). default_of dir.schema x class) d)
-    ∙ ap (λ (x : Guid). whole (sd_at dir.objects parent) (chosen sd (default_of dir.schema (self_sid dir root) class) token.owner token.primary) x)
+    (p ∙ ap (λ (x : List SchemaRecord). default_of x domain class) s
+    ∙ ap (λ (x : Option SidValue). default_of dir.schema x class) d)
+    ∙ ap (λ (x : Guid). whole (sd_at dir.objects parent)
+    (chosen sd (default_of dir.schema (self_sid dir root) class) token.owner token.primary) x)
     (c ∙ ap (λ (x : List SchemaRecord). guid_at x class) s)
 
 pub attrs_within : (dir : Directory) (values : List (AttrId × List (List ℕ))) → AllByRecursion (IsPlainAttr dir) values
@@ -178,7 +197,8 @@ attrs_within dir [] are = tt
 attrs_within dir (attr ∷ values) are = (are.0.within, attrs_within dir values are.1)
 
 -- what the limits say of the counters
-pub counters_fit : (dir : Directory) (token : Token) (parent class : ℕ) (name : List ℕ) (values : List (AttrId × List (List ℕ))) (sd : Option SdParts)
+pub counters_fit : (dir : Directory) (token : Token) (parent class : ℕ) (name : List ℕ)
+    (values : List (AttrId × List (List ℕ))) (sd : Option SdParts)
     → first_failing (add_later dir token parent class name values sd) ≡ None
     → (dir.meta.next_number < max_counter) × (is_some (new_sid dir class) ≡ true → dir.meta.next_rid < max_counter)
 unfolding add_later new_object
@@ -193,25 +213,32 @@ counters_fit dir token parent class name values sd none =
     let room = room_of dir (new_object dir token parent class name values sd) fits.0 in
     (room.number, by_sid (new_sid dir class) room.rid)
   where
-    by_sid : (sid : Option SidValue) → IfSome sid (λ x. dir.meta.next_rid < max_counter) → is_some sid ≡ true → dir.meta.next_rid < max_counter
+    by_sid : (sid : Option SidValue) → IfSome sid (λ x. dir.meta.next_rid < max_counter) → is_some sid ≡ true
+        → dir.meta.next_rid < max_counter
     by_sid None fits is = absurd (false≢true is)
     by_sid (Some s) fits is = fits
 
-pub new_own : (dir : Directory) (token : Token) (parent class : ℕ) (name : List ℕ) (values : List (AttrId × List (List ℕ))) (sd : Option SdParts)
+pub new_own : (dir : Directory) (token : Token) (parent class : ℕ) (name : List ℕ)
+    (values : List (AttrId × List (List ℕ))) (sd : Option SdParts)
     → (new_object dir token parent class name values sd).sd
-    ≡ chosen sd (default_of dir.schema (domain_sid dir) (new_object dir token parent class name values sd).class) token.owner token.primary
+    ≡ chosen sd (default_of dir.schema (domain_sid dir) (new_object dir token parent class name values sd).class)
+    token.owner token.primary
 unfolding new_object
 new_own dir token parent class name values sd = refl
 
-pub new_place : (dir : Directory) (token : Token) (parent class : ℕ) (name : List ℕ) (values : List (AttrId × List (List ℕ))) (sd : Option SdParts)
+pub new_place : (dir : Directory) (token : Token) (parent class : ℕ) (name : List ℕ)
+    (values : List (AttrId × List (List ℕ))) (sd : Option SdParts)
     (object : ObjectIn) (gets : Bool) → IsNewObject dir (new_object dir token parent class name values sd) object gets
     → (object.parent ≡ parent) × (object.class.0 ≡ class)
 unfolding new_object
-new_place dir token parent class name values sd object gets new = (ap (λ (x : Object). x.parent) new.seen, ap (λ (x : Object). x.class) new.seen)
+new_place dir token parent class name values sd object gets new
+    = (ap (λ (x : Object). x.parent) new.seen, ap (λ (x : Object). x.class) new.seen)
 
-pub new_place_back : (dir : Directory) (token : Token) (parent class : ℕ) (name : List ℕ) (values : List (AttrId × List (List ℕ))) (sd : Option SdParts)
+pub new_place_back : (dir : Directory) (token : Token) (parent class : ℕ) (name : List ℕ)
+    (values : List (AttrId × List (List ℕ))) (sd : Option SdParts)
     (object : ObjectIn) (gets : Bool) → IsNewObject dir (new_object dir token parent class name values sd) object gets
-    → ((new_object dir token parent class name values sd).parent ≡ object.parent) × ((new_object dir token parent class name values sd).class ≡ object.class.0)
+    → ((new_object dir token parent class name values sd).parent ≡ object.parent)
+    × ((new_object dir token parent class name values sd).class ≡ object.class.0)
 unfolding new_object
 new_place_back dir token parent class name values sd object gets new =
     (sym (ap (λ (x : Object). x.parent) new.seen), sym (ap (λ (x : Object). x.class) new.seen))

@@ -1,10 +1,12 @@
 -- An Add whose checks hold keeps a directory sound.
-use Rattle.std.proofs.Common.{◌≡◌, ℕ, suc, ◌<◌, ◌≤◌, Bool, true, false, List, [], ◌∷◌, length, Option, Some, None, inl, inr, refl, sym, subst, ap, arith, ◌∙◌}
+use Rattle.std.proofs.Common.{◌≡◌, ℕ, suc, ◌<◌, ◌≤◌, Bool, true, false, List, [], ◌∷◌, length, Option, Some, None}
+use Rattle.std.proofs.Common.{inl, inr, refl, sym, subst, ap, arith, ◌∙◌}
 use Rattle.std.specs.Prelude.{◌&&◌, ◌||◌, nat_eq, nat_le, nat_lt, not, filter, filter_map, find, map, codes}
 use Rattle.std.specs.Prelude.{option_map, is_some, is_none, unwrap_or, slice_get, drop, IfSome}
 use Rattle.std.specs.List.{AllByRecursion, flat_map}
 use Rattle.std.specs.Option.{option_map_or, option_and_then}
-use Rattle.std.proofs.lemmas.Bool.{cases_Bool, eqb-false, eq-eqb, leb-true, ltb-true, not-true, or_parts, and_parts, and_from, both_ways, false≢true}
+use Rattle.std.proofs.lemmas.Bool.{cases_Bool, eqb-false, eq-eqb, leb-true, ltb-true, not-true, or_parts, and_parts}
+use Rattle.std.proofs.lemmas.Bool.{and_from, both_ways, false≢true}
 use Rattle.std.proofs.lemmas.Option.{none-some, same_Some, cond_some, option_and_then_some, slice_get_within}
 use Rattle.std.proofs.lemmas.Slice.Eq.{bytes_eq-Decides}
 use Rattle.ad_bytes.specs.Reading.{IsBytes}
@@ -56,7 +58,8 @@ use Rattle.ad_change_values.specs.Values.{all_stored}
 use Rattle.ad_change.specs.Tree.{depth_within, depth_of, is_light_with}
 use Rattle.ad_change.specs.Adding.{held_before, all_held, new_object, attr_checks, fits_in, add_later, add_made}
 use Rattle.ad_change.proofs.DepthLaws.{depth_chain}
-use Rattle.ad_change.proofs.Contents.{ReadsBack, IsGood, AreGood, all_of_filter_map, all_stored_good, held_each, held_links, with_good}
+use Rattle.ad_change.proofs.Contents.{ReadsBack, IsGood, AreGood, all_of_filter_map, all_stored_good, held_each}
+use Rattle.ad_change.proofs.Contents.{held_links, with_good}
 use Rattle.ad_change.proofs.NewSid.{SidsRead, HasDomain, bytes_again, sid_good, domain_child_is}
 
 -- ---- the attributes
@@ -116,7 +119,8 @@ with_sid_good w dir (Some attr) (Some s) values at is good =
 -- what it is then
 sid_of_new : SidsRead → (dir : Directory) (sid : Option SidValue) (values : List Held) (attr : Option ℕ)
     → object_sid dir.schema ≡ attr → ((s : SidValue) → sid ≡ Some s → IsSid s)
-    → ((s : SidValue) → attr ≡ None → sid ≡ Some s → ⊥) → ((place : ℕ) → attr ≡ Some place → stored_in values place ≡ [])
+    → ((s : SidValue) → attr ≡ None → sid ≡ Some s → ⊥)
+    → ((place : ℕ) → attr ≡ Some place → stored_in values place ≡ [])
     → option_and_then (λ (value : Value). sid_of value.shown)
     (option_and_then (λ (place : ℕ). first_plain (stored_in (with_new_sid attr sid values) place)) attr) ≡ sid
 sid_of_new w dir None values None at is no_attr no_sid = refl
@@ -125,7 +129,8 @@ sid_of_new w dir None values (Some place) at is no_attr no_sid = rw (no_sid plac
 sid_of_new w dir (Some s) values (Some place) at is no_attr no_sid =
     rw (stored_same place (plain (as_shown (sid_bytes s)) ∷ []) values) (bytes_again w s (is s refl))
 
-no_attr_no_sid : (dir : Directory) (class : ℕ) (s : SidValue) → object_sid dir.schema ≡ None → new_sid dir class ≡ Some s → ⊥
+no_attr_no_sid : (dir : Directory) (class : ℕ) (s : SidValue) → object_sid dir.schema ≡ None → new_sid dir class
+    ≡ Some s → ⊥
 unfolding new_sid
 no_attr_no_sid dir class s none is = none-some s (rw none at is)
 
@@ -164,7 +169,8 @@ room_of dir o fits =
 own_name_of : (dir : Directory) (o : Object) (parent : ℕ) (name : List ℕ) → o.parent ≡ parent → o.name ≡ name
     → is_none (child_named dir.objects parent name) ≡ true → HasOwnName dir.objects o
 unfolding child_named
-own_name_of dir o parent name is_parent is_name none m other is same_parent same_name = by_found (find test dir.objects) refl none
+own_name_of dir o parent name is_parent is_name none m other is same_parent same_name
+    = by_found (find test dir.objects) refl none
   where
     test : Object → Bool
     test x = is_child_named parent name x
@@ -182,35 +188,38 @@ pub add_is_sound : ReadsBack → SidsRead → (dir : Directory) (token : Token) 
     (values : List (AttrId × List (List ℕ))) (sd : Option SdParts)
     → IsSound dir → HasDomain dir → is_live dir.objects parent ≡ true → class < length (classes_of dir.schema)
     → IsValue name → AllByRecursion (IsPlainAttr dir) values
-    → is_none (child_named dir.objects parent name) ≡ true → fits_in dir (new_object dir token parent class name values sd) ≡ true
+    → is_none (child_named dir.objects parent name) ≡ true
+    → fits_in dir (new_object dir token parent class name values sd) ≡ true
     → IsSound (added dir (new_object dir token parent class name values sd))
 unfolding new_object depth_of sid_in first_of_attr
-add_is_sound back w dir token parent class name values sd sound has live within value are free fits = added_sound dir o sound (record {
-  parent_live = live;
-  parent_depth = depth_of (parents dir) parent;
-  parent_at = depth_chain (parents dir) (suc max_depth) parent deep;
-  parent_within = room.depth;
-  fits = record {
-    content = record {
-      class_of_schema = within;
-      name = value;
-      attrs_rise = good.rise;
-      each = held_each dir (numbered dir o).values good.each;
-    };
-    links = all_live_more dir.objects (put (numbered dir o) dir.objects) (links_in (numbered dir o).values)
-        (live-put (numbered dir o) dir.objects) (held_links dir (numbered dir o).values good.each);
-    own_name = own_name_of dir (numbered dir o) parent name refl refl free;
-    own_sid = λ m other s is theirs own.
-        let gets : new_sid dir class ≡ Some s = sym own_is ∙ own in
-        let less : dir.meta.next_rid < dir.meta.next_rid = sound.frame.counters.rid_above m other dir.meta.next_rid s is theirs (new_sid_is dir class s gets) in
-        absurd (omega arith);
-  };
-  sid = own_is;
-  few = room.few;
-  weight = room.weight;
-  number_fits = room.number;
-  rid_fits = room.rid;
-})
+add_is_sound back w dir token parent class name values sd sound has live within value are free fits
+    = added_sound dir o sound (record {
+      parent_live = live;
+      parent_depth = depth_of (parents dir) parent;
+      parent_at = depth_chain (parents dir) (suc max_depth) parent deep;
+      parent_within = room.depth;
+      fits = record {
+        content = record {
+          class_of_schema = within;
+          name = value;
+          attrs_rise = good.rise;
+          each = held_each dir (numbered dir o).values good.each;
+        };
+        links = all_live_more dir.objects (put (numbered dir o) dir.objects) (links_in (numbered dir o).values)
+            (live-put (numbered dir o) dir.objects) (held_links dir (numbered dir o).values good.each);
+        own_name = own_name_of dir (numbered dir o) parent name refl refl free;
+        own_sid = λ m other s is theirs own.
+            let gets : new_sid dir class ≡ Some s = sym own_is ∙ own in
+            let less : dir.meta.next_rid < dir.meta.next_rid = sound.frame.counters.rid_above m other dir.meta.next_rid s
+            is theirs (new_sid_is dir class s gets) in
+            absurd (omega arith);
+      };
+      sid = own_is;
+      few = room.few;
+      weight = room.weight;
+      number_fits = room.number;
+      rid_fits = room.rid;
+    })
   where
     o : Object
     o = new_object dir token parent class name values sd
@@ -225,7 +234,8 @@ add_is_sound back w dir token parent class name values sd sound has live within 
     known s is = sid_known dir class s is has room.rid
 
     good : AreGood dir (with_new_sid (object_sid dir.schema) (new_sid dir class) (all_held dir values))
-    good = with_sid_good w dir (object_sid dir.schema) (new_sid dir class) (all_held dir values) refl known (held_good back dir values sound.rise are)
+    good = with_sid_good w dir (object_sid dir.schema) (new_sid dir class) (all_held dir values) refl known
+        (held_good back dir values sound.rise are)
 
     own_is : sid_in dir.schema (numbered dir o) ≡ new_sid dir class
     own_is = sid_of_new w dir (new_sid dir class) (all_held dir values) (object_sid dir.schema) refl known
@@ -234,12 +244,14 @@ add_is_sound back w dir token parent class name values sd sound has live within 
 -- ---- what the checks up to the required rights say
 
 -- the class is one of the schema
-structural_within : (schema : List SchemaRecord) (class n : ℕ) → if_structural schema class ≡ Some n → n < length (classes_of schema)
+structural_within : (schema : List SchemaRecord) (class n : ℕ) → if_structural schema class ≡ Some n → n
+    < length (classes_of schema)
 unfolding if_structural is_structural
 structural_within schema class n is =
     let parts = cond_some (option_map_or (λ (info : ClassInfo). not (nat_eq info.category 2)
     && not (nat_eq info.category 3)) (slice_get (classes_of schema) class) false) class n is in
-    subst (λ (k : ℕ). k < length (classes_of schema)) parts.1 (by_info (slice_get (classes_of schema) class) refl parts.0)
+    subst (λ (k : ℕ). k < length (classes_of schema)) parts.1
+    (by_info (slice_get (classes_of schema) class) refl parts.0)
   where
     by_info : (info : Option ClassInfo) → slice_get (classes_of schema) class ≡ info
         → option_map_or (λ (i : ClassInfo). not (nat_eq i.category 2) && not (nat_eq i.category 3)) info false
@@ -247,7 +259,8 @@ structural_within schema class n is =
     by_info None at is' = absurd (false≢true is')
     by_info (Some i) at is' = slice_get_within (classes_of schema) class i at
 
-class_within : (schema : List SchemaRecord) (names : List (List ℕ)) (n : ℕ) → class_by_names schema names ≡ Some n → n < length (classes_of schema)
+class_within : (schema : List SchemaRecord) (names : List (List ℕ)) (n : ℕ) → class_by_names schema names ≡ Some n → n
+    < length (classes_of schema)
 unfolding class_by_names
 class_within schema names n is =
     option_and_then_some (if_structural schema) (option_and_then (lowest_of schema)
@@ -269,7 +282,8 @@ first_value a has = by_dn (dn_of a.dn) refl has
     by_rdns [] are some = absurd (false≢true some)
     by_rdns (rdn ∷ rdns) are some = are.0.value
 
-    by_dn : (dn : Option Dn) → dn_of a.dn ≡ dn → not (nat_eq (length (of dn)) 0) ≡ true → IsValue (first_part (of dn)).value
+    by_dn : (dn : Option Dn) → dn_of a.dn ≡ dn → not (nat_eq (length (of dn)) 0) ≡ true
+        → IsValue (first_part (of dn)).value
     by_dn None is some = absurd (false≢true some)
     by_dn (Some dn) is some = by_rdns dn.rdns (spelled_are dn.rdns a.dn (dn_read a.dn dn is)) some
 
@@ -290,7 +304,8 @@ ordinary_within dir attr x is =
       | inr other ↦ by_place (attr_place dir.schema attr.0) refl (rw other at is)
     ]
   where
-    by_place : (place : Option ℕ) → attr_place dir.schema attr.0 ≡ place → option_map (λ (p : ℕ). (p, attr.1)) place ≡ Some x
+    by_place : (place : Option ℕ) → attr_place dir.schema attr.0 ≡ place → option_map (λ (p : ℕ). (p, attr.1)) place
+        ≡ Some x
         → (x.0 < length (attrs_of dir.schema)) × (attr.1 ≡ x.1)
     by_place None at is' = absurd (none-some x is')
     by_place (Some p) at is' = subst (λ (y : ℕ × List (List ℕ)). (y.0 < length (attrs_of dir.schema)) × (attr.1 ≡ y.1))
@@ -353,7 +368,8 @@ added_is_sound back w dir token a flags sound has bytes none later =
     let no_schema = head_holds _ _ class.1 in
     let typed = head_holds _ _ no_schema.1 in
     let reads = head_holds _ _ typed.1 in
-    let own = both_hold (flat_map (own_checks dir.schema (class_number dir a) (new_part a).value) (all_ordinary dir.schema a)) _ reads.1 in
+    let own = both_hold (flat_map (own_checks dir.schema (class_number dir a) (new_part a).value)
+    (all_ordinary dir.schema a)) _ reads.1 in
     let owner = head_holds _ _ later in
     let lawful = head_holds _ _ owner.1 in
     let values = both_hold (flat_map (attr_checks dir) (new_values dir.schema (class_number dir a) a)) _ lawful.1 in

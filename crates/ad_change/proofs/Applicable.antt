@@ -38,7 +38,12 @@ chain_alike p q zero n same at = at
 chain_alike p q (suc d) n same at = (at.0, subst (IsAtDepth q d) (same n) (chain_alike p q d (p n) same at.1))
 
 pub placed_alike : (p q : ℕ → ℕ) (n : ℕ) → ((k : ℕ) → p k ≡ q k) → IsPlaced p n → IsPlaced q n
-placed_alike p q n same at = record { depth = at.depth; within = at.within; chain = chain_alike p q at.depth n same at.chain }
+placed_alike p q n same at = record {
+  depth = at.depth;
+  within = at.within;
+  chain = chain_alike p q at.depth n same
+      at.chain;
+}
 
 -- what the parents are then
 pub parent_put : (dir : Directory) (o : Object) (P : ℕ → ℕ → Type 0) → P o.number o.parent
@@ -53,10 +58,12 @@ parent_put dir o P here other n =
           subst (P n) (sym (ap (λ (x : Object). x.parent) (at-put_other o dir.objects n apart))) (other n apart)
     ]
 
-same_parents : (dir : Directory) (o : Object) → KeepsParent dir o → (n : ℕ) → parents dir n ≡ parent_at (put o dir.objects) n
+same_parents : (dir : Directory) (o : Object) → KeepsParent dir o → (n : ℕ) → parents dir n
+    ≡ parent_at (put o dir.objects) n
 same_parents dir o keeps n = parent_put dir o (λ (k p : ℕ). parents dir k ≡ p) (sym keeps) (λ k apart. refl) n
 
-any_sd : (dir : Directory) (o : Object) (sd : Sd) (n : ℕ) → parent_at (put o dir.objects) n ≡ parent_at (put (record o { sd = sd }) dir.objects) n
+any_sd : (dir : Directory) (o : Object) (sd : Sd) (n : ℕ) → parent_at (put o dir.objects) n
+    ≡ parent_at (put (record o { sd = sd }) dir.objects) n
 any_sd dir o sd n = parent_put dir (record o { sd = sd }) (λ (k p : ℕ). parent_at (put o dir.objects) k ≡ p)
     (ap (λ (x : Object). x.parent) (at-put_same o dir.objects))
     (λ k apart. ap (λ (x : Object). x.parent) (at-put_other o dir.objects k apart)) n
@@ -68,8 +75,10 @@ keeps_place dir o sound may keeps = record {
   live = may.live;
   fits = may.fits;
   no_parent = λ top. keeps ∙ ap (parents dir) top ∙ (root_at dir sound).no_parent;
-  parent_live = λ below. subst (λ (p : ℕ). is_live dir.objects p ≡ true) (sym keeps) (below_at dir sound.each o.number may.live below).parent_live;
-  placed = λ n live. placed_alike (parents dir) (parent_at (put o dir.objects)) n (same_parents dir o keeps) (placed_at dir sound.each n live);
+  parent_live = λ below. subst (λ (p : ℕ). is_live dir.objects p ≡ true) (sym keeps)
+      (below_at dir sound.each o.number may.live below).parent_live;
+  placed = λ n live. placed_alike (parents dir) (parent_at (put o dir.objects)) n (same_parents dir o keeps)
+      (placed_at dir sound.each n live);
 }
 
 pub moves : (dir : Directory) (o : Object) → MayReplace dir o → MayMove dir o → MayStand dir o
@@ -100,13 +109,15 @@ put_may dir o sd sound may = record {
       each = may.fits.content.each;
     };
     links = all_live_more (put o dir.objects) (put (record o { sd = sd }) dir.objects) (links_in o.values)
-        (λ n live. live-put (record o { sd = sd }) dir.objects n (live_before o dir.objects n may.live live)) may.fits.links;
+        (λ n live. live-put (record o { sd = sd }) dir.objects n (live_before o dir.objects n may.live live))
+        may.fits.links;
     own_name = may.fits.own_name;
     own_sid = λ m other sid is has own. may.fits.own_sid m other sid is has (sym (sid_with_sd dir.schema o sd) ∙ own);
   };
   no_parent = may.no_parent;
   parent_live = may.parent_live;
-  placed = λ below n live. placed_alike (parent_at (put o dir.objects)) (parent_at (put (record o { sd = sd }) dir.objects)) n (any_sd dir o sd)
+  placed = λ below n live. placed_alike (parent_at (put o dir.objects))
+      (parent_at (put (record o { sd = sd }) dir.objects)) n (any_sd dir o sd)
       (may.placed n (live_before (record o { sd = sd }) dir.objects n may.live live));
 }
 
@@ -117,7 +128,8 @@ with_whole : (dir : Directory) (o : Object) (sd : Sd) → MayStand dir o
     → IsSound dir → MayPend (with_objects (put (record o { sd = sd }) dir.objects) dir)
     (marked_if_changed (sd_at dir.objects o.number) (record o { sd = sd }) dir.pending)
 with_whole dir o sd may sound = record {
-  live = live_in_more dir.objects (put (record o { sd = sd }) dir.objects) (marked_if_changed (sd_at dir.objects o.number) (record o { sd = sd }) dir.pending)
+  live = live_in_more dir.objects (put (record o { sd = sd }) dir.objects)
+      (marked_if_changed (sd_at dir.objects o.number) (record o { sd = sd }) dir.pending)
       (live-put (record o { sd = sd }) dir.objects)
       (live_marked_if dir.objects (sd_at dir.objects o.number) (record o { sd = sd }) dir.pending may.live sound.live);
   distinct = distinct_marked_if (sd_at dir.objects o.number) (record o { sd = sd }) dir.pending sound.distinct;
@@ -125,4 +137,7 @@ with_whole dir o sd may sound = record {
 
 pub write_may : (dir : Directory) (o : Object) → IsSound dir → MayStand dir o → MayAll dir (write_edits dir o)
 unfolding edited
-write_may dir o sound may = (put_may dir o (settled dir o).sd sound may, (with_whole dir o (settled dir o).sd may sound, tt))
+write_may dir o sound may = (
+  put_may dir o (settled dir o).sd sound may,
+  (with_whole dir o (settled dir o).sd may sound, tt),
+)

@@ -37,11 +37,13 @@ pub all_of_filter_map : {A B : Type 0} (P : A → Type 0) (Q : B → Type 0) (f 
 all_of_filter_map P Q f [] each all = tt
 all_of_filter_map P Q f (x ∷ xs) each all = by_found (f x) refl (all_of_filter_map P Q f xs each all.1)
   where
-    by_found : (r : Option _) → f x ≡ r → AllByRecursion Q (filter_map f xs) → AllByRecursion Q (cons_option r (filter_map f xs))
+    by_found : (r : Option _) → f x ≡ r → AllByRecursion Q (filter_map f xs)
+        → AllByRecursion Q (cons_option r (filter_map f xs))
     by_found None is rest = rest
     by_found (Some y) is rest = (each x y all.0 is, rest)
 
-pub all_of_filter : {A : Type 0} (P : A → Type 0) (test : A → Bool) (xs : List A) → AllByRecursion P xs → AllByRecursion P (filter test xs)
+pub all_of_filter : {A : Type 0} (P : A → Type 0) (test : A → Bool) (xs : List A) → AllByRecursion P xs
+    → AllByRecursion P (filter test xs)
 all_of_filter P test [] all = tt
 all_of_filter P test (x ∷ xs) all =
     elim (cases_Bool (test x)) [
@@ -49,7 +51,8 @@ all_of_filter P test (x ∷ xs) all =
       | inr fails ↦ rw fails (all_of_filter P test xs all.1)
     ]
 
-pub all_of_both : {A : Type 0} (P : A → Type 0) (xs ys : List A) → AllByRecursion P xs → AllByRecursion P ys → AllByRecursion P (xs ++ ys)
+pub all_of_both : {A : Type 0} (P : A → Type 0) (xs ys : List A) → AllByRecursion P xs → AllByRecursion P ys
+    → AllByRecursion P (xs ++ ys)
 all_of_both P [] ys first second = second
 all_of_both P (x ∷ xs) ys first second = (first.0, all_of_both P xs ys first.1 second)
 
@@ -57,7 +60,8 @@ all_of_both P (x ∷ xs) ys first second = (first.0, all_of_both P xs ys first.1
 
 -- what a value shows reads back
 abbrev pub ReadsBack : Type 0
-ReadsBack = (s : Syntax) (bytes : List ℕ) (v : Value) → IsBytes bytes → normal_or_fault s bytes ≡ Ok v → normal_or_fault s v.shown ≡ Ok v
+ReadsBack = (s : Syntax) (bytes : List ℕ) (v : Value) → IsBytes bytes → normal_or_fault s bytes ≡ Ok v
+    → normal_or_fault s v.shown ≡ Ok v
 
 -- a value of the attribute, which leads to a live object if it is a link
 abbrev pub IsGood : Directory → ℕ → Stored → Type 0
@@ -82,7 +86,8 @@ value_by back schema attr bytes v are is =
     same_ok : (a b : Value) → ◌≡◌ {A = Result Value ValueFault} (Ok a) (Ok b) → a ≡ b
     same_ok a b e = cc
 
-target_live : (dir : Directory) (bytes : List ℕ) (n : ℕ) → Rise dir.objects → target_of dir bytes ≡ Some n → is_live dir.objects n ≡ true
+target_live : (dir : Directory) (bytes : List ℕ) (n : ℕ) → Rise dir.objects → target_of dir bytes ≡ Some n
+    → is_live dir.objects n ≡ true
 unfolding target_of
 target_live dir bytes n rise is = option_and_then_some (λ (dn : Dn). found dir dn.rdns) (dn_of bytes) n is
     (λ (dn : Dn) first there. found_live dir dn.rdns n rise there)
@@ -96,14 +101,17 @@ stored_good back dir attr bytes x rise are is =
       | inr no_link ↦ by_value no_link (value_in dir.schema attr bytes) refl (rw no_link at is)
     ]
   where
-    by_target : attr_is_link dir.schema attr ≡ true → (t : Option ℕ) → target_of dir bytes ≡ t → option_map link t ≡ Some x → IsGood dir attr x
+    by_target : attr_is_link dir.schema attr ≡ true → (t : Option ℕ) → target_of dir bytes ≡ t → option_map link t
+        ≡ Some x → IsGood dir attr x
     by_target a_link None is' e = absurd (none-some x e)
-    by_target a_link (Some n) is' e = subst (IsGood dir attr) (same_Some (link n) x e) (a_link, target_live dir bytes n rise is')
+    by_target a_link (Some n) is' e = subst (IsGood dir attr) (same_Some (link n) x e)
+        (a_link, target_live dir bytes n rise is')
 
     by_value : attr_is_link dir.schema attr ≡ false → (r : Result Value ValueFault)
         → value_in dir.schema attr bytes ≡ r → option_map plain (result_ok r) ≡ Some x → IsGood dir attr x
     by_value no_link (Err e) is' e' = absurd (none-some x e')
-    by_value no_link (Ok v) is' e' = subst (IsGood dir attr) (same_Some (plain v) x e') (no_link, value_by back dir.schema attr bytes v are is')
+    by_value no_link (Ok v) is' e' = subst (IsGood dir attr) (same_Some (plain v) x e')
+        (no_link, value_by back dir.schema attr bytes v are is')
 
 pub all_stored_good : ReadsBack → (dir : Directory) (attr : ℕ) (values : List (List ℕ)) → Rise dir.objects
     → AllByRecursion IsBytes values → AllByRecursion (IsGood dir attr) (all_stored dir attr values)
@@ -137,7 +145,8 @@ pub good_held : (dir : Directory) (values : List Held) → AllByRecursion (IsHel
 unfolding links_in
 good_held dir [] each live = tt
 good_held dir (held ∷ others) each live =
-    let parts = all_front (λ (n : ℕ). is_live dir.objects n ≡ true) (filter_map linked held.values) (links_in others) live in (
+    let parts = all_front (λ (n : ℕ). is_live dir.objects n ≡ true) (filter_map linked held.values) (links_in others)
+    live in (
       record {
         of_schema = each.0.of_schema;
         some = each.0.some;
@@ -146,7 +155,8 @@ good_held dir (held ∷ others) each live =
       good_held dir others each.1 parts.1,
     )
 
-stored_values : (dir : Directory) (attr : ℕ) (values : List Stored) → AllByRecursion (IsGood dir attr) values → AllByRecursion (IsStored dir.schema attr) values
+stored_values : (dir : Directory) (attr : ℕ) (values : List Stored) → AllByRecursion (IsGood dir attr) values
+    → AllByRecursion (IsStored dir.schema attr) values
 stored_values dir attr [] each = tt
 stored_values dir attr (plain v ∷ values) each = (each.0, stored_values dir attr values each.1)
 stored_values dir attr (link n ∷ values) each = (each.0.0, stored_values dir attr values each.1)
@@ -157,10 +167,18 @@ live_links dir attr [] each = tt
 live_links dir attr (plain v ∷ values) each = live_links dir attr values each.1
 live_links dir attr (link n ∷ values) each = (each.0.1, live_links dir attr values each.1)
 
-pub held_each : (dir : Directory) (values : List Held) → AllByRecursion (IsGoodHeld dir) values → AllByRecursion (IsHeld dir.schema) values
+pub held_each : (dir : Directory) (values : List Held) → AllByRecursion (IsGoodHeld dir) values
+    → AllByRecursion (IsHeld dir.schema) values
 held_each dir [] each = tt
-held_each dir (held ∷ others) each =
-    (record { of_schema = each.0.of_schema; some = each.0.some; each = stored_values dir held.attr held.values each.0.each }, held_each dir others each.1)
+held_each dir (held ∷ others) each = (
+  record {
+    of_schema = each.0.of_schema;
+    some = each.0.some;
+    each = stored_values dir held.attr held.values
+        each.0.each;
+  },
+  held_each dir others each.1,
+)
 
 pub held_links : (dir : Directory) (values : List Held) → AllByRecursion (IsGoodHeld dir) values
     → AllByRecursion (λ (n : ℕ). is_live dir.objects n ≡ true) (links_in values)
@@ -177,7 +195,8 @@ unfolding stored_in
 stored_are_good dir attr [] each = tt
 stored_are_good dir attr (held ∷ others) each =
     elim (cases_Bool (nat_eq held.attr attr)) [
-      | inl here ↦ rw here (subst (λ (a : ℕ). AllByRecursion (IsGood dir a) held.values) (eqb-true held.attr attr here) each.0.each)
+      | inl here ↦ rw here (subst (λ (a : ℕ). AllByRecursion (IsGood dir a) held.values)
+          (eqb-true held.attr attr here) each.0.each)
       | inr other ↦ rw other (stored_are_good dir attr others each.1)
     ]
 
@@ -186,5 +205,6 @@ pub with_good : (dir : Directory) (attr : ℕ) (first : Stored) (new : List Stor
     → AreGood dir (with_values attr (first ∷ new) values)
 with_good dir attr first new values within each good = record {
   rise = rise_with attr (first ∷ new) 0 values good.rise (omega arith);
-  each = each_with (IsGoodHeld dir) attr (first ∷ new) values (record { of_schema = within; some = omega arith; each = each }) good.each;
+  each = each_with (IsGoodHeld dir) attr (first ∷ new) values
+      (record { of_schema = within; some = omega arith; each = each }) good.each;
 }

@@ -10,6 +10,8 @@ use Rattle.ad_needs_rules.specs.Requests.{number_named}
 use Rattle.ad_needs.specs.Deleting.{delete_checks}
 use Rattle.ad_change.proofs.Resolved.{deletion_of}
 
-pub delete_is_sound : (dir : Directory) (token : Token) (dn : List ℕ) (below : Bool) → IsSound dir → first_failing (delete_checks dir token dn below) ≡ None
+pub delete_is_sound : (dir : Directory) (token : Token) (dn : List ℕ) (below : Bool) → IsSound dir
+    → first_failing (delete_checks dir token dn below) ≡ None
     → IsSound (deleted dir (number_named dir token dn))
-delete_is_sound dir token dn below sound none = deleted_sound dir (number_named dir token dn) sound (deletion_of dir token dn below sound none).below
+delete_is_sound dir token dn below sound none = deleted_sound dir (number_named dir token dn) sound
+    (deletion_of dir token dn below sound none).below

@@ -37,7 +37,8 @@ told_nothing dir after (code n) e = cc
 told_nothing dir after (hidden rdns) e = cc
 told_nothing dir after (missing need) e = cc
 
-told_first : (dir after : Directory) (token : Token) (r : Refusal) → by_verdict dir token (refused r) ≡ changes_to after → ⊥
+told_first : (dir after : Directory) (token : Token) (r : Refusal) → by_verdict dir token (refused r)
+    ≡ changes_to after → ⊥
 told_first dir after token (code n) e = cc
 told_first dir after token (hidden rdns) e = cc
 told_first dir after token (missing need) e = cc
@@ -61,7 +62,8 @@ pub delete_keeps : (dir after : Directory) (token : Token) (dn : List ℕ) (s : 
     → effect dir token (DeleteOf dn) s ≡ changes_to after → IsSound after
 unfolding effect verdict_of later_checks made
 delete_keeps dir after token dn s sound e =
-    let parts = effect_is dir after token (first_failing (delete_checks dir token dn s.tree)) (delete_act dir token dn s.tree) e in
+    let parts = effect_is dir after token (first_failing (delete_checks dir token dn s.tree))
+    (delete_act dir token dn s.tree) e in
     subst IsSound parts.is (delete_is_sound dir token dn s.tree sound parts.before)
 
 pub rename_keeps : (dir after : Directory) (token : Token) (r : Rename) (s : Settings) → IsSound dir
@@ -75,7 +77,8 @@ pub modify_keeps : ReadsBack → (dir after : Directory) (token : Token) (m : Mo
     → AllByRecursion HasBytes m.items → effect dir token (ModifyOf m) s ≡ changes_to after → IsSound after
 unfolding effect verdict_of later_checks made
 modify_keeps back dir after token m s sound bytes e =
-    let parts = effect_is dir after token (first_failing (modify_checks dir token m s.sd_flags)) (modify_act dir token m s.sd_flags) e in
+    let parts = effect_is dir after token (first_failing (modify_checks dir token m s.sd_flags))
+    (modify_act dir token m s.sd_flags) e in
     subst IsSound parts.is (modified_is_sound back dir token m s.sd_flags sound bytes parts.before parts.behind)
 
 pub add_keeps : ReadsBack → SidsRead → (dir after : Directory) (token : Token) (a : Add) (s : Settings)
@@ -83,5 +86,6 @@ pub add_keeps : ReadsBack → SidsRead → (dir after : Directory) (token : Toke
     → effect dir token (AddOf a) s ≡ changes_to after → IsSound after
 unfolding effect verdict_of later_checks made
 add_keeps back w dir after token a s sound has bytes e =
-    let parts = effect_is dir after token (first_failing (add_checks dir token a s.sd_flags)) (add_act dir token a s.sd_flags) e in
+    let parts = effect_is dir after token (first_failing (add_checks dir token a s.sd_flags))
+    (add_act dir token a s.sd_flags) e in
     subst IsSound parts.is (added_is_sound back w dir token a s.sd_flags sound has bytes parts.before parts.behind)

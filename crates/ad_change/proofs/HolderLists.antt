@@ -13,7 +13,8 @@ use Rattle.ad_dir.specs.Holders.{links_to, holders}
 use Rattle.ad_change.specs.Removing.{IsLeaving, loses_some, loses, losing_among, losing_of}
 use Rattle.ad_change.proofs.SubtreeLaws.{goes_alone}
 
-lost_is : (goes : ℕ → Bool) (target : ℕ) → ((n : ℕ) → goes n ≡ nat_eq n target) → (values : List Stored) → loses_some goes values ≡ names target values
+lost_is : (goes : ℕ → Bool) (target : ℕ) → ((n : ℕ) → goes n ≡ nat_eq n target) → (values : List Stored)
+    → loses_some goes values ≡ names target values
 lost_is goes target is [] = refl
 lost_is goes target is (plain v ∷ values) = lost_is goes target is values
 lost_is goes target is (link n ∷ values) = elim (cases_Bool (nat_eq n target)) [
@@ -22,27 +23,34 @@ lost_is goes target is (link n ∷ values) = elim (cases_Bool (nat_eq n target))
 ]
 
 all_lost : (goes : ℕ → Bool) (target : ℕ) → ((n : ℕ) → goes n ≡ nat_eq n target) → (values : List Held)
-    → list_any (λ (held : Held). loses_some goes held.values) values ≡ list_any (λ (held : Held). names target held.values) values
+    → list_any (λ (held : Held). loses_some goes held.values) values
+    ≡ list_any (λ (held : Held). names target held.values) values
 all_lost goes target is [] = refl
 all_lost goes target is (held ∷ others) = elim (cases_Bool (names target held.values)) [
-  | inl here ↦ let lost : loses_some goes held.values ≡ true = lost_is goes target is held.values ∙ here in rw (lost, here) refl
-  | inr none ↦ let kept : loses_some goes held.values ≡ false = lost_is goes target is held.values ∙ none in rw (kept, none) (all_lost goes target is others)
+  | inl here ↦ let lost : loses_some goes held.values ≡ true = lost_is goes target is held.values ∙ here
+      in rw (lost, here) refl
+  | inr none ↦ let kept : loses_some goes held.values ≡ false = lost_is goes target is held.values ∙ none
+      in rw (kept, none) (all_lost goes target is others)
 ]
 
-loses_as : (goes : ℕ → Bool) (target : ℕ) → ((n : ℕ) → goes n ≡ nat_eq n target) → (o : Object) → loses goes o ≡ links_to target o
+loses_as : (goes : ℕ → Bool) (target : ℕ) → ((n : ℕ) → goes n ≡ nat_eq n target) → (o : Object) → loses goes o
+    ≡ links_to target o
 unfolding loses
 loses_as goes target is o = all_lost goes target is o.values
 
 -- ---- the numbers of those that pass one test or the other
 
-where_same : (test other : Object → Bool) (os : List Object) → ((o : Object) → other o ≡ test o) → numbers_where test os ≡ numbers_where other os
+where_same : (test other : Object → Bool) (os : List Object) → ((o : Object) → other o ≡ test o)
+    → numbers_where test os ≡ numbers_where other os
 where_same test other [] same = refl
 where_same test other (o ∷ os) same = elim (cases_Bool (test o)) [
-  | inl passes ↦ let also : other o ≡ true = same o ∙ passes in rw (passes, also) (ap (λ (ns : List ℕ). o.number ∷ ns) (where_same test other os same))
+  | inl passes ↦ let also : other o ≡ true = same o ∙ passes
+      in rw (passes, also) (ap (λ (ns : List ℕ). o.number ∷ ns) (where_same test other os same))
   | inr fails ↦ let also : other o ≡ false = same o ∙ fails in rw (fails, also) (where_same test other os same)
 ]
 
-all_pass : (test : Object → Bool) (os xs : List Object) → AllByRecursion (λ (o : Object). object_of os o.number ≡ Some o) xs
+all_pass : (test : Object → Bool) (os xs : List Object)
+    → AllByRecursion (λ (o : Object). object_of os o.number ≡ Some o) xs
     → filter (λ (n : ℕ). test (object_at os n)) (numbers_where test xs) ≡ numbers_where test xs
 all_pass test os [] found = refl
 all_pass test os (x ∷ xs) found = elim (cases_Bool (test x)) [
@@ -52,7 +60,8 @@ all_pass test os (x ∷ xs) found = elim (cases_Bool (test x)) [
   | inr fails ↦ rw fails (all_pass test os xs found.1)
 ]
 
-all_live : (test : Object → Bool) (os xs : List Object) → AllByRecursion (λ (o : Object). object_of os o.number ≡ Some o) xs
+all_live : (test : Object → Bool) (os xs : List Object)
+    → AllByRecursion (λ (o : Object). object_of os o.number ≡ Some o) xs
     → AllByRecursion (λ (n : ℕ). is_live os n ≡ true) (numbers_where test xs)
 all_live test os [] found = tt
 all_live test os (x ∷ xs) found = elim (cases_Bool (test x)) [
@@ -60,10 +69,12 @@ all_live test os (x ∷ xs) found = elim (cases_Bool (test x)) [
   | inr fails ↦ rw fails (all_live test os xs found.1)
 ]
 
-pub holders_live : (os : List Object) (target : ℕ) → Rise os → AllByRecursion (λ (n : ℕ). is_live os n ≡ true) (holders os target)
+pub holders_live : (os : List Object) (target : ℕ) → Rise os → AllByRecursion (λ (n : ℕ). is_live os n ≡ true)
+    (holders os target)
 holders_live os target rise = all_live (links_to target) os os (all_found 0 os rise)
 
-pub holders_lose : (dir : Directory) (target : ℕ) → Rise dir.objects → IsLeaving dir target true → losing_among dir target (holders dir.objects target) ≡ losing_of dir target
+pub holders_lose : (dir : Directory) (target : ℕ) → Rise dir.objects → IsLeaving dir target true
+    → losing_among dir target (holders dir.objects target) ≡ losing_of dir target
 holders_lose dir target rise leaving =
     ap (losing_among dir target) (sym same)
     ∙ all_pass (loses (goes_with dir target)) dir.objects dir.objects (all_found 0 dir.objects rise)

@@ -1,10 +1,12 @@
 -- Of a subtree whose deepest objects go first, each object goes after its children.
-use Rattle.std.proofs.Common.{◌≡◌, ℕ, zero, suc, ◌-◌, ◌<◌, ◌≤◌, Bool, true, false, List, [], ◌∷◌, ◌++◌, map, ◌⊎◌, inl, inr, refl, sym, subst, ap, ◌∙◌, arith}
+use Rattle.std.proofs.Common.{◌≡◌, ℕ, zero, suc, ◌-◌, ◌<◌, ◌≤◌, Bool, true, false, List, [], ◌∷◌, ◌++◌, map, ◌⊎◌, inl}
+use Rattle.std.proofs.Common.{inr, refl, sym, subst, ap, ◌∙◌, arith}
 use Rattle.std.specs.Prelude.{nat_eq, filter, Result, Ok, Err, IfOk}
 use Rattle.std.specs.Global.{Vec}
 use Rattle.std.specs.List.{AllByRecursion}
 use Rattle.std.proofs.lemmas.List.{append_assoc, append-nil}
-use Rattle.std.proofs.lemmas.Bool.{cases_Bool, both_ways, eqb-true, eqb-false, eq-eqb, or_cases, or_left, or_right, or_from, false≢true, false_from_ne_true}
+use Rattle.std.proofs.lemmas.Bool.{cases_Bool, both_ways, eqb-true, eqb-false, eq-eqb, or_cases, or_left, or_right}
+use Rattle.std.proofs.lemmas.Bool.{or_from, false≢true, false_from_ne_true}
 use Rattle.ad_dir_model.specs.Limits.{max_depth}
 use Rattle.ad_dir_model.specs.Object.{Object}
 use Rattle.ad_dir_model.specs.Objects.{RiseAbove, object_of, is_live, numbers}
@@ -47,7 +49,8 @@ append_second : (xs ys : List ℕ) (n : ℕ) → has ys n ≡ true → has (xs +
 append_second [] ys n is = is
 append_second (x ∷ xs) ys n is = or_right (nat_eq x n) (has (xs ++ ys) n) (append_second xs ys n is)
 
-has_filter : (test : ℕ → Bool) (xs : List ℕ) (n : ℕ) → has (filter test xs) n ≡ true → (has xs n ≡ true) × (test n ≡ true)
+has_filter : (test : ℕ → Bool) (xs : List ℕ) (n : ℕ) → has (filter test xs) n ≡ true → (has xs n ≡ true)
+    × (test n ≡ true)
 has_filter test [] n is = absurd (false≢true is)
 has_filter test (x ∷ xs) n is =
     elim (cases_Bool (test x)) [
@@ -152,7 +155,8 @@ module _ (f : ℕ → ℕ) (ns : List ℕ) where
   levels_have zero n is less = absurd (omega (arith, less))
   levels_have (suc d) n is less =
       elim (cases_Bool (nat_eq (f n) d)) [
-        | inl here ↦ append_first (filter (λ (k : ℕ). nat_eq (f k) d) ns) (levels d) n (filter_has (λ (k : ℕ). nat_eq (f k) d) ns n is here)
+        | inl here ↦ append_first (filter (λ (k : ℕ). nat_eq (f k) d) ns) (levels d) n
+            (filter_has (λ (k : ℕ). nat_eq (f k) d) ns n is here)
         | inr apart ↦
             let other : f n ≡ d → ⊥ = eqb-false (f n) d apart in
             let fewer : f n < d = omega (arith, less, other) in
@@ -194,7 +198,8 @@ module _ (f : ℕ → ℕ) (ns : List ℕ) where
 
 -- ---- the loop over depths
 
-pub level_more : (left : ℕ) (found : List (ℕ × ℕ)) (old new whole : List ℕ) → 0 < left → new ≡ old ++ at_depth (left - 1) found
+pub level_more : (left : ℕ) (found : List (ℕ × ℕ)) (old new whole : List ℕ) → 0 < left → new ≡ old
+    ++ at_depth (left - 1) found
     → old ++ from_depth left found ≡ whole → new ++ from_depth (left - 1) found ≡ whole
 unfolding from_depth
 level_more zero found old new whole some made so_far = absurd (omega (arith, some))
@@ -204,7 +209,8 @@ level_more (suc d) found old new whole some made so_far =
     ap (λ (k : ℕ). new ++ from_depth k found) less ∙ ap (λ (xs : List ℕ). xs ++ from_depth d found) here
     ∙ append_assoc old (at_depth d found) (from_depth d found) ∙ so_far
 
-pub level_end : (left : ℕ) (found : List (ℕ × ℕ)) (old whole : List ℕ) → left ≤ 0 → old ++ from_depth left found ≡ whole → old ≡ whole
+pub level_end : (left : ℕ) (found : List (ℕ × ℕ)) (old whole : List ℕ) → left ≤ 0 → old ++ from_depth left found
+    ≡ whole → old ≡ whole
 unfolding from_depth
 level_end zero found old whole none so_far = sym (append-nil old) ∙ so_far
 level_end (suc d) found old whole none so_far = absurd (omega (arith, none))
@@ -217,7 +223,8 @@ above_all m n [] rise le = refl
 above_all m n (o ∷ os) rise le =
     let above : m < o.number = rise.0 in
     or_from (nat_eq o.number n) (has (numbers os) n)
-    (false_from_ne_true (nat_eq o.number n) (λ is. let same : o.number ≡ n = eqb-true o.number n is in absurd (omega (arith, above, le, same))))
+    (false_from_ne_true (nat_eq o.number n) (λ is. let same : o.number ≡ n = eqb-true o.number n is
+    in absurd (omega (arith, above, le, same))))
     (above_all o.number n os rise.1 (omega (arith, above, le)))
 
 once_numbers : (m : ℕ) (os : List Object) → RiseAbove m os → Once (numbers os)
@@ -246,7 +253,8 @@ numbers_live (o ∷ os) n is =
 -- ---- the subtree
 
 -- a child is one deeper, and goes with its parent
-child_deeper : (dir : Directory) (child n : ℕ) → IsSound dir → is_live dir.objects child ≡ true → is_live dir.objects n ≡ true
+child_deeper : (dir : Directory) (child n : ℕ) → IsSound dir → is_live dir.objects child ≡ true
+    → is_live dir.objects n ≡ true
     → parents dir child ≡ n → (child ≡ root → ⊥) × (depth_of (parents dir) child ≡ suc (depth_of (parents dir) n))
 child_deeper dir child n sound live parent_live is = (below, by_depth (placed_at dir sound.each child live))
   where
@@ -259,28 +267,34 @@ child_deeper dir child n sound live parent_live is = (below, by_depth (placed_at
     by_depth : IsPlaced (parents dir) child → depth_of (parents dir) child ≡ suc (depth_of (parents dir) n)
     by_depth at = by_chain at.depth at.within at.chain
       where
-        by_chain : (d : ℕ) → d ≤ max_depth → IsAtDepth (parents dir) d child → depth_of (parents dir) child ≡ suc (depth_of (parents dir) n)
+        by_chain : (d : ℕ) → d ≤ max_depth → IsAtDepth (parents dir) d child → depth_of (parents dir) child
+            ≡ suc (depth_of (parents dir) n)
         by_chain zero within chain = absurd (below chain)
         by_chain (suc d) within chain =
             let less : d ≤ max_depth = omega (arith, within) in
             depth_at (parents dir) child (suc d) chain within
-            ∙ ap (λ (k : ℕ). suc k) (sym (depth_at (parents dir) n d (subst (IsAtDepth (parents dir) d) is chain.1) less))
+            ∙ ap (λ (k : ℕ). suc k) (sym (depth_at (parents dir) n d (subst (IsAtDepth (parents dir) d) is chain.1)
+            less))
 
 module _ (dir : Directory) (target : ℕ) (sound : IsSound dir) (below : target ≡ root → ⊥) where
-  goes_too : (child n : ℕ) → is_live dir.objects child ≡ true → (child ≡ root → ⊥) → parents dir child ≡ n → goes_with dir target n ≡ true
+  goes_too : (child n : ℕ) → is_live dir.objects child ≡ true → (child ≡ root → ⊥) → parents dir child ≡ n
+      → goes_with dir target n ≡ true
       → goes_with dir target child ≡ true
   goes_too child n live not_root is goes =
       elim (cases_Bool (goes_with dir target child)) [
         | inl yes' ↦ yes'
         | inr stays ↦
-            let parent_stays : goes_with dir target (parents dir child) ≡ false = (subtree_goes_down dir target sound below).parent_stays child live not_root stays in
-            absurd (both_ways (goes_with dir target n) (subst (λ (k : ℕ). goes_with dir target k ≡ false) is parent_stays) goes)
+            let parent_stays : goes_with dir target (parents dir child) ≡ false
+            = (subtree_goes_down dir target sound below).parent_stays child live not_root stays in
+            absurd (both_ways (goes_with dir target n)
+            (subst (λ (k : ℕ). goes_with dir target k ≡ false) is parent_stays) goes)
       ]
 
   order_from : (most : ℕ) (gone rest : List ℕ) → Falls (depth_of (parents dir)) most rest
       → AllByRecursion (λ (n : ℕ). (is_live dir.objects n ≡ true) × (goes_with dir target n ≡ true)) rest
       → ((n : ℕ) → has rest n ≡ true → has gone n ≡ false)
-      → ((n : ℕ) → is_live dir.objects n ≡ true → goes_with dir target n ≡ true → (has gone n ≡ true) ⊎ (has rest n ≡ true))
+      → ((n : ℕ) → is_live dir.objects n ≡ true → goes_with dir target n ≡ true → (has gone n ≡ true)
+      ⊎ (has rest n ≡ true))
       → ChildrenFirst dir gone rest
   order_from most gone [] falls each apart all = tt
   order_from most gone (n ∷ ns) falls each apart all = (
@@ -296,18 +310,23 @@ module _ (dir : Directory) (target : ℕ) (sound : IsSound dir) (below : target 
             | inr behind ↦ absurd (later child deeper.1 behind)
           ]
         where
-          later : (child' : ℕ) → depth_of (parents dir) child' ≡ suc (depth_of (parents dir) n) → has (n ∷ ns) child' ≡ true → ⊥
+          later : (child' : ℕ) → depth_of (parents dir) child' ≡ suc (depth_of (parents dir) n) → has (n ∷ ns) child'
+              ≡ true → ⊥
           later child' deeper is' =
-              let within : depth_of (parents dir) child' ≤ depth_of (parents dir) n = falls_within (depth_of (parents dir)) (depth_of (parents dir) n) (n ∷ ns) child'
+              let within : depth_of (parents dir) child' ≤ depth_of (parents dir) n
+              = falls_within (depth_of (parents dir)) (depth_of (parents dir) n) (n ∷ ns) child'
               ((omega arith, falls.0.1), falls.1) is' in
               absurd (omega (arith, within, deeper))
 
       apart_then : (m : ℕ) → has ns m ≡ true → has (n ∷ gone) m ≡ false
       apart_then m is = or_from (nat_eq n m) (has gone m)
-          (false_from_ne_true (nat_eq n m) (λ same. both_ways (has ns n) falls.0.1 (subst (λ (k : ℕ). has ns k ≡ true) (sym (eqb-true n m same)) is)))
+          (false_from_ne_true (nat_eq n m)
+          (λ same. both_ways (has ns n) falls.0.1
+          (subst (λ (k : ℕ). has ns k ≡ true) (sym (eqb-true n m same)) is)))
           (apart m (or_right (nat_eq n m) (has ns m) is))
 
-      all_then : (m : ℕ) → is_live dir.objects m ≡ true → goes_with dir target m ≡ true → (has (n ∷ gone) m ≡ true) ⊎ (has ns m ≡ true)
+      all_then : (m : ℕ) → is_live dir.objects m ≡ true → goes_with dir target m ≡ true → (has (n ∷ gone) m ≡ true)
+          ⊎ (has ns m ≡ true)
       all_then m live goes =
           elim (all m live goes) [
             | inl before ↦ inl (or_right (nat_eq n m) (has gone m) before)
@@ -321,19 +340,23 @@ module _ (dir : Directory) (target : ℕ) (sound : IsSound dir) (below : target 
       → has (levels (depth_of (parents dir)) (filter (goes_with dir target) (numbers dir.objects)) 65) n ≡ true
   unfolding max_depth
   all_levels n live goes =
-      let shallow : depth_of (parents dir) n ≤ max_depth = placed_shallow (parents dir) n (placed_at dir sound.each n live) in
+      let shallow : depth_of (parents dir) n ≤ max_depth = placed_shallow (parents dir) n
+      (placed_at dir sound.each n live) in
       levels_have (depth_of (parents dir)) (filter (goes_with dir target) (numbers dir.objects)) 65 n
-      (filter_has (goes_with dir target) (numbers dir.objects) n (numbers_have dir.objects n live) goes) (omega (arith, shallow))
+      (filter_has (goes_with dir target) (numbers dir.objects) n (numbers_have dir.objects n live) goes)
+      (omega (arith, shallow))
 
-  pub going_all : AreGoing dir target (from_depth 65 (map (λ (n : ℕ). (depth_of (parents dir) n, n)) (filter (goes_with dir target) (numbers dir.objects))))
-  going_all = subst (AreGoing dir target) (sym (levels_are (depth_of (parents dir)) (filter (goes_with dir target) (numbers dir.objects)) 65)) (record {
-    each = each;
-    all = all_levels;
-    order = order_from 65 [] (levels (depth_of (parents dir)) (filter (goes_with dir target) (numbers dir.objects)) 65)
-        (levels_fall (depth_of (parents dir)) (filter (goes_with dir target) (numbers dir.objects)) 65
-        (once_filter (goes_with dir target) (numbers dir.objects) (once_numbers 0 dir.objects sound.rise)))
-        each (λ n is. refl) (λ n live goes. inr (all_levels n live goes));
-  })
+  pub going_all : AreGoing dir target (from_depth 65
+      (map (λ (n : ℕ). (depth_of (parents dir) n, n)) (filter (goes_with dir target) (numbers dir.objects))))
+  going_all = subst (AreGoing dir target)
+      (sym (levels_are (depth_of (parents dir)) (filter (goes_with dir target) (numbers dir.objects)) 65)) (record {
+        each = each;
+        all = all_levels;
+        order = order_from 65 [] (levels (depth_of (parents dir)) (filter (goes_with dir target) (numbers dir.objects)) 65)
+            (levels_fall (depth_of (parents dir)) (filter (goes_with dir target) (numbers dir.objects)) 65
+            (once_filter (goes_with dir target) (numbers dir.objects) (once_numbers 0 dir.objects sound.rise)))
+            each (λ n is. refl) (λ n live goes. inr (all_levels n live goes));
+      })
     where
       each : AllByRecursion (λ (n : ℕ). (is_live dir.objects n ≡ true) × (goes_with dir target n ≡ true))
           (levels (depth_of (parents dir)) (filter (goes_with dir target) (numbers dir.objects)) 65)
@@ -344,7 +367,8 @@ module _ (dir : Directory) (target : ℕ) (sound : IsSound dir) (below : target 
           (numbers_live dir.objects n parts.0, parts.1))
 
   pub going_ok : {E : Type 0} (r : Result (Vec ℕ) E)
-      → IfOk r (λ going. going.items ≡ from_depth 65 (map (λ (n : ℕ). (depth_of (parents dir) n, n)) (filter (goes_with dir target) (numbers dir.objects))))
+      → IfOk r (λ going. going.items ≡ from_depth 65
+      (map (λ (n : ℕ). (depth_of (parents dir) n, n)) (filter (goes_with dir target) (numbers dir.objects))))
       → IfOk r (λ going. AreGoing dir target going.items)
   going_ok (Ok going) is = subst (AreGoing dir target) (sym is) going_all
   going_ok (Err e) is = tt

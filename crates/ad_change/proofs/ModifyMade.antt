@@ -39,17 +39,21 @@ pub record IsModified (dir : Directory) (number : ℕ) (items : List ActItem) : 
   pub light : is_light_with dir (modified_object dir number items) ≡ true
 
 may_stand : (dir : Directory) (number : ℕ) (items : List ActItem) (sd : Sd) → IsModified dir number items
-    → MayStand dir (with_all (object_at dir.objects number) (after_items dir (object_at dir.objects number).values items) sd)
-may_stand dir number items sd is = keeps_place dir (with_all (object_at dir.objects number) (after_items dir (object_at dir.objects number).values items) sd)
+    → MayStand dir (with_all (object_at dir.objects number)
+    (after_items dir (object_at dir.objects number).values items) sd)
+may_stand dir number items sd is = keeps_place dir
+    (with_all (object_at dir.objects number) (after_items dir (object_at dir.objects number).values items) sd)
     is.sound (may_replace is.back dir number items sd is.sound is.live is.plain is.light)
     (ap (λ (n : ℕ). parent_at dir.objects n) (sym (at_number dir.objects number is.live)))
 
 all_may : (dir : Directory) (number : ℕ) (items : List ActItem) (sd : Option SdParts) → IsModified dir number items
     → MayAll dir (modify_edits dir (modified_object dir number items) sd)
 all_may dir number items None is =
-    change_may dir (modified_object dir number items) is.sound (may_stand dir number items (object_at dir.objects number).sd is)
+    change_may dir (modified_object dir number items) is.sound
+    (may_stand dir number items (object_at dir.objects number).sd is)
 all_may dir number items (Some parts) is =
-    write_may dir (record (modified_object dir number items) { sd = with_parts parts (object_at dir.objects number).sd }) is.sound
+    write_may dir (record (modified_object dir number items)
+    { sd = with_parts parts (object_at dir.objects number).sd }) is.sound
     (may_stand dir number items (with_parts parts (object_at dir.objects number).sd) is)
 
 all_made : (dir : Directory) (number : ℕ) (items : List ActItem) (sd : Option SdParts)
@@ -57,11 +61,13 @@ all_made : (dir : Directory) (number : ℕ) (items : List ActItem) (sd : Option 
 unfolding modify_made
 all_made dir number items None = changed_edited dir (modified_object dir number items)
 all_made dir number items (Some parts) =
-    written_edited dir (record (modified_object dir number items) { sd = with_parts parts (modified_object dir number items).sd })
+    written_edited dir (record (modified_object dir number items)
+    { sd = with_parts parts (modified_object dir number items).sd })
 
 -- the last check is that of the weight
 light_then : (dir : Directory) (token : Token) (number : ℕ) (items : List ActItem) (sd : Option SdParts)
-    → first_failing (modify_later dir token number items sd) ≡ None → is_light_with dir (modified_object dir number items) ≡ true
+    → first_failing (modify_later dir token number items sd) ≡ None
+    → is_light_with dir (modified_object dir number items) ≡ true
 unfolding modify_later
 light_then dir token number items sd none =
     let o : Object = object_at dir.objects number in
@@ -70,16 +76,26 @@ light_then dir token number items sd none =
     let final = both_hold (flat_map (final_checks dir.schema o.class (after_items dir o.values items)) _) _ behind.1 in
     (head_holds _ _ final.1).0
 
-pub modify_plan_is : ReadsBack → (dir : Directory) (token : Token) (number : ℕ) (items : List ActItem) (sd : Option SdParts) (edits : List EditIn)
+pub modify_plan_is : ReadsBack → (dir : Directory) (token : Token) (number : ℕ) (items : List ActItem)
+    (sd : Option SdParts) (edits : List EditIn)
     → IsSound dir → is_live dir.objects number ≡ true → AllByRecursion (IsPlainItem dir) items
     → first_failing (modify_later dir token number items sd) ≡ None
-    → AreNeeded dir (modify_edits dir (modified_object dir number items) sd) edits → AreEditsOf dir token (act.Modify number items sd) edits
+    → AreNeeded dir (modify_edits dir (modified_object dir number items) sd) edits
+    → AreEditsOf dir token (act.Modify number items sd) edits
 unfolding later_checks made
 modify_plan_is back dir token number items sd edits sound live plain none needed =
     let is : IsModified dir number items =
-    record { back = back; sound = sound; live = live; plain = plain; light = light_then dir token number items sd none } in record {
+    record {
+      back = back;
+      sound = sound;
+      live = live;
+      plain = plain;
+      light = light_then dir token number items sd
+          none;
+    } in record {
       holds = none;
-      may = needed_may dir (modify_edits dir (modified_object dir number items) sd) edits needed (all_may dir number items sd is);
+      may = needed_may dir (modify_edits dir (modified_object dir number items) sd) edits needed
+          (all_may dir number items sd is);
       make = needed.make ∙ all_made dir number items sd;
       nothing = λ same. needed.nothing (all_made dir number items sd ∙ same);
     }
@@ -93,7 +109,8 @@ pub record IsPut (dir : Directory) (number : ℕ) (o : Object) : Type 0 where
   pub class : o.class < length (classes_of dir.schema)
   pub parent : (o.number ≡ root → ⊥) → is_live dir.objects o.parent ≡ true
 
-pub modified_is_put : (dir : Directory) (number : ℕ) (items : List ActItem) (o : Object) → IsSound dir → is_live dir.objects number ≡ true
+pub modified_is_put : (dir : Directory) (number : ℕ) (items : List ActItem) (o : Object) → IsSound dir
+    → is_live dir.objects number ≡ true
     → o ≡ modified_object dir number items → IsPut dir number o
 modified_is_put dir number items o sound live is = subst (IsPut dir number) (sym is) (record {
   same = same;

@@ -58,7 +58,8 @@ bytes_short w s is =
       | inr short ↦ short
     ]
 
-normal_again : SidsRead → (s : SidValue) → IsSid s → normal_or_fault syntax.Sid (sid_bytes s) ≡ Ok (as_shown (sid_bytes s))
+normal_again : SidsRead → (s : SidValue) → IsSid s → normal_or_fault syntax.Sid (sid_bytes s)
+    ≡ Ok (as_shown (sid_bytes s))
 unfolding normal_of
 normal_again w s is = rw (bytes_short w s is, bytes_again w s is) refl
 
@@ -94,7 +95,8 @@ syntax_named schema (Some id) attr is =
       | inr not_counts ↦ absurd (none-some attr (rw not_counts at is))
     ]
 
-syntax_of_sid : (schema : List SchemaRecord) (attr : ℕ) → object_sid schema ≡ Some attr → syntax_at schema attr ≡ syntax.Sid
+syntax_of_sid : (schema : List SchemaRecord) (attr : ℕ) → object_sid schema ≡ Some attr → syntax_at schema attr
+    ≡ syntax.Sid
 unfolding rule_place attr_of_rule
 syntax_of_sid schema attr is = syntax_named schema (attr_named schema (rule_name rule.ObjectSid)) attr is
 
@@ -129,12 +131,15 @@ child_is s t r is fits child =
       | inl few ↦
           let less : length s.sub_authorities < 15 = ltb-true (length s.sub_authorities) 15 few in
           let at_least : 1 ≤ length s.sub_authorities = is.at_least_one in
-          let long : length (s.sub_authorities ++ r ∷ []) ≡ length s.sub_authorities + 1 = length-append s.sub_authorities (r ∷ []) in
-          subst IsSid (same_Some (record { authority = s.authority; sub_authorities = s.sub_authorities ++ r ∷ [] }) t (rw few at child)) (record {
+          let long : length (s.sub_authorities ++ r ∷ []) ≡ length s.sub_authorities + 1
+          = length-append s.sub_authorities (r ∷ []) in
+          subst IsSid (same_Some (record { authority = s.authority; sub_authorities = s.sub_authorities ++ r ∷ [] }) t
+          (rw few at child)) (record {
             authority = is.authority;
             at_least_one = rw long (omega arith);
             at_most_15 = rw long (omega arith);
-            sub_authorities = all_of_both (λ (n : ℕ). n < 2 ^ 32) s.sub_authorities (r ∷ []) is.sub_authorities (fits, tt);
+            sub_authorities = all_of_both (λ (n : ℕ). n < 2 ^ 32) s.sub_authorities (r ∷ []) is.sub_authorities
+                (fits, tt);
           })
       | inr many ↦ absurd (none-some t (rw many at child))
     ]
@@ -147,10 +152,12 @@ counter_fits : (r : ℕ) → r < max_counter → r < 2 ^ 32
 unfolding max_counter
 counter_fits r less = omega arith
 
-pub domain_child_is : (dir : Directory) (t : SidValue) (r : ℕ) → HasDomain dir → r < max_counter → domain_child dir r ≡ Some t → IsSid t
+pub domain_child_is : (dir : Directory) (t : SidValue) (r : ℕ) → HasDomain dir → r < max_counter → domain_child dir r
+    ≡ Some t → IsSid t
 unfolding domain_child
 domain_child_is dir t r has less child = by_domain (domain_sid dir) refl child
   where
-    by_domain : (domain : Option SidValue) → domain_sid dir ≡ domain → option_and_then (λ (s : SidValue). child_of s r) domain ≡ Some t → IsSid t
+    by_domain : (domain : Option SidValue) → domain_sid dir ≡ domain
+        → option_and_then (λ (s : SidValue). child_of s r) domain ≡ Some t → IsSid t
     by_domain None at is = absurd (none-some t is)
     by_domain (Some s) at is = child_is s t r (has s at) (counter_fits r less) is

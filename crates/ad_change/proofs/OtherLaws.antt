@@ -1,7 +1,9 @@
 -- The weight of all objects but one.
-use Rattle.std.proofs.Common.{◌≡◌, ℕ, ◌+◌, ◌-◌, ◌<◌, ◌≤◌, true, false, List, [], ◌∷◌, length, Option, Some, None, inl, inr, refl, sym, subst, ap, ◌∙◌, arith}
+use Rattle.std.proofs.Common.{◌≡◌, ℕ, ◌+◌, ◌-◌, ◌<◌, ◌≤◌, true, false, List, [], ◌∷◌, length, Option, Some, None, inl}
+use Rattle.std.proofs.Common.{inr, refl, sym, subst, ap, ◌∙◌, arith}
 use Rattle.std.specs.Prelude.{nat_eq, nat_lt, nat_le, filter, is_some}
-use Rattle.std.proofs.lemmas.Bool.{cases_Bool, eqb-true, eq-eqb, ne_eqb, ltb-true, ltb-false, lt-ltb, le-ltb, leb-true, leb-false, le-leb, lt-leb}
+use Rattle.std.proofs.lemmas.Bool.{cases_Bool, eqb-true, eq-eqb, ne_eqb, ltb-true, ltb-false, lt-ltb, le-ltb}
+use Rattle.std.proofs.lemmas.Bool.{leb-true, leb-false, le-leb, lt-leb}
 use Rattle.std.proofs.lemmas.Option.{none-some, same_Some}
 use Rattle.ad_schema.specs.declared.line.SchemaRecord.{SchemaRecord}
 use Rattle.ad_dir.specs.Listing.{next_number}
@@ -43,7 +45,8 @@ next_at m above n (x ∷ xs) rise is = elim (cases_Bool (nat_lt above x.number))
       let not_less : nat_lt x.number x.number ≡ false = le-ltb x.number x.number (omega arith) in
       let below : above < x.number = ltb-true above x.number here in
       let rest : behind above xs ≡ behind x.number xs =
-      all_behind x.number above xs rise.1 (omega (arith, below)) ∙ sym (all_behind x.number x.number xs rise.1 (omega arith)) in
+      all_behind x.number above xs rise.1 (omega (arith, below))
+      ∙ sym (all_behind x.number x.number xs rise.1 (omega arith)) in
       subst (CutsAt (x ∷ xs) above) same (record {
         less = below;
         live = rw itself refl;
@@ -68,7 +71,8 @@ none_behind above (x ∷ xs) is = elim (cases_Bool (nat_lt above x.number)) [
 
 -- what is left after the next one
 pub others_next : (schema : List SchemaRecord) (but : ℕ) (os : List Object) (above n : ℕ) → CutsAt os above n
-    → others_weight schema but (behind above os) ≡ other_weight schema but (object_at os n) + others_weight schema but (behind n os)
+    → others_weight schema but (behind above os) ≡ other_weight schema but (object_at os n) + others_weight schema but
+    (behind n os)
 unfolding others_weight
 others_next schema but os above n next = ap (others_weight schema but) next.cut
 
@@ -77,12 +81,14 @@ pub others_end : (schema : List SchemaRecord) (but above : ℕ) (os : List Objec
 unfolding others_weight
 others_end schema but above os is = ap (others_weight schema but) (none_behind above os is)
 
-pub fewer_behind : (os : List Object) (above n : ℕ) → CutsAt os above n → length (behind n os) < length (behind above os)
+pub fewer_behind : (os : List Object) (above n : ℕ) → CutsAt os above n → length (behind n os)
+    < length (behind above os)
 fewer_behind os above n next =
     let longer : length (behind above os) ≡ length (object_at os n ∷ behind n os) = ap length next.cut in
     omega (arith, longer)
 
-pub is_other : (schema : List SchemaRecord) (but : ℕ) (o : Object) → (o.number ≡ but → ⊥) → other_weight schema but o ≡ object_weight schema o
+pub is_other : (schema : List SchemaRecord) (but : ℕ) (o : Object) → (o.number ≡ but → ⊥) → other_weight schema but o
+    ≡ object_weight schema o
 unfolding other_weight
 is_other schema but o apart = rw (ne_eqb o.number but apart) refl
 
@@ -102,7 +108,8 @@ none_apart schema m but (x ∷ xs) rise le =
     let rest = none_apart schema x.number but xs rise.1 (omega (arith, least, le)) in
     rw (one, rest) refl
 
-one_apart : (schema : List SchemaRecord) (m : ℕ) (os : List Object) (n : ℕ) (o : Object) → RiseAbove m os → object_of os n ≡ Some o
+one_apart : (schema : List SchemaRecord) (m : ℕ) (os : List Object) (n : ℕ) (o : Object) → RiseAbove m os
+    → object_of os n ≡ Some o
     → objects_weight schema os ≡ object_weight schema o + others_weight schema n os
 unfolding others_weight objects_weight object_of
 one_apart schema m [] n o rise is = absurd (none-some o is)
@@ -115,7 +122,8 @@ one_apart schema m (x ∷ xs) n o rise is = elim (cases_Bool (nat_eq x.number n)
       let weighs : object_weight schema x ≡ object_weight schema o = ap (object_weight schema) itself in
       omega (arith, none, rest, weighs)
   | inr other ↦
-      let apart = is_other schema n x (λ e. let yes' : nat_eq x.number n ≡ true = eq-eqb x.number n e in absurd (both n x other yes')) in
+      let apart = is_other schema n x (λ e. let yes' : nat_eq x.number n ≡ true = eq-eqb x.number n e
+      in absurd (both n x other yes')) in
       let rest = one_apart schema x.number xs n o rise.1 (rw other at is) in
       omega (arith, apart, rest)
 ]
@@ -134,7 +142,8 @@ put_apart schema m o (x ∷ xs) rise = elim (cases_Bool (nat_eq x.number o.numbe
       let rest = none_apart schema x.number o.number xs rise.1 (omega (arith, same)) in
       rw here (omega (arith, none, rest))
   | inr other ↦
-      let differ : x.number ≡ o.number → ⊥ = λ e. let yes' : nat_eq x.number o.number ≡ true = eq-eqb x.number o.number e in
+      let differ : x.number ≡ o.number → ⊥ = λ e. let yes' : nat_eq x.number o.number ≡ true
+      = eq-eqb x.number o.number e in
       (let e' : false ≡ true = sym other ∙ yes' in cc) in
       let apart = is_other schema o.number x differ in
       elim (cases_Bool (nat_lt o.number x.number)) [
@@ -166,23 +175,27 @@ no_left max weight e = elim (cases_Bool (nat_le weight max)) [
 ]
 
 -- where none has the number, it is all
-not_there : (schema : List SchemaRecord) (n : ℕ) (os : List Object) → object_of os n ≡ None → others_weight schema n os ≡ objects_weight schema os
+not_there : (schema : List SchemaRecord) (n : ℕ) (os : List Object) → object_of os n ≡ None
+    → others_weight schema n os ≡ objects_weight schema os
 unfolding others_weight objects_weight object_of
 not_there schema n [] is = refl
 not_there schema n (x ∷ xs) is = elim (cases_Bool (nat_eq x.number n)) [
   | inl here ↦ absurd (none-some x (sym (rw here at is)))
   | inr other ↦
-      let one = is_other schema n x (λ e. let yes' : nat_eq x.number n ≡ true = eq-eqb x.number n e in (let e' : false ≡ true = sym other ∙ yes' in cc)) in
+      let one = is_other schema n x (λ e. let yes' : nat_eq x.number n ≡ true = eq-eqb x.number n e
+      in (let e' : false ≡ true = sym other ∙ yes' in cc)) in
       let rest = not_there schema n xs (rw other at is) in
       rw (one, rest) refl
 ]
 
-pub all_are_others : (dir : Directory) (n all : ℕ) → object_of dir.objects n ≡ None → all ≡ weight dir → all ≡ others_weight dir.schema n dir.objects
+pub all_are_others : (dir : Directory) (n all : ℕ) → object_of dir.objects n ≡ None → all ≡ weight dir → all
+    ≡ others_weight dir.schema n dir.objects
 unfolding weight
 all_are_others dir n all is known = known ∙ sym (not_there dir.schema n dir.objects is)
 
 -- without the one
-pub less_one : (dir : Directory) (n all left : ℕ) (o : Object) → RiseAbove 0 dir.objects → object_of dir.objects n ≡ Some o → left_of 268435456 (object_weight dir.schema o) ≡ Some left → all ≡ weight dir
+pub less_one : (dir : Directory) (n all left : ℕ) (o : Object) → RiseAbove 0 dir.objects → object_of dir.objects n
+    ≡ Some o → left_of 268435456 (object_weight dir.schema o) ≡ Some left → all ≡ weight dir
     → all - (268435456 - left) ≡ others_weight dir.schema n dir.objects
 unfolding weight
 less_one dir n all left o rise is taken known =
@@ -193,7 +206,8 @@ less_one dir n all left o rise is taken known =
 pub left_within : (weight left : ℕ) → left_of 268435456 weight ≡ Some left → left ≤ 268435456
 left_within weight left is = let left_after = left_is 268435456 weight left is in omega (arith, left_after.1)
 
-pub light_by : (dir : Directory) (o : Object) (left : ℕ) → IsSound dir → left_of 268435456 (object_weight dir.schema o) ≡ Some left
+pub light_by : (dir : Directory) (o : Object) (left : ℕ) → IsSound dir
+    → left_of 268435456 (object_weight dir.schema o) ≡ Some left
     → nat_le (others_weight dir.schema o.number dir.objects) left ≡ is_light_with dir o
 unfolding is_light_with weight max_weight
 light_by dir o left sound is =
@@ -201,14 +215,19 @@ light_by dir o left sound is =
     let left_after = left_is 268435456 (object_weight dir.schema o) left is in
     elim (cases_Bool (nat_le (others_weight dir.schema o.number dir.objects) left)) [
       | inl enough ↦
-          let le : others_weight dir.schema o.number dir.objects ≤ left = leb-true (others_weight dir.schema o.number dir.objects) left enough in
-          enough ∙ sym (le-leb (objects_weight dir.schema (put o dir.objects)) 268435456 (omega (arith, parts, left_after.0, left_after.1, le)))
+          let le : others_weight dir.schema o.number dir.objects ≤ left
+          = leb-true (others_weight dir.schema o.number dir.objects) left enough in
+          enough ∙ sym (le-leb (objects_weight dir.schema (put o dir.objects)) 268435456
+          (omega (arith, parts, left_after.0, left_after.1, le)))
       | inr more ↦
-          let lt : left < others_weight dir.schema o.number dir.objects = leb-false (others_weight dir.schema o.number dir.objects) left more in
-          more ∙ sym (lt-leb (objects_weight dir.schema (put o dir.objects)) 268435456 (omega (arith, parts, left_after.0, left_after.1, lt)))
+          let lt : left < others_weight dir.schema o.number dir.objects
+          = leb-false (others_weight dir.schema o.number dir.objects) left more in
+          more ∙ sym (lt-leb (objects_weight dir.schema (put o dir.objects)) 268435456
+          (omega (arith, parts, left_after.0, left_after.1, lt)))
     ]
 
-pub heavy_by : (dir : Directory) (o : Object) → IsSound dir → left_of 268435456 (object_weight dir.schema o) ≡ None → false ≡ is_light_with dir o
+pub heavy_by : (dir : Directory) (o : Object) → IsSound dir → left_of 268435456 (object_weight dir.schema o) ≡ None
+    → false ≡ is_light_with dir o
 unfolding is_light_with weight max_weight
 heavy_by dir o sound is =
     let parts = put_apart dir.schema 0 o dir.objects sound.rise in

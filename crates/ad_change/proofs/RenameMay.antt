@@ -76,7 +76,8 @@ rename_may dir target parent name sound is none =
         → MayAll dir (if in_place then change_edits (renamed_object (object_at dir.objects target) parent name)
         else write_edits dir (renamed_object (object_at dir.objects target) parent name))
     by_place true e =
-        let keeps : parent ≡ parents dir (object_at dir.objects target).number = sym (eqb-true (parents dir target) parent e) ∙ ap (parents dir) (sym number) in
+        let keeps : parent ≡ parents dir (object_at dir.objects target).number
+        = sym (eqb-true (parents dir target) parent e) ∙ ap (parents dir) (sym number) in
         change_may dir (renamed_object (object_at dir.objects target) parent name) sound
         (keeps_place dir (renamed_object (object_at dir.objects target) parent name) sound replace keeps)
     by_place false e =
@@ -85,13 +86,16 @@ rename_may dir target parent name sound is none =
         (moves dir (renamed_object (object_at dir.objects target) parent name) replace
         (may_move dir target parent name is.live is.below is.parent_live (apart differ) shallow))
 
-pub renaming_is : (dir : Directory) (token : Token) (target parent : ℕ) (name : List ℕ) (edits : List EditIn) → IsSound dir
+pub renaming_is : (dir : Directory) (token : Token) (target parent : ℕ) (name : List ℕ) (edits : List EditIn)
+    → IsSound dir
     → IsRenaming dir target parent name → first_failing (rename_later dir target parent name) ≡ None
-    → AreNeeded dir (rename_edits dir target parent name) edits → AreEditsOf dir token (act.Rename target parent name) edits
+    → AreNeeded dir (rename_edits dir target parent name) edits → AreEditsOf dir token (act.Rename target parent name)
+    edits
 unfolding later_checks made
 renaming_is dir token target parent name edits sound is none needed = record {
   holds = none;
-  may = needed_may dir (rename_edits dir target parent name) edits needed (rename_may dir target parent name sound is none);
+  may = needed_may dir (rename_edits dir target parent name) edits needed
+      (rename_may dir target parent name sound is none);
   make = needed.make ∙ renamed_edited dir target parent name;
   nothing = λ same. needed.nothing (renamed_edited dir target parent name ∙ same);
 }

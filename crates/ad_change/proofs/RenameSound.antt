@@ -34,12 +34,14 @@ use Rattle.ad_change.proofs.Resolved.{IsRenaming, renaming_of}
 
 -- ---- the new object
 
-sid_renamed : (dir : Directory) (o : Object) (parent : ℕ) (name : List ℕ) → sid_in dir.schema (renamed_object o parent name) ≡ sid_in dir.schema o
+sid_renamed : (dir : Directory) (o : Object) (parent : ℕ) (name : List ℕ)
+    → sid_in dir.schema (renamed_object o parent name) ≡ sid_in dir.schema o
 unfolding sid_in first_of_attr
 sid_renamed dir o parent name = refl
 
 -- no sibling has the name
-own_name : (dir : Directory) (number parent : ℕ) (name : List ℕ) → IsSound dir → is_live dir.objects number ≡ true → is_free dir number parent name ≡ true
+own_name : (dir : Directory) (number parent : ℕ) (name : List ℕ) → IsSound dir → is_live dir.objects number ≡ true
+    → is_free dir number parent name ≡ true
     → HasOwnName dir.objects (renamed_object (object_at dir.objects number) parent name)
 unfolding child_named
 own_name dir number parent name sound live free m other is same_parent same_name =
@@ -52,7 +54,8 @@ own_name dir number parent name sound live free m other is same_parent same_name
     passes = and_from (nat_eq other.parent parent) (same_folded other.name name)
         (eq-eqb other.parent parent same_parent) ((bytes_eq-Decides (folded other.name) (folded name)).1 same_name)
 
-    by_found : (r : Option Object) → find test dir.objects ≡ r → option_map_or (λ (x : Object). nat_eq x.number number) r true ≡ true → other.number ≡ number
+    by_found : (r : Option Object) → find test dir.objects ≡ r
+        → option_map_or (λ (x : Object). nat_eq x.number number) r true ≡ true → other.number ≡ number
     by_found None none free' = absurd (both_ways (test other) (none_found test dir.objects m other none is) passes)
     by_found (Some x) first free' =
         let found = found_first test 0 dir.objects x sound.rise first in
@@ -62,8 +65,10 @@ own_name dir number parent name sound live free m other is same_parent same_name
         (sound.each x.number x found.live).own_name m other is (same_parent ∙ sym x_parent) (same_name ∙ sym x_name)
         ∙ eqb-true x.number number free'
 
-pub may_replace : (dir : Directory) (number parent : ℕ) (name : List ℕ) → IsSound dir → is_live dir.objects number ≡ true → IsValue name
-    → is_free dir number parent name ≡ true → is_light_with dir (renamed_object (object_at dir.objects number) parent name) ≡ true
+pub may_replace : (dir : Directory) (number parent : ℕ) (name : List ℕ) → IsSound dir → is_live dir.objects number
+    ≡ true → IsValue name
+    → is_free dir number parent name ≡ true
+    → is_light_with dir (renamed_object (object_at dir.objects number) parent name) ≡ true
     → MayReplace dir (renamed_object (object_at dir.objects number) parent name)
 unfolding is_light_with
 may_replace dir number parent name sound live value free light = record {
@@ -103,7 +108,8 @@ may_move dir number parent name live not_root parent_live apart shallow = record
   apart = λ (e : (object_at dir.objects number).number ≡ parent). apart (sym is ∙ e);
   placed = λ n n_live.
       let passes : nat_le (depth_of after (object_at dir.objects n).number) max_depth ≡ true
-      = passes_at (λ (x : Object). nat_le (depth_of after x.number) max_depth) dir.objects n (object_at dir.objects n) shallow (of-live dir.objects n n_live) in
+      = passes_at (λ (x : Object). nat_le (depth_of after x.number) max_depth) dir.objects n (object_at dir.objects n)
+      shallow (of-live dir.objects n n_live) in
       shallow_placed after n (subst (λ (k : ℕ). depth_of after k ≤ max_depth) (at_number dir.objects n n_live)
       (leb-true (depth_of after (object_at dir.objects n).number) max_depth passes));
 }
@@ -131,12 +137,17 @@ rename_is_sound dir number parent name sound live not_root parent_live apart val
 
 -- ---- what the checks up to the required rights say
 
-pub renamed_is_sound : (dir : Directory) (token : Token) (r : Rename) → IsSound dir → first_failing (rename_checks dir token r) ≡ None
-    → first_failing (rename_later dir (number_named dir token r.dn) (new_parent dir token r) (unwrap_or (new_rdn r) no_rdn).value) ≡ None
+pub renamed_is_sound : (dir : Directory) (token : Token) (r : Rename) → IsSound dir
+    → first_failing (rename_checks dir token r) ≡ None
+    → first_failing (rename_later dir (number_named dir token r.dn) (new_parent dir token r)
+    (unwrap_or (new_rdn r) no_rdn).value) ≡ None
     → IsSound (renamed dir (number_named dir token r.dn) (new_parent dir token r) (unwrap_or (new_rdn r) no_rdn).value)
 unfolding goes_with
 renamed_is_sound dir token r sound none later =
-    let are : IsRenaming dir (number_named dir token r.dn) (new_parent dir token r) (unwrap_or (new_rdn r) no_rdn).value = renaming_of dir token r sound none in
-    rename_is_sound dir (number_named dir token r.dn) (new_parent dir token r) (unwrap_or (new_rdn r) no_rdn).value sound are.live are.below are.parent_live
+    let are : IsRenaming dir (number_named dir token r.dn) (new_parent dir token r)
+    (unwrap_or (new_rdn r) no_rdn).value = renaming_of dir token r sound none in
+    rename_is_sound dir (number_named dir token r.dn) (new_parent dir token r) (unwrap_or (new_rdn r) no_rdn).value
+    sound are.live are.below are.parent_live
     (λ differ same. eqb-false (new_parent dir token r) (number_named dir token r.dn)
-    (or_parts (nat_eq (new_parent dir token r) (number_named dir token r.dn)) _ (are.outside differ)).0 (sym same)) are.value later
+    (or_parts (nat_eq (new_parent dir token r) (number_named dir token r.dn)) _ (are.outside differ)).0 (sym same))
+    are.value later

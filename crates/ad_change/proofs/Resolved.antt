@@ -13,7 +13,8 @@ use Rattle.ad_dn.specs.Reading.{dn_of}
 use Rattle.ad_dn.proofs.ReadOff.{dn_read}
 use Rattle.ad_dn.proofs.Spelled.{spelled_are}
 use Rattle.ad_ldap.specs.declared.requests.Rename.{Rename}
-use Rattle.ad_ldap.specs.MessageValue.{OpValue, Bind, Unbind, SearchOf, ModifyOf, AddOf, DeleteOf, RenameOf, CompareOf, Abandon, Extended}
+use Rattle.ad_ldap.specs.MessageValue.{OpValue, Bind, Unbind, SearchOf, ModifyOf, AddOf, DeleteOf, RenameOf}
+use Rattle.ad_ldap.specs.MessageValue.{CompareOf, Abandon, Extended}
 use Rattle.ad_dir_objects.specs.declared.act.Act.{Act}
 use Rattle.ad_dir_objects.specs.declared.act.Act.TheVariants as act
 use Rattle.ad_dir_model.specs.Objects.{is_live, parent_at}
@@ -27,7 +28,8 @@ use Rattle.ad_needs_rules.specs.Checks.{Refusal, code, hidden, missing, first_fa
 use Rattle.ad_needs_rules.specs.Requests.{number_named, no_rdn}
 use Rattle.ad_needs.specs.Adding.{add_act}
 use Rattle.ad_needs.specs.Deleting.{delete_checks, delete_act}
-use Rattle.ad_needs.specs.Renaming.{one_part, new_rdn, new_parent, superior_seen, superior_outside, rename_checks, rename_act}
+use Rattle.ad_needs.specs.Renaming.{one_part, new_rdn, new_parent, superior_seen, superior_outside, rename_checks}
+use Rattle.ad_needs.specs.Renaming.{rename_act}
 use Rattle.ad_needs.specs.Modifying.{modify_act}
 use Rattle.ad_needs.specs.Verdicts.{verdict_of, IsChange, Resolves}
 use Rattle.ad_needs_rules.proofs.FirstFailing.{head_holds, both_hold}
@@ -60,7 +62,8 @@ pub record IsDeletion (dir : Directory) (target : ℕ) : Type 0 where
 same_target : (a b : ℕ) (t u : Bool) → act.Delete a t ≡ act.Delete b u → a ≡ b
 same_target a b t u e = cc
 
-pub deletion_of : (dir : Directory) (token : Token) (dn : List ℕ) (tree : Bool) → IsSound dir → first_failing (delete_checks dir token dn tree) ≡ None
+pub deletion_of : (dir : Directory) (token : Token) (dn : List ℕ) (tree : Bool) → IsSound dir
+    → first_failing (delete_checks dir token dn tree) ≡ None
     → IsDeletion dir (number_named dir token dn)
 unfolding delete_checks
 deletion_of dir token dn tree sound none =
@@ -69,14 +72,17 @@ deletion_of dir token dn tree sound none =
     let not_root = head_holds _ _ seen.1 in
     record {
       live = named_live dir token dn sound.rise seen.0;
-      below = eqb-false (number_named dir token dn) root (not-true (nat_eq (number_named dir token dn) root) not_root.0);
+      below = eqb-false (number_named dir token dn) root
+          (not-true (nat_eq (number_named dir token dn) root) not_root.0);
     }
 
-pub deletion : (dir : Directory) (token : Token) (target : ℕ) (tree : Bool) → IsSound dir → Resolves dir token (act.Delete target tree) → IsDeletion dir target
+pub deletion : (dir : Directory) (token : Token) (target : ℕ) (tree : Bool) → IsSound dir
+    → Resolves dir token (act.Delete target tree) → IsDeletion dir target
 unfolding verdict_of
 deletion dir token target tree sound r = by_op r.op r.change r.granted
   where
-    by_op : (op : OpValue) → IsChange op → verdict_of dir token op r.settings ≡ Granted (act.Delete target tree) → IsDeletion dir target
+    by_op : (op : OpValue) → IsChange op → verdict_of dir token op r.settings ≡ Granted (act.Delete target tree)
+        → IsDeletion dir target
     by_op (DeleteOf dn) change granted =
         let is = granted_is _ _ _ granted in
         subst (IsDeletion dir) (same_target _ _ _ _ is.1) (deletion_of dir token dn r.settings.tree sound is.0)
@@ -125,7 +131,8 @@ same_renaming a b p q n m e = (ta, tp, tn)
 -- the value of the one part that a text encodes
 rdn_value : (rdns : List Rdn) (rdn : Rdn) → AreRdns rdns → one_part rdns ≡ Some rdn → IsValue rdn.value
 rdn_value [] rdn are is = absurd (none-some rdn is)
-rdn_value (first ∷ []) rdn are is = let e : first ≡ rdn = same_Some first rdn is in subst (λ (x : Rdn). IsValue x.value) e are.0.value
+rdn_value (first ∷ []) rdn are is = let e : first ≡ rdn = same_Some first rdn is
+    in subst (λ (x : Rdn). IsValue x.value) e are.0.value
 rdn_value (first ∷ second ∷ others) rdn are is = absurd (none-some rdn is)
 
 value_of : (r : Rename) → is_some (new_rdn r) ≡ true → IsValue (unwrap_or (new_rdn r) no_rdn).value
@@ -134,15 +141,18 @@ value_of r some = by_dn (dn_of r.rdn) refl some
     of : Option Dn → Option Rdn
     of dn = option_and_then one_part (option_map (λ (d : Dn). d.rdns) dn)
 
-    by_rdn : (rdns : List Rdn) (rdn : Option Rdn) → AreRdns rdns → one_part rdns ≡ rdn → is_some rdn ≡ true → IsValue (unwrap_or rdn no_rdn).value
+    by_rdn : (rdns : List Rdn) (rdn : Option Rdn) → AreRdns rdns → one_part rdns ≡ rdn → is_some rdn ≡ true
+        → IsValue (unwrap_or rdn no_rdn).value
     by_rdn rdns None are is some' = absurd (false≢true some')
     by_rdn rdns (Some rdn) are is some' = rdn_value rdns rdn are is
 
     by_dn : (dn : Option Dn) → dn_of r.rdn ≡ dn → is_some (of dn) ≡ true → IsValue (unwrap_or (of dn) no_rdn).value
     by_dn None is some' = absurd (false≢true some')
-    by_dn (Some dn) is some' = by_rdn dn.rdns (one_part dn.rdns) (spelled_are dn.rdns r.rdn (dn_read r.rdn dn is)) refl some'
+    by_dn (Some dn) is some' = by_rdn dn.rdns (one_part dn.rdns) (spelled_are dn.rdns r.rdn (dn_read r.rdn dn is))
+        refl some'
 
-pub renaming_of : (dir : Directory) (token : Token) (r : Rename) → IsSound dir → first_failing (rename_checks dir token r) ≡ None
+pub renaming_of : (dir : Directory) (token : Token) (r : Rename) → IsSound dir
+    → first_failing (rename_checks dir token r) ≡ None
     → IsRenaming dir (number_named dir token r.dn) (new_parent dir token r) (unwrap_or (new_rdn r) no_rdn).value
 unfolding rename_checks new_parent
 renaming_of dir token r sound none =
@@ -175,7 +185,8 @@ renaming_of dir token r sound none =
     parent_live (Some text) seen live below = named_live dir token text sound.rise (head_holds _ _ seen).0
 
     apart : (superior : Option (List ℕ)) → superior_outside dir token number superior ≡ true
-        → (parent_at dir.objects number ≡ option_map_or (number_named dir token) superior (parent_at dir.objects number) → ⊥)
+        → (parent_at dir.objects number ≡ option_map_or (number_named dir token) superior
+        (parent_at dir.objects number) → ⊥)
         → goes_with dir number (option_map_or (number_named dir token) superior (parent_at dir.objects number)) ≡ false
     apart None outside differ = absurd (differ refl)
     apart (Some text) outside differ = not-true (goes_with dir number (number_named dir token text)) outside
@@ -185,13 +196,15 @@ pub renaming : (dir : Directory) (token : Token) (target parent : ℕ) (name : L
 unfolding verdict_of
 renaming dir token target parent name sound r = by_op r.op r.change r.granted
   where
-    by_op : (op : OpValue) → IsChange op → verdict_of dir token op r.settings ≡ Granted (act.Rename target parent name) → IsRenaming dir target parent name
+    by_op : (op : OpValue) → IsChange op → verdict_of dir token op r.settings
+        ≡ Granted (act.Rename target parent name) → IsRenaming dir target parent name
     by_op (RenameOf x) change granted =
         let is = granted_is _ _ _ granted in
         let same = same_renaming _ _ _ _ _ _ is.1 in
         subst (IsRenaming dir target parent) same.2
         (subst (λ (p : ℕ). IsRenaming dir target p (unwrap_or (new_rdn x) no_rdn).value) same.1
-        (subst (λ (t : ℕ). IsRenaming dir t (new_parent dir token x) (unwrap_or (new_rdn x) no_rdn).value) same.0 (renaming_of dir token x sound is.0)))
+        (subst (λ (t : ℕ). IsRenaming dir t (new_parent dir token x) (unwrap_or (new_rdn x) no_rdn).value) same.0
+        (renaming_of dir token x sound is.0)))
     by_op (DeleteOf dn) change granted = absurd (by_act (granted_is _ _ _ granted).1)
       where
         by_act : delete_act dir token dn r.settings.tree ≡ act.Rename target parent name → ⊥

@@ -1,5 +1,7 @@
--- What is known of an addition and of a modification that the checks up to the required rights resolve an operation to.
-use Rattle.std.proofs.Common.{◌≡◌, ℕ, ◌<◌, ◌≤◌, true, List, [], ◌∷◌, length, Option, Some, None, refl, sym, subst, ap, inl, inr}
+-- What is known of an addition and of a modification that the checks up to the required rights resolve an operation
+-- to.
+use Rattle.std.proofs.Common.{◌≡◌, ℕ, ◌<◌, ◌≤◌, true, List, [], ◌∷◌, length, Option, Some, None, refl, sym, subst, ap}
+use Rattle.std.proofs.Common.{inl, inr}
 use Rattle.std.specs.Prelude.{unwrap_or, drop, option_map, map, filter, filter_map, codes}
 use Rattle.std.specs.List.{AllByRecursion, flat_map, cons_option}
 use Rattle.std.proofs.lemmas.Bool.{cases_Bool}
@@ -11,7 +13,8 @@ use Rattle.ad_sd.specs.declared.parts.SdParts.{SdParts}
 use Rattle.ad_ldap.specs.declared.items.Item.{Item}
 use Rattle.ad_ldap.specs.declared.requests.Add.{Add}
 use Rattle.ad_ldap.specs.declared.requests.Modify.{Modify}
-use Rattle.ad_ldap.specs.MessageValue.{OpValue, Bind, Unbind, SearchOf, ModifyOf, AddOf, DeleteOf, RenameOf, CompareOf, Abandon, Extended}
+use Rattle.ad_ldap.specs.MessageValue.{OpValue, Bind, Unbind, SearchOf, ModifyOf, AddOf, DeleteOf, RenameOf}
+use Rattle.ad_ldap.specs.MessageValue.{CompareOf, Abandon, Extended}
 use Rattle.ad_schema.specs.declared.line.SchemaRecord.{SchemaRecord}
 use Rattle.ad_schema.specs.declared.info.AttrId.{AttrId}
 use Rattle.ad_schema.specs.declared.info.ClassId.{ClassId}
@@ -26,7 +29,8 @@ use Rattle.ad_dir_model.specs.Soundness.{IsSound}
 use Rattle.ad_needs_rules.specs.declared.outcome.Verdict.TheVariants.{Granted}
 use Rattle.ad_needs_rules.specs.Checks.{first_failing}
 use Rattle.ad_needs_rules.specs.Requests.{parts_in, number_named, is_descriptor}
-use Rattle.ad_needs.specs.Adding.{new_part, parent_named, parent_number, all_naming_checks, sent, new_class, class_number}
+use Rattle.ad_needs.specs.Adding.{new_part, parent_named, parent_number, all_naming_checks, sent, new_class}
+use Rattle.ad_needs.specs.Adding.{class_number}
 use Rattle.ad_needs.specs.Adding.{all_ordinary, own_checks, new_values, by_id, is_value, ordinary, add_checks, add_act}
 use Rattle.ad_needs.specs.Deleting.{delete_act}
 use Rattle.ad_needs.specs.Renaming.{rename_act}
@@ -48,8 +52,10 @@ all_made : {A B : Type 0} (P : A → Type 0) (Q R : B → Type 0) (f : A → Opt
 all_made P Q R f [] step ps qs = tt
 all_made P Q R f (x ∷ xs) step ps qs = by_found (f x) refl (λ rest. all_made P Q R f xs step ps.1 rest) qs
   where
-    by_found : (found : Option _) → f x ≡ found → (AllByRecursion Q (filter_map f xs) → AllByRecursion R (filter_map f xs))
-        → AllByRecursion Q (cons_option found (filter_map f xs)) → AllByRecursion R (cons_option found (filter_map f xs))
+    by_found : (found : Option _) → f x ≡ found
+        → (AllByRecursion Q (filter_map f xs) → AllByRecursion R (filter_map f xs))
+        → AllByRecursion Q (cons_option found (filter_map f xs))
+        → AllByRecursion R (cons_option found (filter_map f xs))
     by_found None is others all = others all
     by_found (Some y) is others all = (step x y ps.0 is all.0, others all.1)
 
@@ -61,7 +67,8 @@ abbrev pub HasByteItem : ActItem → Type 0
 HasByteItem item = AllByRecursion IsBytes item.values
 
 -- A live parent, a class of the schema, a naming value, and attributes of the schema that aren't the identifier.
-pub record IsAddition (dir : Directory) (parent class : ℕ) (name : List ℕ) (values : List (AttrId × List (List ℕ))) : Type 0 where
+pub record IsAddition (dir : Directory) (parent class : ℕ) (name : List ℕ) (values : List (AttrId × List (List ℕ)))
+    : Type 0 where
   pub parent_live : is_live dir.objects parent ≡ true
   pub class_within : class < length (classes_of dir.schema)
   pub value : IsValue name
@@ -76,25 +83,35 @@ kept_plain dir class value [] within each bytes = tt
 kept_plain dir class value (x ∷ xs) within each bytes =
     elim (cases_Bool (is_value dir.schema class x.0)) [
       | inl kept ↦
-          let own : AllByRecursion IsBytes x.1 × AllByRecursion HasByteAttr (map by_id (filter (λ y. is_value dir.schema class y.0) xs)) = rw kept at bytes in
-          rw kept (plain_is dir class value x (record { within = within.0; bytes = own.0 }) each.0, kept_plain dir class value xs within.1 each.1 own.1)
+          let own : AllByRecursion IsBytes x.1 × AllByRecursion HasByteAttr
+          (map by_id (filter (λ y. is_value dir.schema class y.0) xs)) = rw kept at bytes in
+          rw kept (
+            plain_is dir class value x (record { within = within.0; bytes = own.0 }) each.0,
+            kept_plain dir
+                class value xs within.1 each.1 own.1,
+          )
       | inr left ↦ rw left (kept_plain dir class value xs within.1 each.1 (rw left at bytes))
     ]
 
 -- each attribute is one of the schema
 all_within : (dir : Directory) (attrs : List (List ℕ × List (List ℕ)))
-    → AllByRecursion (λ (x : ℕ × List (List ℕ)). x.0 < length (attrs_of dir.schema)) (filter_map (ordinary dir.schema) attrs)
+    → AllByRecursion (λ (x : ℕ × List (List ℕ)). x.0 < length (attrs_of dir.schema))
+    (filter_map (ordinary dir.schema) attrs)
 all_within dir [] = tt
 all_within dir (a ∷ attrs) = by_found (ordinary dir.schema a) refl (all_within dir attrs)
   where
     by_found : (found : Option (ℕ × List (List ℕ))) → ordinary dir.schema a ≡ found
-        → AllByRecursion (λ (x : ℕ × List (List ℕ)). x.0 < length (attrs_of dir.schema)) (filter_map (ordinary dir.schema) attrs)
-        → AllByRecursion (λ (x : ℕ × List (List ℕ)). x.0 < length (attrs_of dir.schema)) (cons_option found (filter_map (ordinary dir.schema) attrs))
+        → AllByRecursion (λ (x : ℕ × List (List ℕ)). x.0 < length (attrs_of dir.schema))
+        (filter_map (ordinary dir.schema) attrs)
+        → AllByRecursion (λ (x : ℕ × List (List ℕ)). x.0 < length (attrs_of dir.schema))
+        (cons_option found (filter_map (ordinary dir.schema) attrs))
     by_found None is others = others
     by_found (Some x) is others = ((ordinary_within dir a x is).0, others)
 
-addition_of : (dir : Directory) (token : Token) (a : Add) (flags : ℕ) → IsSound dir → first_failing (add_checks dir token a flags) ≡ None
-    → IsAddition dir (parent_number dir token a) (class_number dir a) (new_part a).value (new_values dir.schema (class_number dir a) a)
+addition_of : (dir : Directory) (token : Token) (a : Add) (flags : ℕ) → IsSound dir
+    → first_failing (add_checks dir token a flags) ≡ None
+    → IsAddition dir (parent_number dir token a) (class_number dir a) (new_part a).value
+    (new_values dir.schema (class_number dir a) a)
 unfolding add_checks parent_named new_class new_values all_ordinary
 addition_of dir token a flags sound none =
     let parts = head_holds _ _ none in
@@ -105,13 +122,16 @@ addition_of dir token a flags sound none =
     let no_schema = head_holds _ _ class.1 in
     let typed = head_holds _ _ no_schema.1 in
     let reads = head_holds _ _ typed.1 in
-    let own = both_hold (flat_map (own_checks dir.schema (class_number dir a) (new_part a).value) (all_ordinary dir.schema a)) _ reads.1 in
+    let own = both_hold (flat_map (own_checks dir.schema (class_number dir a) (new_part a).value)
+    (all_ordinary dir.schema a)) _ reads.1 in
     record {
       parent_live = live_or dir token (drop 1 (parts_in a.dn)) (parent_named dir token a) sound.rise refl parent.0;
       class_within = class_or dir.schema (unwrap_or (sent a (codes "objectClass")) []) (new_class dir a) refl class.0;
       value = first_value a parts.0;
-      attrs = kept_plain dir (class_number dir a) (new_part a).value (filter_map (ordinary dir.schema) a.attrs) (all_within dir a.attrs)
-          (each_holds (own_checks dir.schema (class_number dir a) (new_part a).value) (all_ordinary dir.schema a) own.0);
+      attrs = kept_plain dir (class_number dir a) (new_part a).value (filter_map (ordinary dir.schema) a.attrs)
+          (all_within dir a.attrs)
+          (each_holds (own_checks dir.schema (class_number dir a) (new_part a).value) (all_ordinary dir.schema a)
+          own.0);
     }
 
 same_addition : (p q : ℕ) (c d : ClassId) (n m : List ℕ) (vs ws : List (AttrId × List (List ℕ))) (s t : Option SdParts)
@@ -130,20 +150,25 @@ same_addition p q c d n m vs ws s t e = (tp, tc, tn, tv)
     tv : vs ≡ ws
     tv = cc
 
-pub addition : (dir : Directory) (token : Token) (parent : ℕ) (class : ClassId) (name : List ℕ) (values : List (AttrId × List (List ℕ)))
-    (sd : Option SdParts) → IsSound dir → Resolves dir token (act.Add parent class name values sd) → IsAddition dir parent class.0 name values
+pub addition : (dir : Directory) (token : Token) (parent : ℕ) (class : ClassId) (name : List ℕ)
+    (values : List (AttrId × List (List ℕ)))
+    (sd : Option SdParts) → IsSound dir → Resolves dir token (act.Add parent class name values sd)
+    → IsAddition dir parent class.0 name values
 unfolding verdict_of
 addition dir token parent class name values sd sound r = by_op r.op r.change r.granted
   where
-    by_op : (op : OpValue) → IsChange op → verdict_of dir token op r.settings ≡ Granted (act.Add parent class name values sd)
+    by_op : (op : OpValue) → IsChange op → verdict_of dir token op r.settings
+        ≡ Granted (act.Add parent class name values sd)
         → IsAddition dir parent class.0 name values
     by_op (AddOf a) change granted =
         let is = granted_is _ _ _ granted in
         let same = same_addition _ _ _ _ _ _ _ _ _ _ is.1 in
         subst (IsAddition dir parent class.0 name) same.3
         (subst (λ (n : List ℕ). IsAddition dir parent class.0 n (new_values dir.schema (class_number dir a) a)) same.2
-        (subst (λ (c : ClassId). IsAddition dir parent c.0 (new_part a).value (new_values dir.schema (class_number dir a) a)) same.1
-        (subst (λ (p : ℕ). IsAddition dir p (class_number dir a) (new_part a).value (new_values dir.schema (class_number dir a) a)) same.0
+        (subst (λ (c : ClassId). IsAddition dir parent c.0 (new_part a).value
+        (new_values dir.schema (class_number dir a) a)) same.1
+        (subst (λ (p : ℕ). IsAddition dir p (class_number dir a) (new_part a).value
+        (new_values dir.schema (class_number dir a) a)) same.0
         (addition_of dir token a r.settings.sd_flags sound is.0))))
     by_op (DeleteOf dn) change granted = absurd (by_act (granted_is _ _ _ granted).1)
       where
@@ -177,14 +202,16 @@ pub items_within : (dir : Directory) (items : List ActItem) → AllByRecursion (
 items_within dir [] are = tt
 items_within dir (item ∷ items) are = (are.0.within, items_within dir items are.1)
 
-item_parts : (schema : List SchemaRecord) (item : Item) (a : ActItem) → act_item schema item ≡ Some a → (item.op ≡ a.op) × (item.values ≡ a.values)
+item_parts : (schema : List SchemaRecord) (item : Item) (a : ActItem) → act_item schema item ≡ Some a
+    → (item.op ≡ a.op) × (item.values ≡ a.values)
 item_parts schema item a is =
     elim (cases_Bool (is_descriptor item.attr)) [
       | inl descriptor ↦ absurd (none-some a (rw descriptor at is))
       | inr other ↦ by_place (attr_place schema item.attr) (rw other at is)
     ]
   where
-    by_place : (place : Option ℕ) → option_map (λ attr. record { op = item.op; attr = record { 0 = attr }; values = item.values }) place ≡ Some a
+    by_place : (place : Option ℕ) → option_map
+        (λ attr. record { op = item.op; attr = record { 0 = attr }; values = item.values }) place ≡ Some a
         → (item.op ≡ a.op) × (item.values ≡ a.values)
     by_place None is' = absurd (none-some a is')
     by_place (Some p) is' =
@@ -193,11 +220,14 @@ item_parts schema item a is =
 
 all_ops : (schema : List SchemaRecord) (items : List Item) → AllByRecursion (λ (item : Item). item.op ≤ 2) items
     → AllByRecursion (λ (item : ActItem). item.op ≤ 2) (filter_map (act_item schema) items)
-all_ops schema items ops = all_of_filter_map (λ (item : Item). item.op ≤ 2) (λ (item : ActItem). item.op ≤ 2) (act_item schema) items
+all_ops schema items ops = all_of_filter_map (λ (item : Item). item.op ≤ 2) (λ (item : ActItem). item.op ≤ 2)
+    (act_item schema) items
     (λ item a op is. subst (λ (n : ℕ). n ≤ 2) (item_parts schema item a is).0 op) ops
 
-modification_of : (dir : Directory) (token : Token) (m : Modify) (flags : ℕ) → IsSound dir → AllByRecursion (λ (item : Item). item.op ≤ 2) m.items
-    → first_failing (modify_checks dir token m flags) ≡ None → IsModification dir (number_named dir token m.dn) (act_items dir.schema m.items)
+modification_of : (dir : Directory) (token : Token) (m : Modify) (flags : ℕ) → IsSound dir
+    → AllByRecursion (λ (item : Item). item.op ≤ 2) m.items
+    → first_failing (modify_checks dir token m flags) ≡ None → IsModification dir (number_named dir token m.dn)
+    (act_items dir.schema m.items)
 unfolding modify_checks act_items
 modification_of dir token m flags sound ops none =
     let reads = head_holds _ _ none in
@@ -207,14 +237,16 @@ modification_of dir token m flags sound ops none =
     record {
       live = named_live dir token m.dn sound.rise seen.0;
       ops = all_ops dir.schema m.items ops;
-      attrs = all_made (λ (item : Item). first_failing (item_checks dir number flags m.items item) ≡ None) HasByteItem (IsPlainItem dir)
+      attrs = all_made (λ (item : Item). first_failing (item_checks dir number flags m.items item) ≡ None) HasByteItem
+          (IsPlainItem dir)
           (act_item dir.schema) m.items
           (λ item a holds is bytes. item_plain dir number flags m.items item a
           (subst (AllByRecursion IsBytes) (sym (item_parts dir.schema item a is).1) bytes) holds is)
           (each_holds (item_checks dir number flags m.items) m.items items.0);
     }
 
-same_modification : (a b : ℕ) (xs ys : List ActItem) (s t : Option SdParts) → act.Modify a xs s ≡ act.Modify b ys t → (a ≡ b) × (xs ≡ ys)
+same_modification : (a b : ℕ) (xs ys : List ActItem) (s t : Option SdParts) → act.Modify a xs s ≡ act.Modify b ys t
+    → (a ≡ b) × (xs ≡ ys)
 same_modification a b xs ys s t e = (ta, tx)
   where
     ta : a ≡ b
@@ -223,16 +255,19 @@ same_modification a b xs ys s t e = (ta, tx)
     tx : xs ≡ ys
     tx = cc
 
-pub modification : (dir : Directory) (token : Token) (target : ℕ) (items : List ActItem) (sd : Option SdParts) → IsSound dir
+pub modification : (dir : Directory) (token : Token) (target : ℕ) (items : List ActItem) (sd : Option SdParts)
+    → IsSound dir
     → Resolves dir token (act.Modify target items sd) → IsModification dir target items
 unfolding verdict_of
 modification dir token target items sd sound r = by_op r.op r.change r.granted
   where
-    by_op : (op : OpValue) → IsChange op → verdict_of dir token op r.settings ≡ Granted (act.Modify target items sd) → IsModification dir target items
+    by_op : (op : OpValue) → IsChange op → verdict_of dir token op r.settings ≡ Granted (act.Modify target items sd)
+        → IsModification dir target items
     by_op (ModifyOf m) change granted =
         let is = granted_is _ _ _ granted in
         let same = same_modification _ _ _ _ _ _ is.1 in
-        subst (IsModification dir target) same.1 (subst (λ (t : ℕ). IsModification dir t (act_items dir.schema m.items)) same.0
+        subst (IsModification dir target) same.1
+        (subst (λ (t : ℕ). IsModification dir t (act_items dir.schema m.items)) same.0
         (modification_of dir token m r.settings.sd_flags sound change is.0))
     by_op (DeleteOf dn) change granted = absurd (by_act (granted_is _ _ _ granted).1)
       where

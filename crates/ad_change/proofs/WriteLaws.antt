@@ -25,10 +25,12 @@ use Rattle.ad_change.specs.Judging.{AreEdits}
 is_normal : (sd : Sd) (bytes : List ℕ) → SpellsNormal sd bytes → SpellsNormal (sd_in bytes) bytes
 is_normal sd bytes spelled = subst (λ (x : Sd). SpellsNormal x bytes) (sym (spelled_in bytes sd spelled)) spelled
 
-pub put_made : (items : List EditIn) (o : ObjectIn) (bytes : Vec ℕ) (sd : Sd) → items ≡ [] ++ edit.PutObject o bytes ∷ []
+pub put_made : (items : List EditIn) (o : ObjectIn) (bytes : Vec ℕ) (sd : Sd) → items ≡ [] ++ edit.PutObject o bytes
+    ∷ []
     → SpellsNormal sd bytes.items → AreEdits (change_edits (object_seen o sd)) items
 put_made items o bytes sd parts spelled = record {
-  are = ap (map edit_seen) parts ∙ ap (λ (x : Sd). put_object (object_seen o x) ∷ []) (spelled_in bytes.items sd spelled);
+  are = ap (map edit_seen) parts ∙ ap (λ (x : Sd). put_object (object_seen o x) ∷ [])
+      (spelled_in bytes.items sd spelled);
   normal = subst (AllByRecursion HasNormal) (sym parts) (is_normal sd bytes.items spelled, tt);
 }
 
@@ -42,7 +44,8 @@ marked_by before o b ps is = ap (λ (t : Bool). if t then marked o.number ps els
     by_test true = refl
     by_test false = refl
 
-pub write_made : (dir : Directory) (items : List EditIn) (o : ObjectIn) (own : Sd) (bytes : Vec ℕ) (entries : Vec Pending) (b : Bool)
+pub write_made : (dir : Directory) (items : List EditIn) (o : ObjectIn) (own : Sd) (bytes : Vec ℕ)
+    (entries : Vec Pending) (b : Bool)
     → items ≡ ([] ++ edit.PutObject o bytes ∷ []) ++ edit.PutQueue entries ∷ []
     → SpellsNormal (whole_at dir (object_seen o own)) bytes.items
     → b ≡ not (same_sd (sd_at dir.objects o.number) (whole_at dir (object_seen o own)))
@@ -50,8 +53,10 @@ pub write_made : (dir : Directory) (items : List EditIn) (o : ObjectIn) (own : S
     → AreEdits (write_edits dir (object_seen o own)) items
 write_made dir items o own bytes entries b parts spelled changed queue = record {
   are = ap (map edit_seen) parts
-      ∙ ap (λ (x : Sd). put_object (object_seen o x) ∷ put_queue entries.items ∷ []) (spelled_in bytes.items (whole_at dir (object_seen o own)) spelled)
+      ∙ ap (λ (x : Sd). put_object (object_seen o x) ∷ put_queue entries.items ∷ [])
+      (spelled_in bytes.items (whole_at dir (object_seen o own)) spelled)
       ∙ ap (λ (ps : List Pending). put_object (settled dir (object_seen o own)) ∷ put_queue ps ∷ [])
       (queue ∙ marked_by (sd_at dir.objects o.number) (settled dir (object_seen o own)) b dir.pending changed);
-  normal = subst (AllByRecursion HasNormal) (sym parts) (is_normal (whole_at dir (object_seen o own)) bytes.items spelled, (tt, tt));
+  normal = subst (AllByRecursion HasNormal) (sym parts)
+      (is_normal (whole_at dir (object_seen o own)) bytes.items spelled, (tt, tt));
 }

@@ -16,7 +16,8 @@ use Rattle.ad_dir_model.specs.Changes.{with_values, new_sid, numbered, added}
 use Rattle.ad_needs_rules.specs.Checks.{Check, or_code}
 use Rattle.ad_needs_rules.specs.Requests.{class_at}
 use Rattle.ad_needs_rules.specs.Descriptors.{is_owner_allowed}
-use Rattle.ad_change_values.specs.Values.{is_single, all_attrs, is_lacking, reads, is_short, leads, is_no_empty_password, is_given_twice, all_stored}
+use Rattle.ad_change_values.specs.Values.{is_single, all_attrs, is_lacking, reads, is_short, leads}
+use Rattle.ad_change_values.specs.Values.{is_no_empty_password, is_given_twice, all_stored}
 use Rattle.ad_change.specs.Tree.{depth_of, is_light_with}
 use Rattle.ad_schema_defaults.specs.Defaults.{default_of}
 
@@ -62,7 +63,8 @@ is_given values attr = list_any (λ given. given.0.0 == attr && not (length give
 
 -- none that the class must have is missing
 abbrev pub has_musts : Directory → ℕ → List (AttrId × List (List ℕ)) → Bool
-has_musts dir class values = list_all (λ attr. not (is_lacking dir.schema class attr (is_given values attr))) (all_attrs dir.schema)
+has_musts dir class values = list_all (λ attr. not (is_lacking dir.schema class attr (is_given values attr)))
+    (all_attrs dir.schema)
 
 -- objects, depth, weight, and the counters of numbers and, where the object gets one, of identifiers
 unfoldable pub fits_in : Directory → Object → Bool
@@ -71,7 +73,8 @@ fits_in dir o =
     && (is_light_with dir (numbered dir o) && (nat_lt dir.meta.next_number max_counter
     && option_map_or (λ sid. nat_lt dir.meta.next_rid max_counter) (new_sid dir o.class) true)))
 
-unfoldable pub add_later : Directory → Token → ℕ → ℕ → List ℕ → List (AttrId × List (List ℕ)) → Option SdParts → List Check
+unfoldable pub add_later : Directory → Token → ℕ → ℕ → List ℕ → List (AttrId × List (List ℕ)) → Option SdParts
+    → List Check
 add_later dir token parent class name values sd =
     or_code (is_owner_allowed token sd) 19
     ∷ or_code (is_under dir.schema class (class_at dir parent)) 64

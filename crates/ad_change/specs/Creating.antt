@@ -53,4 +53,5 @@ pub record IsNewObject (dir : Directory) (o : Object) (object : ObjectIn) (gets_
 -- the descriptor that it has
 abbrev pub new_whole : Directory → Token → ℕ → ℕ → Option SdParts → Sd
 new_whole dir token parent class sd =
-    whole (sd_at dir.objects parent) (chosen sd (default_of dir.schema (domain_sid dir) class) token.owner token.primary) (guid_at dir.schema class)
+    whole (sd_at dir.objects parent) (chosen sd (default_of dir.schema (domain_sid dir) class) token.owner
+    token.primary) (guid_at dir.schema class)

@@ -38,7 +38,8 @@ modify_later dir token number items sd =
     let o = object_at dir.objects number in
     or_code (is_owner_allowed token sd) 19
     ∷ (all_item_checks dir o.values items
-    ++ (flat_map (final_checks dir.schema o.class (after_items dir o.values items)) (filter (is_item_named items) (all_attrs dir.schema))
+    ++ (flat_map (final_checks dir.schema o.class (after_items dir o.values items))
+    (filter (is_item_named items) (all_attrs dir.schema))
     ++ (or_code (is_light_with dir (modified_object dir number items)) 11 ∷ [])))
 
 -- Values alone leave the descriptor. Where parts of it are written, what is inherited is computed anew, and the

@@ -1,5 +1,6 @@
 -- What is said on the way to the edits of a deletion: which objects lose links, and in which order those go that go.
-use Rattle.std.specs.Prelude.{◌≡◌, ℕ, zero, suc, ◌==◌, Bool, true, false, not, is_none, List, [], ◌∷◌, ◌++◌, map, filter}
+use Rattle.std.specs.Prelude.{◌≡◌, ℕ, zero, suc, ◌==◌, Bool, true, false, not, is_none, List, [], ◌∷◌, ◌++◌, map}
+use Rattle.std.specs.Prelude.{filter}
 use Rattle.std.specs.List.{list_any, AllByRecursion}
 use Rattle.ad_dir_objects.specs.declared.edit.Edit.{Edit as EditIn}
 use Rattle.ad_dir.specs.Conditions.{HasNormal}
@@ -38,13 +39,15 @@ losing_among dir target numbers = filter (λ number. loses (goes_with dir target
 abbrev pub ChildrenFirst : Directory → List ℕ → List ℕ → Type 0
 ChildrenFirst dir gone [] = Unit {0}
 ChildrenFirst dir gone (number ∷ others) =
-    ((has gone number ≡ false) × ((child : ℕ) → is_live dir.objects child ≡ true → parents dir child ≡ number → has gone child ≡ true))
+    ((has gone number ≡ false) × ((child : ℕ) → is_live dir.objects child ≡ true → parents dir child ≡ number
+    → has gone child ≡ true))
     × ChildrenFirst dir (number ∷ gone) others
 
 -- the objects that go, children before their parents
 pub record AreGoing (dir : Directory) (target : ℕ) (going : List ℕ) : Type 0 where
   pub each : AllByRecursion (λ number. (is_live dir.objects number ≡ true) × (goes_with dir target number ≡ true)) going
-  pub all : (number : ℕ) → is_live dir.objects number ≡ true → goes_with dir target number ≡ true → has going number ≡ true
+  pub all : (number : ℕ) → is_live dir.objects number ≡ true → goes_with dir target number ≡ true → has going number
+      ≡ true
   pub order : ChildrenFirst dir [] going
 
 -- of objects with their depths those of one depth
@@ -61,7 +64,8 @@ from_depth (suc depth) found = at_depth depth found ++ from_depth depth found
 abbrev pub removal_edits : Directory → ℕ → List ℕ → List Edit
 removal_edits dir target going =
     put_queue (filter (λ entry. not (goes_with dir target entry.parent)) dir.pending)
-    ∷ (map (λ number. put_object (unlinked_at dir target number)) (losing_of dir target) ++ map (λ number. remove_object number) going)
+    ∷ (map (λ number. put_object (unlinked_at dir target number)) (losing_of dir target)
+    ++ map (λ number. remove_object number) going)
 
 -- these edits more than before, and normal bytes in all where they were before
 pub record AddsEdits (old new : List EditIn) (seen : List Edit) : Type 0 where

@@ -13,11 +13,13 @@ use Rattle.ad_change.specs.Tree.{is_shallow_with, is_light_with}
 
 -- the class may stand below that of another parent
 abbrev pub may_stand : Directory → ℕ → ℕ → Bool
-may_stand dir number parent = parent_at dir.objects number == parent || is_under dir.schema (class_at dir number) (class_at dir parent)
+may_stand dir number parent = parent_at dir.objects number == parent || is_under dir.schema (class_at dir number)
+    (class_at dir parent)
 
 -- no other child of the parent has the name
 abbrev pub is_free : Directory → ℕ → ℕ → List ℕ → Bool
-is_free dir number parent name = option_map_or (λ (other : Object). other.number == number) (child_named dir.objects parent name) true
+is_free dir number parent name = option_map_or (λ (other : Object). other.number == number)
+    (child_named dir.objects parent name) true
 
 abbrev pub fits_there : Directory → Object → Bool
 fits_there dir o = is_shallow_with dir o && is_light_with dir o

@@ -19,7 +19,8 @@ depth_of parent number = depth_within parent (suc max_depth) number
 
 -- no object is too deep where this one is put
 unfoldable pub is_shallow_with : Directory → Object → Bool
-is_shallow_with dir o = list_all (λ (other : Object). nat_le (depth_of (parent_at (put o dir.objects)) other.number) max_depth) dir.objects
+is_shallow_with dir o = list_all (λ (other : Object). nat_le (depth_of (parent_at (put o dir.objects)) other.number)
+    max_depth) dir.objects
 
 -- nor is the directory too heavy
 unfoldable pub is_light_with : Directory → Object → Bool

@@ -93,7 +93,8 @@ fn push_held(held: &mut Held, attr: AttrId, stored: Few<Stored>) -> Result<(), A
 // The checks of all attributes in their order, and each with its values as they are stored.
 fn judge_values(alloc: Global, dir: &Dir, values: &[(AttrId, List<Bytes>)]) -> Result<Held, Stop>
     requires { AllByRecursion (λ attr. attr.0.0 < length (attrs_of dir.now.schema)) values.now }
-    ensures { Judges (flat_map (add.attr_checks dir.now) values.now) (λ held. map held_seen held.items ≡ all_read dir.now values.now) result }
+    ensures { Judges (flat_map (add.attr_checks dir.now) values.now)
+        (λ held. map held_seen held.items ≡ all_read dir.now values.now) result }
 {
     let mut held = Vec::new(alloc);
     'each: for attr in values {
@@ -120,7 +121,9 @@ fn are_allowed(schema: &Schema, class: ClassId, values: &[(AttrId, List<Bytes>)]
 // Whether none that the class must have is missing among those that are given.
 fn lacks_none(schema: &Schema, class: ClassId, given: &BTreeSet<u32>) -> bool
     requires { class.0 < length (classes_of schema.now) }
-    ensures { result ≡ list_all (λ attr. not (is_lacking schema.now class.0 attr (contains nat_cmp given.now attr))) (all_attrs schema.now) }
+    ensures { result ≡ list_all (λ attr.
+        not (is_lacking schema.now class.0 attr (contains nat_cmp given.now attr)))
+        (all_attrs schema.now) }
 {
     'each: for attr in 0..attr_count(schema) {
         if is_lacking(schema, class, AttrId(attr), is_in(given, attr)) {
@@ -139,7 +142,8 @@ fn has_musts(
 ) -> Result<bool, AllocError>
     requires { class.0 < length (classes_of schema.now) }
     ensures { IfOk result (λ has. has
-        ≡ list_all (λ attr. not (is_lacking schema.now class.0 attr (add.is_given values.now attr))) (all_attrs schema.now)) }
+        ≡ list_all (λ attr. not (is_lacking schema.now class.0 attr (add.is_given values.now attr)))
+        (all_attrs schema.now)) }
 {
     let given = given_of(alloc, values)?;
     Ok(lacks_none(schema, class, &given))
@@ -158,7 +162,8 @@ fn is_free(alloc: Global, dir: &Dir, parent: u32, name: &[u8]) -> Result<bool, A
 // Whether there is a number for one more object, and an identifier where it gets one.
 #[tactic(auto, unfolding(ad_dir_model::specs::Limits::max_counter))]
 fn has_counters(dir: &Dir, gets_sid: bool) -> bool
-    ensures { result ≡ (nat_lt dir.now.meta.next_number max_counter && (not gets_sid || nat_lt dir.now.meta.next_rid max_counter)) }
+    ensures { result ≡ (nat_lt dir.now.meta.next_number max_counter
+        && (not gets_sid || nat_lt dir.now.meta.next_rid max_counter)) }
 {
     let meta = dir.meta();
     meta.next_number < u32::MAX && (!gets_sid || meta.next_rid < u32::MAX)
@@ -189,7 +194,8 @@ fn all_four(a: bool, b: bool, c: bool, d: bool) -> bool
 // Whether the limits let the object in, of which it is said whether it gets an identifier.
 fn fits_in(dir: &Dir, object: &Object, gets_sid: bool) -> bool
     requires { IsSound dir.now }
-    ensures { (o : ObjectValue) → IsNewObject dir.now o object.now gets_sid → result ≡ add.fits_in dir.now o }
+    ensures { (o : ObjectValue) → IsNewObject dir.now o object.now gets_sid → result
+        ≡ add.fits_in dir.now o }
 {
     let few = are_few(dir);
     let shallow = may_have_children(dir, object.parent);
@@ -221,7 +227,8 @@ fn judge_sent(
 ) -> Result<Held, Stop>
     requires parent { is_live dir.now.objects parent ≡ true }
     requires class { class.0 < length (classes_of dir.now.schema) }
-    requires attrs { AllByRecursion (λ attr. attr.0.0 < length (attrs_of dir.now.schema)) values.now }
+    requires attrs { AllByRecursion (λ attr. attr.0.0 < length (attrs_of dir.now.schema))
+        values.now }
     ensures { Judges (sent_checks dir.now token.now parent class.0 values.now sd.now)
         (λ held. map held_seen held.items ≡ add.all_held dir.now values.now) result }
 {
@@ -259,9 +266,11 @@ fn judge_add(
     requires parent { is_live dir.now.objects parent ≡ true }
     requires class { class.0 < length (classes_of dir.now.schema) }
     requires name { IsValue name.now }
-    requires attrs { AllByRecursion (λ attr. attr.0.0 < length (attrs_of dir.now.schema)) values.now }
+    requires attrs { AllByRecursion (λ attr. attr.0.0 < length (attrs_of dir.now.schema))
+        values.now }
     ensures { Judges (add.add_later dir.now token.now parent class.0 name.now values.now sd.now)
-        (λ object. IsNewObject dir.now (add.new_object dir.now token.now parent class.0 name.now values.now sd.now) object
+        (λ object. IsNewObject dir.now
+        (add.new_object dir.now token.now parent class.0 name.now values.now sd.now) object
         (is_some (new_sid dir.now class.0))) result }
 {
     let held = judge_sent(alloc, dir, token, parent, class, values, sd)?;
@@ -291,8 +300,10 @@ fn plan_of(
     sd: &Option<SdParts>,
 ) -> Result<Plan, AllocError>
     requires sound { IsSound dir.now }
-    requires resolved { Resolves dir.now token.now (Act.Add parent class name.now values.now sd.now) }
-    ensures { IfOk result (IsPlan dir.now token.now (Act.Add parent class name.now values.now sd.now)) }
+    requires resolved { Resolves dir.now token.now
+        (Act.Add parent class name.now values.now sd.now) }
+    ensures { IfOk result (IsPlan dir.now token.now
+        (Act.Add parent class name.now values.now sd.now)) }
 {
     what_is_shown_reads_back();
     a_sid_is_read_as_spelled();
@@ -323,8 +334,10 @@ pub(crate) fn add_plan(
     sd: &Option<SdParts>,
 ) -> Result<Plan, AllocError>
     requires sound { IsSound dir.now }
-    requires resolved { Resolves dir.now token.now (Act.Add parent class name.now values.now sd.now) }
-    ensures { IfOk result (IsPlan dir.now token.now (Act.Add parent class name.now values.now sd.now)) }
+    requires resolved { Resolves dir.now token.now
+        (Act.Add parent class name.now values.now sd.now) }
+    ensures { IfOk result (IsPlan dir.now token.now
+        (Act.Add parent class name.now values.now sd.now)) }
 {
     plan_of(
         alloc,

@@ -21,7 +21,8 @@ use std::collections::{BTreeMap, BTreeSet};
 
 // Puts an attribute among those that are given, unless it is bare of values.
 fn put_given(given: &mut BTreeSet<u32>, attr: u32, bare: bool) -> Result<(), AllocError>
-    ensures { OnOk result ((other : ℕ) → contains nat_cmp given.new other ≡ ((attr == other && not bare) || contains nat_cmp given.old other)) }
+    ensures { OnOk result ((other : ℕ) → contains nat_cmp given.new other
+        ≡ ((attr == other && not bare) || contains nat_cmp given.old other)) }
 {
     if bare {
         return Ok(());
@@ -37,7 +38,8 @@ pub(crate) fn given_of(
     alloc: Global,
     values: &[(AttrId, List<Bytes>)],
 ) -> Result<BTreeSet<u32>, AllocError>
-    ensures { IfOk result (λ given. (attr : ℕ) → contains nat_cmp given attr ≡ is_given values.now attr) }
+    ensures { IfOk result (λ given. (attr : ℕ) → contains nat_cmp given attr
+        ≡ is_given values.now attr) }
 {
     let mut given = BTreeSet::new(alloc);
     'each: for one in values {
@@ -61,7 +63,8 @@ fn put_with(
     attr: AttrId,
     stored: Few<Stored>,
 ) -> Result<(), AllocError>
-    ensures { OnOk result (by_attr values.new.entries ≡ held_before attr.0 (map stored_seen stored) (by_attr values.old.entries)) }
+    ensures { OnOk result (by_attr values.new.entries ≡ held_before attr.0 (map stored_seen stored)
+        (by_attr values.old.entries)) }
 {
     if stored.is_empty() {
         return Ok(());
@@ -86,7 +89,8 @@ fn put_last(
 
 // Moves the values of the first attribute after those of all before it.
 fn move_first(values: &mut BTreeMap<u32, Few<Stored>>, all: &mut Held) -> Result<(), AllocError>
-    ensures moved { OnOk result (map held_seen all.new.items ++ by_attr values.new.entries ≡ map held_seen all.old.items ++ by_attr values.old.entries) }
+    ensures moved { OnOk result (map held_seen all.new.items ++ by_attr values.new.entries
+        ≡ map held_seen all.old.items ++ by_attr values.old.entries) }
     ensures fewer { OnOk result (btree_map_len values.new ≡ btree_map_len values.old - 1) }
 {
     if let Some((attr, held)) = values.pop_first() {
@@ -111,7 +115,8 @@ fn in_order(alloc: Global, values: BTreeMap<u32, Few<Stored>>) -> Result<Held, A
 
 /// The attributes by their places, each with its values, from those that were sent in their order.
 pub(crate) fn all_held(alloc: Global, mut read: Held) -> Result<Held, AllocError>
-    ensures { IfOk result (λ held. map held_seen held.items ≡ all_before (map held_seen read.items) []) }
+    ensures { IfOk result (λ held. map held_seen held.items ≡ all_before (map held_seen read.items)
+        []) }
 {
     let mut values = BTreeMap::new(alloc);
     'each: while let Some(last) = read.pop() {

@@ -35,7 +35,8 @@ fn push_staying(
     entry: Pending,
 ) -> Result<(), AllocError>
     requires { IsLeaving dir.now target alone }
-    ensures { OnOk result (staying.new.items ≡ staying.old.items ++ filter (λ one. not (goes_with dir.now target one.parent)) (entry ∷ [])) }
+    ensures { OnOk result (staying.new.items ≡ staying.old.items
+        ++ filter (λ one. not (goes_with dir.now target one.parent)) (entry ∷ [])) }
 {
     if !goes_with(dir, target, alone, entry.parent) {
         staying.push(entry)?;
@@ -46,7 +47,8 @@ fn push_staying(
 // The pending list without the entries of objects that go.
 fn staying(alloc: Global, dir: &Dir, target: u32, alone: bool) -> Result<Vec<Pending>, AllocError>
     requires { IsLeaving dir.now target alone }
-    ensures { IfOk result (λ entries. entries.items ≡ filter (λ one. not (goes_with dir.now target one.parent)) dir.now.pending) }
+    ensures { IfOk result (λ entries. entries.items
+        ≡ filter (λ one. not (goes_with dir.now target one.parent)) dir.now.pending) }
 {
     let queue = dir.queue();
     let len = queue.len();
@@ -90,7 +92,8 @@ fn push_all_unlinking(
 ) -> Result<(), AllocError>
     requires leaving { IsLeaving dir.now target alone }
     requires live { AllByRecursion (λ number. is_live dir.now.objects number ≡ true) numbers.now }
-    ensures { OnOk result (AddsEdits edits.old edits.new (map (λ number. put_object (unlinked_at dir.now target number))
+    ensures { OnOk result (AddsEdits edits.old edits.new
+        (map (λ number. put_object (unlinked_at dir.now target number))
         (losing_among dir.now target numbers.now))) }
 {
     'each: for number in numbers {
@@ -101,7 +104,8 @@ fn push_all_unlinking(
 
 // Puts the removals of objects at the end, in their order.
 fn push_removals(numbers: &[u32], edits: &mut List<Edit>) -> Result<(), AllocError>
-    ensures { OnOk result (AddsEdits edits.old edits.new (map (λ number. remove_object number) numbers.now)) }
+    ensures { OnOk result (AddsEdits edits.old edits.new
+        (map (λ number. remove_object number) numbers.now)) }
 {
     'each: for number in numbers {
         edits.push(Edit::RemoveObject(*number))?;

@@ -49,7 +49,8 @@ pub(crate) fn depth(dir: &Dir, number: u32) -> u32
 
 // Whether none of the objects is too deep then.
 fn are_shallow(dir: &Dir, moved: u32, parent: u32, numbers: &[u32]) -> bool
-    ensures { result ≡ list_all (λ number. nat_le (depth_of (parent_then dir.now moved parent) number) max_depth) numbers.now }
+    ensures { result ≡ list_all (λ number.
+        nat_le (depth_of (parent_then dir.now moved parent) number) max_depth) numbers.now }
 {
     'each: for number in numbers {
         if depth_then(dir, moved, parent, *number) > MAX_DEPTH {

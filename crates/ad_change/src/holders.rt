@@ -21,8 +21,10 @@ pub(crate) fn may_lose(
 ) -> Result<Vec<u32>, AllocError>
     requires leaving { IsLeaving dir.now target alone }
     requires rise { Rise dir.now.objects }
-    ensures live { IfOk result (λ numbers. AllByRecursion (λ number. is_live dir.now.objects number ≡ true) numbers.items) }
-    ensures all { IfOk result (λ numbers. losing_among dir.now target numbers.items ≡ losing_of dir.now target) }
+    ensures live { IfOk result (λ numbers.
+        AllByRecursion (λ number. is_live dir.now.objects number ≡ true) numbers.items) }
+    ensures all { IfOk result (λ numbers. losing_among dir.now target numbers.items
+        ≡ losing_of dir.now target) }
 {
     if alone {
         let holders = dir.holders(alloc, target)?;

@@ -23,7 +23,8 @@ fn push_going(
 ) -> Result<(), AllocError>
     requires { IsLeaving dir.now target alone }
     ensures { OnOk result (found.new.items
-        ≡ found.old.items ++ map (λ one. (depth_of (parents dir.now) one, one)) (filter (goes_with dir.now target) (number ∷ []))) }
+        ≡ found.old.items ++ map (λ one. (depth_of (parents dir.now) one, one))
+        (filter (goes_with dir.now target) (number ∷ []))) }
 {
     if goes_with(dir, target, alone, number) {
         found.push((depth(dir, number), number))?;
@@ -40,7 +41,8 @@ fn all_going(
     numbers: &[u32],
 ) -> Result<Vec<(u32, u32)>, AllocError>
     requires { IsLeaving dir.now target alone }
-    ensures { IfOk result (λ found. found.items ≡ map (λ one. (depth_of (parents dir.now) one, one)) (filter (goes_with dir.now target) numbers.now)) }
+    ensures { IfOk result (λ found. found.items ≡ map (λ one. (depth_of (parents dir.now) one, one))
+        (filter (goes_with dir.now target) numbers.now)) }
 {
     let mut found = Vec::new(alloc);
     'each: for number in numbers {
@@ -91,7 +93,8 @@ pub(crate) fn going_leaves_first(
 ) -> Result<Vec<u32>, AllocError>
     requires { IsLeaving dir.now target alone }
     ensures { IfOk result (λ going. going.items
-        ≡ from_depth 65 (map (λ one. (depth_of (parents dir.now) one, one)) (filter (goes_with dir.now target) (numbers dir.now.objects)))) }
+        ≡ from_depth 65 (map (λ one. (depth_of (parents dir.now) one, one))
+        (filter (goes_with dir.now target) (numbers dir.now.objects)))) }
 {
     let numbers = dir.numbers(alloc)?;
     let found = all_going(alloc, dir, target, alone, numbers.as_slice())?;

@@ -20,7 +20,8 @@ const MAX_WEIGHT: usize = 268_435_456;
 // What is left after a live object, which counts for nothing if it is the one of this number.
 fn after_other(dir: &Dir, left: usize, but: u32, number: u32) -> Option<usize>
     requires { is_live dir.now.objects number ≡ true }
-    ensures { result ≡ left_of left (other_weight dir.now.schema but (object_at dir.now.objects number)) }
+    ensures { result ≡ left_of left
+        (other_weight dir.now.schema but (object_at dir.now.objects number)) }
 {
     if number == but {
         return Some(left);
@@ -53,7 +54,8 @@ fn less(all: usize, gone: usize) -> Option<usize>
 
 // What all weigh without the object of this number, if there is one, where what it weighs is known.
 fn weight_without(dir: &Dir, all: usize, number: u32) -> Option<usize>
-    ensures { all ≡ weight dir.now → IfSome result (λ bytes. bytes ≡ others_weight dir.now.schema number dir.now.objects) }
+    ensures { all ≡ weight dir.now → IfSome result
+        (λ bytes. bytes ≡ others_weight dir.now.schema number dir.now.objects) }
 {
     dir.stands();
     match dir.object(number) {
@@ -85,8 +87,8 @@ fn is_enough(dir: &Dir, left: usize, but: u32) -> bool
     }
 }
 
-/// Whether the directory is none too heavy with the object put, in the place of the one of its number if there is one.
-/// What the others weigh is kept with the directory, and summed up only where it isn't.
+/// Whether the directory is none too heavy with the object put, in the place of the one of its number if there is
+/// one. What the others weigh is kept with the directory, and summed up only where it isn't.
 pub(crate) fn is_light_with(dir: &Dir, object: &Object) -> bool
     requires { IsSound dir.now }
     ensures { (sd : SdValue) → result ≡ tree.is_light_with dir.now (object_seen object.now sd) }

@@ -37,10 +37,12 @@ use std::alloc::{AllocError, Global};
 // The checks of the items and of the attributes that they name, and the object with the values that it gets.
 fn judge_values(alloc: Global, dir: &Dir, object: Object, items: &[ActItem]) -> Result<Object, Stop>
     requires class { object.class.0 < length (classes_of dir.now.schema) }
-    requires attrs { AllByRecursion (λ item. item.attr.0 < length (attrs_of dir.now.schema)) items.now }
+    requires attrs { AllByRecursion (λ item. item.attr.0 < length (attrs_of dir.now.schema))
+        items.now }
     requires rise { AttrsRiseFrom 0 (map held_seen object.values) }
     ensures { Judges (value_checks dir.now object.class.0 (map held_seen object.values) items.now)
-        (λ after. IsWithValues object after (after_items dir.now (map held_seen object.values) items.now)) result }
+        (λ after. IsWithValues object after
+        (after_items dir.now (map held_seen object.values) items.now)) result }
 {
     let Object {
         number,
@@ -71,7 +73,8 @@ fn judge_modify(
 ) -> Result<Object, Stop>
     requires sound { IsSound dir.now }
     requires live { is_live dir.now.objects target ≡ true }
-    requires attrs { AllByRecursion (λ item. item.attr.0 < length (attrs_of dir.now.schema)) items.now }
+    requires attrs { AllByRecursion (λ item. item.attr.0 < length (attrs_of dir.now.schema))
+        items.now }
     ensures { Judges (modify.modify_later dir.now token.now target items.now sd.now)
         (λ object. object_seen object (sd_at dir.now.objects target)
         ≡ modify.modified_object dir.now target items.now) result }

@@ -48,7 +48,8 @@ fn put_before(
     stored: Few<Stored>,
 ) -> Result<(), AllocError>
     requires { AttrsRiseFrom 0 (map held_seen held.old.items) }
-    ensures { OnOk result (map held_seen held.new.items ≡ held_before attr.0 (map stored_seen stored) (map held_seen held.old.items)) }
+    ensures { OnOk result (map held_seen held.new.items
+        ≡ held_before attr.0 (map stored_seen stored) (map held_seen held.old.items)) }
 {
     if stored.is_empty() {
         return Ok(());
@@ -84,7 +85,8 @@ fn next_sid(dir: &Dir) -> Option<Sid>
 fn if_must(dir: &Dir, class: ClassId, attr: AttrId) -> Option<Sid>
     requires class { class.0 < length (classes_of dir.now.schema) }
     requires attr { attr.0 < length (attrs_of dir.now.schema) }
-    ensures { result ≡ (if is_must dir.now.schema class.0 attr.0 then domain_child dir.now dir.now.meta.next_rid else None) }
+    ensures { result ≡ (if is_must dir.now.schema class.0 attr.0 then domain_child dir.now
+        dir.now.meta.next_rid else None) }
 {
     if dir.schema().must(class, attr) {
         next_sid(dir)
@@ -119,7 +121,8 @@ fn sid_value(alloc: Global, sid: &Sid) -> Result<Value, AllocError>
 fn put_sid(alloc: Global, held: &mut Held, attr: AttrId, sid: &Sid) -> Result<(), AllocError>
     requires { AttrsRiseFrom 0 (map held_seen held.old.items) }
     ensures { OnOk result (map held_seen held.new.items
-        ≡ changes.with_values attr.0 (plain (as_shown (sid_bytes sid.now)) ∷ []) (map held_seen held.old.items)) }
+        ≡ changes.with_values attr.0 (plain (as_shown (sid_bytes sid.now)) ∷ [])
+        (map held_seen held.old.items)) }
 {
     let mut stored = Few::new(alloc);
     stored.push(Stored::Plain(sid_value(alloc, sid)?))?;
@@ -131,7 +134,8 @@ fn put_sid(alloc: Global, held: &mut Held, attr: AttrId, sid: &Sid) -> Result<()
 fn put_new_sid(alloc: Global, dir: &Dir, held: &mut Held, sid: &Sid) -> Result<(), AllocError>
     requires { AttrsRiseFrom 0 (map held_seen held.old.items) }
     ensures { OnOk result (map held_seen held.new.items
-        ≡ changes.with_new_sid (object_sid dir.now.schema) (Some sid.now) (map held_seen held.old.items)) }
+        ≡ changes.with_new_sid (object_sid dir.now.schema) (Some sid.now)
+        (map held_seen held.old.items)) }
 {
     match dir.schema().attr_of_rule(RuleAttr::ObjectSid) {
         Some(attr) => put_sid(alloc, held, attr, sid),
@@ -143,7 +147,8 @@ fn put_new_sid(alloc: Global, dir: &Dir, held: &mut Held, sid: &Sid) -> Result<(
 fn with_sid(alloc: Global, dir: &Dir, held: &mut Held, sid: Option<&Sid>) -> Result<(), AllocError>
     requires { AttrsRiseFrom 0 (map held_seen held.old.items) }
     ensures { OnOk result (map held_seen held.new.items
-        ≡ changes.with_new_sid (object_sid dir.now.schema) (option_copied sid.entry) (map held_seen held.old.items)) }
+        ≡ changes.with_new_sid (object_sid dir.now.schema) (option_copied sid.entry)
+        (map held_seen held.old.items)) }
 {
     match sid {
         Some(sid) => put_new_sid(alloc, dir, held, sid),
@@ -163,14 +168,15 @@ fn numbered(
 ) -> Result<Object, AllocError>
     requires rise { AttrsRiseFrom 0 (map held_seen held.items) }
     requires sid { option_copied sid ≡ changes.new_sid dir.now class.0 }
-    ensures { IfOk result (λ object. (sd : SdValue) → object_seen object sd ≡ changes.numbered dir.now (record {
-      number = 0;
-      parent = parent;
-      class = class.0;
-      name = name.now;
-      values = map held_seen held.items;
-      sd = sd;
-    })) }
+    ensures { IfOk result (λ object. (sd : SdValue) → object_seen object sd
+        ≡ changes.numbered dir.now (record {
+          number = 0;
+          parent = parent;
+          class = class.0;
+          name = name.now;
+          values = map held_seen held.items;
+          sd = sd;
+        })) }
 {
     with_sid(alloc, dir, &mut held, sid)?;
     let meta = dir.meta();
@@ -196,14 +202,15 @@ pub(crate) fn new_object(
 ) -> Result<Object, AllocError>
     requires rise { AttrsRiseFrom 0 (map held_seen held.items) }
     requires class { class.0 < length (classes_of dir.now.schema) }
-    ensures { IfOk result (λ object. (sd : SdValue) → object_seen object sd ≡ changes.numbered dir.now (record {
-      number = 0;
-      parent = parent;
-      class = class.0;
-      name = name.now;
-      values = map held_seen held.items;
-      sd = sd;
-    })) }
+    ensures { IfOk result (λ object. (sd : SdValue) → object_seen object sd
+        ≡ changes.numbered dir.now (record {
+          number = 0;
+          parent = parent;
+          class = class.0;
+          name = name.now;
+          values = map held_seen held.items;
+          sd = sd;
+        })) }
 {
     let sid = new_sid(dir, class);
     numbered(alloc, dir, parent, class, name, held, sid.as_ref())
@@ -230,7 +237,8 @@ fn new_descriptor(
 ) -> Result<Vec<u8>, AllocError>
     requires parent { is_live dir.now.objects parent ≡ true }
     requires class { class.0 < length (classes_of dir.now.schema) }
-    ensures { IfOk result (λ bytes. SpellsNormal (new_whole dir.now token.now parent class.0 sd.now) bytes.items) }
+    ensures { IfOk result (λ bytes. SpellsNormal (new_whole dir.now token.now parent class.0 sd.now)
+        bytes.items) }
 {
     let schema = dir.schema();
     let default = default_parts(alloc, schema, dir.self_sid(ROOT), class)?;
@@ -275,7 +283,8 @@ fn rid_after(rid: u32, gets_sid: bool) -> u32
 fn counted_on(alloc: Global, dir: &Dir, gets_sid: bool) -> Result<Meta, AllocError>
     requires number { dir.now.meta.next_number < max_counter }
     requires rid { gets_sid ≡ true → dir.now.meta.next_rid < max_counter }
-    ensures { (sid : Option SidValue) → gets_sid ≡ is_some sid → IfOk result (λ meta. meta_seen meta ≡ changes.counted_on dir.now.meta sid) }
+    ensures { (sid : Option SidValue) → gets_sid ≡ is_some sid
+        → IfOk result (λ meta. meta_seen meta ≡ changes.counted_on dir.now.meta sid) }
 {
     let meta = dir.meta();
     let next_number = number_after(meta.next_number);
@@ -300,10 +309,14 @@ pub(crate) fn new_edits(
     requires parent { is_live dir.now.objects object.parent ≡ true }
     requires class { object.class.0 < length (classes_of dir.now.schema) }
     requires number { dir.now.meta.next_number < max_counter }
-    requires rid { is_some (changes.new_sid dir.now object.class.0) ≡ true → dir.now.meta.next_rid < max_counter }
-    ensures { IfOk result (λ edits. (o : ObjectValue) → o.parent ≡ object.parent → o.class ≡ object.class.0
-        → o.sd ≡ chosen sd.now (default_of dir.now.schema (domain_sid dir.now) o.class) token.now.owner token.now.primary
-        → object_seen object o.sd ≡ changes.numbered dir.now o → AreEdits (add_edits dir.now o) edits) }
+    requires rid { is_some (changes.new_sid dir.now object.class.0) ≡ true → dir.now.meta.next_rid
+        < max_counter }
+    ensures { IfOk result (λ edits. (o : ObjectValue) → o.parent ≡ object.parent → o.class
+        ≡ object.class.0
+        → o.sd ≡ chosen sd.now (default_of dir.now.schema (domain_sid dir.now) o.class)
+        token.now.owner token.now.primary
+        → object_seen object o.sd ≡ changes.numbered dir.now o → AreEdits (add_edits dir.now o)
+        edits) }
 {
     let bytes = new_descriptor(alloc, dir, token, object.parent, object.class, sd)?;
     let gets = gets_sid(dir, object.class);

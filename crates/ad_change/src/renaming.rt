@@ -127,7 +127,9 @@ fn edits_of(alloc: Global, dir: &Dir, target: u32, object: Object) -> Result<Lis
     requires parent { is_live dir.now.objects object.parent ≡ true }
     requires renamed { object_seen object (sd_at dir.now.objects target)
         ≡ renamed_object (object_at dir.now.objects target) object.parent object.name }
-    ensures { IfOk result (λ edits. AreNeeded dir.now (edit_lists.rename_edits dir.now target object.parent object.name) edits) }
+    ensures { IfOk result (λ edits.
+        AreNeeded dir.now (edit_lists.rename_edits dir.now target object.parent object.name)
+        edits) }
 {
     let own = live_sd(dir, target);
     if parent_of(dir, target) == object.parent {

@@ -45,7 +45,8 @@ fn some_lost(dir: &Dir, target: u32, alone: bool, stored: &[Stored]) -> bool
 // Whether an object that has these values loses any.
 fn loses(dir: &Dir, target: u32, alone: bool, values: &[(AttrId, Few<Stored>)]) -> bool
     requires { IsLeaving dir.now target alone }
-    ensures { result ≡ list_any (λ held. loses_some (goes_with dir.now target) held.values) (map held_seen values.now) }
+    ensures { result ≡ list_any (λ held. loses_some (goes_with dir.now target) held.values)
+        (map held_seen values.now) }
 {
     'each: for held in values {
         if some_lost(dir, target, alone, held.1.as_slice()) {
@@ -68,7 +69,8 @@ fn push_kept(
 ) -> Result<(), AllocError>
     requires { IsLeaving dir.now target alone }
     ensures { OnOk result (map stored_seen kept.new
-        ≡ map stored_seen kept.old ++ filter (stays_linked (goes_with dir.now target)) (stored_seen value.now ∷ [])) }
+        ≡ map stored_seen kept.old ++ filter (stays_linked (goes_with dir.now target))
+        (stored_seen value.now ∷ [])) }
 {
     match value {
         Stored::Plain(value) => kept.push(Stored::Plain(value.copy(alloc)?))?,
@@ -90,7 +92,8 @@ fn kept_of(
     stored: &[Stored],
 ) -> Result<Few<Stored>, AllocError>
     requires { IsLeaving dir.now target alone }
-    ensures { IfOk result (λ kept. map stored_seen kept ≡ filter (stays_linked (goes_with dir.now target)) (map stored_seen stored.now)) }
+    ensures { IfOk result (λ kept. map stored_seen kept
+        ≡ filter (stays_linked (goes_with dir.now target)) (map stored_seen stored.now)) }
 {
     let mut kept = Few::new(alloc);
     'each: for value in stored {
@@ -110,7 +113,8 @@ fn push_held(
 ) -> Result<(), AllocError>
     requires { IsLeaving dir.now target alone }
     ensures { OnOk result (map held_seen all.new
-        ≡ map held_seen all.old ++ filter_map (unlinked_held (goes_with dir.now target)) (held_seen held.now ∷ [])) }
+        ≡ map held_seen all.old ++ filter_map (unlinked_held (goes_with dir.now target))
+        (held_seen held.now ∷ [])) }
 {
     let kept = kept_of(alloc, dir, target, alone, held.1.as_slice())?;
     if !kept.is_empty() {
@@ -128,7 +132,8 @@ fn all_kept(
     values: &[(AttrId, Few<Stored>)],
 ) -> Result<List<(AttrId, Few<Stored>)>, AllocError>
     requires { IsLeaving dir.now target alone }
-    ensures { IfOk result (λ all. map held_seen all ≡ filter_map (unlinked_held (goes_with dir.now target)) (map held_seen values.now)) }
+    ensures { IfOk result (λ all. map held_seen all
+        ≡ filter_map (unlinked_held (goes_with dir.now target)) (map held_seen values.now)) }
 {
     let mut all = List::new(alloc);
     'each: for held in values {
@@ -149,7 +154,8 @@ fn unlinking(
 ) -> Result<Edit, AllocError>
     requires leaving { IsLeaving dir.now target alone }
     requires live { is_live dir.now.objects number ≡ true }
-    ensures seen { IfOk result (λ edit. edit_seen edit ≡ put_object (unlinked (goes_with dir.now target) (object_at dir.now.objects number))) }
+    ensures seen { IfOk result (λ edit. edit_seen edit
+        ≡ put_object (unlinked (goes_with dir.now target) (object_at dir.now.objects number))) }
     ensures normal { IfOk result HasNormal }
 {
     let object = live_object(dir, number);
@@ -175,7 +181,8 @@ pub(crate) fn push_unlinking(
 ) -> Result<(), AllocError>
     requires leaving { IsLeaving dir.now target alone }
     requires live { is_live dir.now.objects number ≡ true }
-    ensures { OnOk result (AddsEdits edits.old edits.new (map (λ one. put_object (unlinked_at dir.now target one))
+    ensures { OnOk result (AddsEdits edits.old edits.new
+        (map (λ one. put_object (unlinked_at dir.now target one))
         (losing_among dir.now target (number ∷ [])))) }
 {
     if loses(

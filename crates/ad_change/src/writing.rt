@@ -34,7 +34,8 @@ fn whole_of(
 ) -> Result<Vec<u8>, AllocError>
     requires class { object.now.class.0 < length (classes_of dir.now.schema) }
     requires parent { object.now.number ≢ root → is_live dir.now.objects object.now.parent ≡ true }
-    ensures { IfOk result (λ bytes. SpellsNormal (whole_at dir.now (object_seen object.now (seen own.entry)))
+    ensures { IfOk result (λ bytes.
+        SpellsNormal (whole_at dir.now (object_seen object.now (seen own.entry)))
         bytes.items) }
 {
     if object.number == ROOT {
@@ -52,7 +53,8 @@ fn whole_of(
 fn is_there(dir: &Dir, object: &Object, bytes: &[u8]) -> bool
     requires { is_live dir.now.objects object.now.number ≡ true }
     ensures { (sd : SdValue) → SpellsNormal sd bytes.now
-        → IsTrue result ↔ (object_seen object.now sd ≡ object_at dir.now.objects object.now.number) }
+        → IsTrue result ↔ (object_seen object.now sd ≡ object_at dir.now.objects
+        object.now.number) }
 {
     if is_another(dir, object.number, bytes) {
         return false;
@@ -78,7 +80,8 @@ pub(crate) fn put_edits(
     sd: SdView<'_>,
 ) -> Result<List<Edit>, AllocError>
     requires { is_live dir.now.objects object.number ≡ true }
-    ensures { IfOk result (λ edits. AreNeeded dir.now (edits_of.change_edits (object_seen object (seen sd.entry))) edits) }
+    ensures { IfOk result (λ edits.
+        AreNeeded dir.now (edits_of.change_edits (object_seen object (seen sd.entry))) edits) }
 {
     dir.stands();
     if is_there(dir, &object, sd.as_bytes()) {
@@ -125,7 +128,9 @@ pub(crate) fn write_edits(
     requires live { is_live dir.now.objects object.number ≡ true }
     requires class { object.class.0 < length (classes_of dir.now.schema) }
     requires parent { object.number ≢ root → is_live dir.now.objects object.parent ≡ true }
-    ensures { IfOk result (λ edits. AreNeeded dir.now (edits_of.write_edits dir.now (object_seen object (seen own.entry))) edits) }
+    ensures { IfOk result (λ edits.
+        AreNeeded dir.now (edits_of.write_edits dir.now (object_seen object (seen own.entry)))
+        edits) }
 {
     dir.stands();
     let bytes = whole_of(alloc, dir, &object, own)?;

@@ -1,5 +1,6 @@
 -- The values of an attribute, taken out and put back.
-use Rattle.std.proofs.Common.{◌≡◌, ℕ, zero, suc, ◌+◌, ◌<◌, ◌≤◌, Bool, true, false, not, List, [], ◌∷◌, ◌++◌, length, map, get_or}
+use Rattle.std.proofs.Common.{◌≡◌, ℕ, zero, suc, ◌+◌, ◌<◌, ◌≤◌, Bool, true, false, not, List, [], ◌∷◌, ◌++◌, length}
+use Rattle.std.proofs.Common.{map, get_or}
 use Rattle.std.proofs.Common.{Some, None, inl, inr, refl, sym, subst, ap, ◌∙◌, arith}
 use Rattle.std.specs.Prelude.{nat_eq, nat_lt, cond, filter, position, insert, remove}
 use Rattle.std.specs.List.{prefix_len}
@@ -54,7 +55,8 @@ none_without attr (h ∷ hs) =
 pub without_none : (attr : ℕ) (vs : List Held) → HoldsNone attr vs → without attr vs ≡ vs
 unfolding without
 without_none attr [] none = refl
-without_none attr (h ∷ hs) none = let differ : nat_eq h.attr attr ≡ false = none.0 in rw differ (ap (λ (xs : List Held). h ∷ xs) (without_none attr hs none.1))
+without_none attr (h ∷ hs) none = let differ : nat_eq h.attr attr ≡ false = none.0
+    in rw differ (ap (λ (xs : List Held). h ∷ xs) (without_none attr hs none.1))
 
 -- ---- taken out
 
@@ -63,7 +65,8 @@ differs attr one = not (nat_eq one.0.0 attr)
 
 abbrev Taken : ℕ → List HeldIn → ℕ → HeldIn → Type 0
 Taken attr xs n one =
-    (map held_seen (remove xs n) ≡ without attr (map held_seen xs)) × (map stored_seen one.1 ≡ stored_in (map held_seen xs) attr)
+    (map held_seen (remove xs n) ≡ without attr (map held_seen xs))
+    × (map stored_seen one.1 ≡ stored_in (map held_seen xs) attr)
 
 prefix_other : (attr : ℕ) (x : HeldIn) (xs : List HeldIn) → nat_eq x.0.0 attr ≡ false
     → prefix_len (differs attr) (x ∷ xs) ≡ suc (prefix_len (differs attr) xs)
@@ -71,24 +74,31 @@ prefix_other attr x xs other =
     ap (λ (b : Bool). cond (not b) (1 + prefix_len (differs attr) xs) 0) other
     ∙ (let next : 1 + prefix_len (differs attr) xs ≡ suc (prefix_len (differs attr) xs) = omega arith in next)
 
-prefix_here : (attr : ℕ) (x : HeldIn) (xs : List HeldIn) → nat_eq x.0.0 attr ≡ true → prefix_len (differs attr) (x ∷ xs) ≡ 0
+prefix_here : (attr : ℕ) (x : HeldIn) (xs : List HeldIn) → nat_eq x.0.0 attr ≡ true → prefix_len (differs attr)
+    (x ∷ xs) ≡ 0
 prefix_here attr x xs here = ap (λ (b : Bool). cond (not b) (1 + prefix_len (differs attr) xs) 0) here
 
-taken_at : (attr k : ℕ) (xs : List HeldIn) (n : ℕ) (one : HeldIn) → AttrsRiseFrom k (map held_seen xs) → prefix_len (differs attr) xs ≡ n
+taken_at : (attr k : ℕ) (xs : List HeldIn) (n : ℕ) (one : HeldIn) → AttrsRiseFrom k (map held_seen xs)
+    → prefix_len (differs attr) xs ≡ n
     → n < length xs → one ≡ get_or xs n one → Taken attr xs n one
 unfolding without stored_in
 taken_at attr k [] n one rise at lt is = absurd (omega (arith, lt))
 taken_at attr k (x ∷ xs) zero one rise at lt is = elim (cases_Bool (nat_eq x.0.0 attr)) [
   | inl here ↦
       let same : x.0.0 ≡ attr = eqb-true x.0.0 attr here in
-      rw here (sym (without_above attr (suc x.0.0) (map held_seen xs) rise.1 (omega (arith, same))), ap (λ (h : HeldIn). map stored_seen h.1) is)
+      rw here (
+        sym (without_above attr (suc x.0.0) (map held_seen xs) rise.1 (omega (arith, same))),
+        ap
+            (λ (h : HeldIn). map stored_seen h.1) is,
+      )
   | inr other ↦ let next = prefix_other attr x xs other in absurd (omega (arith, at, next))
 ]
 taken_at attr k (x ∷ xs) (suc n) one rise at lt is = elim (cases_Bool (nat_eq x.0.0 attr)) [
   | inl here ↦ let none = prefix_here attr x xs here in absurd (omega (arith, at, none))
   | inr other ↦
       let next = prefix_other attr x xs other in
-      let rest : Taken attr xs n one = taken_at attr (suc x.0.0) xs n one rise.1 (omega (arith, at, next)) (omega (arith, lt)) is in
+      let rest : Taken attr xs n one = taken_at attr (suc x.0.0) xs n one rise.1 (omega (arith, at, next))
+      (omega (arith, lt)) is in
       rw other (ap (λ (hs : List Held). held_seen x ∷ hs) rest.0, rest.1)
 ]
 
@@ -125,7 +135,8 @@ above_later attr x xs later =
     ap (λ (b : Bool). cond (not b) (1 + prefix_len (not_above attr) xs) 0) later
     ∙ (let next : 1 + prefix_len (not_above attr) xs ≡ suc (prefix_len (not_above attr) xs) = omega arith in next)
 
-above_here : (attr : ℕ) (x : HeldIn) (xs : List HeldIn) → nat_lt attr x.0.0 ≡ true → prefix_len (not_above attr) (x ∷ xs) ≡ 0
+above_here : (attr : ℕ) (x : HeldIn) (xs : List HeldIn) → nat_lt attr x.0.0 ≡ true → prefix_len (not_above attr)
+    (x ∷ xs) ≡ 0
 above_here attr x xs here = ap (λ (b : Bool). cond (not b) (1 + prefix_len (not_above attr) xs) 0) here
 
 put_at : (id : AttrId) (xs : List HeldIn) (stored : List StoredIn) (n : ℕ) → HoldsNone id.0 (map held_seen xs)
@@ -142,7 +153,8 @@ put_at id (x ∷ xs) stored (suc n) none at lt = elim (cases_Bool (nat_lt id.0 x
   | inr later ↦
       let differ : nat_eq x.0.0 id.0 ≡ false = none.0 in
       let next = above_later id.0 x xs later in
-      rw (differ, later) (ap (λ (hs : List Held). held_seen x ∷ hs) (put_at id xs stored n none.1 (omega (arith, at, next)) (omega (arith, lt))))
+      rw (differ, later) (ap (λ (hs : List Held). held_seen x ∷ hs)
+      (put_at id xs stored n none.1 (omega (arith, at, next)) (omega (arith, lt))))
 ]
 
 put_last : (id : AttrId) (xs : List HeldIn) (stored : List StoredIn) → HoldsNone id.0 (map held_seen xs)
@@ -155,7 +167,8 @@ put_last id (x ∷ xs) stored none le = elim (cases_Bool (nat_lt id.0 x.0.0)) [
   | inr later ↦
       let differ : nat_eq x.0.0 id.0 ≡ false = none.0 in
       let next = above_later id.0 x xs later in
-      rw (differ, later) (ap (λ (hs : List Held). held_seen x ∷ hs) (put_last id xs stored none.1 (omega (arith, le, next))))
+      rw (differ, later) (ap (λ (hs : List Held). held_seen x ∷ hs)
+      (put_last id xs stored none.1 (omega (arith, le, next))))
 ]
 
 -- with some values, these are put
@@ -164,20 +177,24 @@ some_these : (attr : ℕ) (stored : List StoredIn) (vs : List Held) → (length 
 some_these attr [] vs some = absurd (some refl)
 some_these attr (s ∷ ss) vs some = refl
 
-pub put_before : (id : AttrId) (xs : List HeldIn) (stored : List StoredIn) (place : ℕ) → HoldsNone id.0 (map held_seen xs)
+pub put_before : (id : AttrId) (xs : List HeldIn) (stored : List StoredIn) (place : ℕ)
+    → HoldsNone id.0 (map held_seen xs)
     → (length stored ≡ 0 → ⊥) → position (λ (x : HeldIn). nat_lt id.0 x.0.0) xs ≡ Some place
     → map held_seen (insert xs place (id, stored)) ≡ with_these id.0 (map stored_seen stored) (map held_seen xs)
 put_before id xs stored place none some at =
     let p = placed (prefix_len (not_above id.0) xs) (length xs) place at in
-    put_at id xs stored place none p.1 (subst (λ (n : ℕ). n < length xs) p.1 p.0) ∙ sym (some_these id.0 stored (map held_seen xs) some)
+    put_at id xs stored place none p.1 (subst (λ (n : ℕ). n < length xs) p.1 p.0)
+    ∙ sym (some_these id.0 stored (map held_seen xs) some)
 
 pub put_behind : (id : AttrId) (xs : List HeldIn) (stored : List StoredIn) → HoldsNone id.0 (map held_seen xs)
     → (length stored ≡ 0 → ⊥) → position (λ (x : HeldIn). nat_lt id.0 x.0.0) xs ≡ None
     → map held_seen (xs ++ (id, stored) ∷ []) ≡ with_these id.0 (map stored_seen stored) (map held_seen xs)
 put_behind id xs stored none some at =
-    put_last id xs stored none (not_placed (prefix_len (not_above id.0) xs) (length xs) at) ∙ sym (some_these id.0 stored (map held_seen xs) some)
+    put_last id xs stored none (not_placed (prefix_len (not_above id.0) xs) (length xs) at)
+    ∙ sym (some_these id.0 stored (map held_seen xs) some)
 
-pub put_none : (id : AttrId) (xs : List HeldIn) (stored : List StoredIn) → HoldsNone id.0 (map held_seen xs) → length stored ≡ 0
+pub put_none : (id : AttrId) (xs : List HeldIn) (stored : List StoredIn) → HoldsNone id.0 (map held_seen xs)
+    → length stored ≡ 0
     → map held_seen xs ≡ with_these id.0 (map stored_seen stored) (map held_seen xs)
 put_none id xs [] none empty = sym (without_none id.0 (map held_seen xs) none)
 put_none id xs (s ∷ ss) none empty = absurd (omega (arith, empty))
@@ -194,7 +211,8 @@ behind_all attr k new (h ∷ hs) rise lt =
     let less : nat_lt attr h.attr ≡ true = lt-ltb attr h.attr (omega (arith, least, lt)) in
     rw (differ, less) refl
 
-with_again : (attr k : ℕ) (new : List Stored) (vs : List Held) → AttrsRiseFrom k vs → with_values attr new (without attr vs) ≡ with_values attr new vs
+with_again : (attr k : ℕ) (new : List Stored) (vs : List Held) → AttrsRiseFrom k vs
+    → with_values attr new (without attr vs) ≡ with_values attr new vs
 unfolding with_values without
 with_again attr k new [] rise = refl
 with_again attr k new (h ∷ hs) rise = elim (cases_Bool (nat_eq h.attr attr)) [
@@ -218,7 +236,8 @@ these_again attr (first ∷ others) vs rise = with_again attr 0 (first ∷ other
 
 -- ---- values that are taken away
 
-pub kept_of : (p : Stored → Bool) (xs : List StoredIn) → map stored_seen (filter (λ (x : StoredIn). p (stored_seen x)) xs) ≡ filter p (map stored_seen xs)
+pub kept_of : (p : Stored → Bool) (xs : List StoredIn)
+    → map stored_seen (filter (λ (x : StoredIn). p (stored_seen x)) xs) ≡ filter p (map stored_seen xs)
 kept_of p [] = refl
 kept_of p (x ∷ xs) = elim (cases_Bool (p (stored_seen x))) [
   | inl stays ↦ rw stays (ap (λ (ss : List Stored). stored_seen x ∷ ss) (kept_of p xs))
@@ -234,9 +253,11 @@ pub taken_some : (gone stored left : List StoredIn) → (length gone ≡ 0 → �
     → left ≡ filter (λ (x : StoredIn). not (is_among (map stored_seen gone) (stored_seen x))) stored
     → map stored_seen left ≡ taken_from (map stored_seen stored) (map stored_seen gone)
 taken_some gone stored left some is =
-    ap (map stored_seen) is ∙ kept_of (λ value. not (is_among (map stored_seen gone) value)) stored ∙ sym (some_taken gone (map stored_seen stored) some)
+    ap (map stored_seen) is ∙ kept_of (λ value. not (is_among (map stored_seen gone) value)) stored
+    ∙ sym (some_taken gone (map stored_seen stored) some)
 
-pub taken_all : (gone stored left : List StoredIn) → length gone ≡ 0 → left ≡ [] → map stored_seen left ≡ taken_from (map stored_seen stored) (map stored_seen gone)
+pub taken_all : (gone stored left : List StoredIn) → length gone ≡ 0 → left ≡ [] → map stored_seen left
+    ≡ taken_from (map stored_seen stored) (map stored_seen gone)
 taken_all [] stored left empty is = ap (map stored_seen) is
 taken_all (g ∷ gs) stored left empty is = absurd (omega (arith, empty))
 

@@ -1,6 +1,8 @@
 -- The attributes with their values by their numbers, in order.
-use Rattle.std.proofs.Common.{◌≡◌, ◌∙◌, ℕ, zero, suc, ◌+◌, ◌-◌, ◌<◌, ◌≤◌, append_assoc, Bool, nat_eq, nat_lt, true, false, inl, inr}
-use Rattle.std.proofs.Common.{List, [], ◌∷◌, ◌++◌, length, map, get_or, drop, Option, Some, None, refl, sym, ap, subst, arith}
+use Rattle.std.proofs.Common.{◌≡◌, ◌∙◌, ℕ, zero, suc, ◌+◌, ◌-◌, ◌<◌, ◌≤◌, append_assoc, Bool, nat_eq, nat_lt, true}
+use Rattle.std.proofs.Common.{false, inl, inr}
+use Rattle.std.proofs.Common.{List, [], ◌∷◌, ◌++◌, length, map, get_or, drop, Option, Some, None, refl, sym, ap}
+use Rattle.std.proofs.Common.{subst, arith}
 use Rattle.std.specs.Prelude.{◌==◌, cond, unwrap_or}
 use Rattle.std.specs.declared.cmp.Ordering.TheVariants.{Less, Equal, Greater}
 use Rattle.std.specs.Ordering.{nat_cmp, is_eq}
@@ -68,7 +70,8 @@ put_among (e ∷ es) attr vs = elim (cases_Bool (nat_lt attr e.0)) [
   | inr more ↦ elim (cases_Bool (nat_eq attr e.0)) [
     | inl same ↦
         let is : attr ≡ e.0 = eqb-true attr e.0 same in
-        rw (equal_is attr e.0 more same, turned attr e.0 same) (ap (λ (n : ℕ). record { attr = n; values = map stored_seen vs } ∷ by_attr es) (sym is))
+        rw (equal_is attr e.0 more same, turned attr e.0 same)
+        (ap (λ (n : ℕ). record { attr = n; values = map stored_seen vs } ∷ by_attr es) (sym is))
     | inr other ↦
         rw (greater_is attr e.0 more other, turned_away attr e.0 other, more) (
         ap (λ (hs : List Held). record { attr = e.0; values = map stored_seen e.1 } ∷ hs) (put_among es attr vs))
@@ -95,7 +98,8 @@ least_behind m (x ∷ xs) h rest rise =
     let more : suc x.attr ≤ h.attr = least_behind (suc x.attr) xs h rest rise.1 in
     omega (arith, first, more)
 
-pub put_end : (m : ℕ) (xs : List Held) (h : Held) (rest : List Held) → AttrsRiseFrom m (xs ++ h ∷ rest) → with_values h.attr h.values xs ≡ xs ++ h ∷ []
+pub put_end : (m : ℕ) (xs : List Held) (h : Held) (rest : List Held) → AttrsRiseFrom m (xs ++ h ∷ rest)
+    → with_values h.attr h.values xs ≡ xs ++ h ∷ []
 unfolding with_values
 put_end m [] h rest rise = refl
 put_end m (x ∷ xs) h rest rise =
@@ -108,11 +112,15 @@ put_end m (x ∷ xs) h rest rise =
     rw (differ, later) (ap (λ (hs : List Held). x ∷ hs) (put_end (suc x.attr) xs h rest rise.1))
 
 -- where all rise, the next one is put after those so far
-pub put_next : (whole before after : List Held) (h : AttrId × List StoredIn) (rest : List (AttrId × List StoredIn)) → AttrsRiseFrom 0 whole
-    → before ++ map held_seen (h ∷ rest) ≡ whole → after ≡ with_values h.0.0 (map stored_seen h.1) before → after ++ map held_seen rest ≡ whole
+pub put_next : (whole before after : List Held) (h : AttrId × List StoredIn) (rest : List (AttrId × List StoredIn))
+    → AttrsRiseFrom 0 whole
+    → before ++ map held_seen (h ∷ rest) ≡ whole → after ≡ with_values h.0.0 (map stored_seen h.1) before → after
+    ++ map held_seen rest ≡ whole
 put_next whole before after h rest rise both put =
-    let end : after ≡ before ++ held_seen h ∷ [] = put ∙ put_end 0 before (held_seen h) (map held_seen rest) (subst (AttrsRiseFrom 0) (sym both) rise) in
-    ap (λ (hs : List Held). hs ++ map held_seen rest) end ∙ append_assoc before (held_seen h ∷ []) (map held_seen rest) ∙ both
+    let end : after ≡ before ++ held_seen h ∷ [] = put ∙ put_end 0 before (held_seen h) (map held_seen rest)
+    (subst (AttrsRiseFrom 0) (sym both) rise) in
+    ap (λ (hs : List Held). hs ++ map held_seen rest) end ∙ append_assoc before (held_seen h ∷ [])
+    (map held_seen rest) ∙ both
 
 -- ---- one that is taken out
 
@@ -127,10 +135,12 @@ row_left (e ∷ es) attr k rise = elim (cases_Bool (nat_eq e.0 attr)) [
       rw (at, here) (sym (without_above attr (suc e.0) (by_attr es) rise.1 (omega (arith, same))))
   | inr other ↦
       let at : is_at (nat_cmp attr) e.0 ≡ false = at_is attr e.0 ∙ other in
-      rw (at, other) (ap (λ (hs : List Held). record { attr = e.0; values = map stored_seen e.1 } ∷ hs) (row_left es attr (suc e.0) rise.1))
+      rw (at, other) (ap (λ (hs : List Held). record { attr = e.0; values = map stored_seen e.1 } ∷ hs)
+      (row_left es attr (suc e.0) rise.1))
 ]
 
-pub row_at : (es : List (ℕ × List StoredIn)) (attr : ℕ) (found : Option (List StoredIn)) → found ≡ lookup (is_at (nat_cmp attr)) es
+pub row_at : (es : List (ℕ × List StoredIn)) (attr : ℕ) (found : Option (List StoredIn)) → found
+    ≡ lookup (is_at (nat_cmp attr)) es
     → map stored_seen (unwrap_or found []) ≡ stored_in (by_attr es) attr
 unfolding stored_in
 row_at [] attr found is = rw is refl
@@ -141,7 +151,8 @@ row_at (e ∷ es) attr found is = elim (cases_Bool (nat_eq e.0 attr)) [
       rw (some, here) refl
   | inr other ↦
       let at : is_at (nat_cmp attr) e.0 ≡ false = at_is attr e.0 ∙ other in
-      let later : found ≡ lookup (is_at (nat_cmp attr)) es = is ∙ ap (λ (b : Bool). cond b (Some e.1) (lookup (is_at (nat_cmp attr)) es)) at in
+      let later : found ≡ lookup (is_at (nat_cmp attr)) es = is
+      ∙ ap (λ (b : Bool). cond b (Some e.1) (lookup (is_at (nat_cmp attr)) es)) at in
       rw other (row_at es attr found later)
 ]
 
@@ -152,23 +163,29 @@ pub no_counts : (counts : BTreeMap ℕ ℕ) (held : List (AttrId × List StoredI
 unfolding stored_in
 no_counts counts held attr none =
     ap (λ (es : List (ℕ × ℕ)). unwrap_or (lookup (is_at (nat_cmp attr)) es) 0) none
-    ∙ ap (λ (hs : List (AttrId × List StoredIn)). length (stored_in (map held_seen hs) attr)) (sym (drop_all (length held) held (omega arith)))
+    ∙ ap (λ (hs : List (AttrId × List StoredIn)). length (stored_in (map held_seen hs) attr))
+    (sym (drop_all (length held) held (omega arith)))
 
 count_first : (x : AttrId × List StoredIn) (rest : List (AttrId × List StoredIn)) (attr : ℕ)
-    → cond (x.0.0 == attr) (length x.1) (length (stored_in (map held_seen rest) attr)) ≡ length (stored_in (map held_seen (x ∷ rest)) attr)
+    → cond (x.0.0 == attr) (length x.1) (length (stored_in (map held_seen rest) attr))
+    ≡ length (stored_in (map held_seen (x ∷ rest)) attr)
 unfolding stored_in
 count_first x rest attr = elim (cases_Bool (nat_eq x.0.0 attr)) [
   | inl here ↦ rw here (sym (length-map x.1 stored_seen))
   | inr other ↦ rw other refl
 ]
 
-pub one_count : (held : List (AttrId × List StoredIn)) (place : ℕ) (x : AttrId × List StoredIn) (len before after attr : ℕ) → 0 < place → place ≤ length held
+pub one_count : (held : List (AttrId × List StoredIn)) (place : ℕ) (x : AttrId × List StoredIn)
+    (len before after attr : ℕ) → 0 < place → place ≤ length held
     → x ≡ get_or held (place - 1) x → len ≡ length x.1 → after ≡ cond (x.0.0 == attr) len before
-    → before ≡ length (stored_in (map held_seen (drop place held)) attr) → after ≡ length (stored_in (map held_seen (drop (place - 1) held)) attr)
+    → before ≡ length (stored_in (map held_seen (drop place held)) attr) → after
+    ≡ length (stored_in (map held_seen (drop (place - 1) held)) attr)
 one_count held place x len before after attr some within at is put behind =
     let next : place - 1 + 1 ≡ place = omega (arith, some) in
     let parts : drop (place - 1) held ≡ x ∷ drop place held =
     at_drop_more (λ (hs : List (AttrId × List StoredIn)). hs) held (place - 1) x (omega (arith, some, within))
-    ∙ ap (λ (y : AttrId × List StoredIn). y ∷ drop (place - 1 + 1) held) (sym at) ∙ ap (λ (n : ℕ). x ∷ drop n held) next in
-    put ∙ ap (λ (n : ℕ). cond (x.0.0 == attr) n before) is ∙ ap (λ (n : ℕ). cond (x.0.0 == attr) (length x.1) n) behind ∙ count_first x (drop place held) attr
+    ∙ ap (λ (y : AttrId × List StoredIn). y ∷ drop (place - 1 + 1) held) (sym at) ∙ ap (λ (n : ℕ). x ∷ drop n held)
+    next in
+    put ∙ ap (λ (n : ℕ). cond (x.0.0 == attr) n before) is ∙ ap (λ (n : ℕ). cond (x.0.0 == attr) (length x.1) n)
+    behind ∙ count_first x (drop place held) attr
     ∙ ap (λ (hs : List (AttrId × List StoredIn)). length (stored_in (map held_seen hs) attr)) (sym parts)

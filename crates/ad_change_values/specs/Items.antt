@@ -37,7 +37,8 @@ with_these attr (first ∷ others) values = with_values attr (first ∷ others) 
 
 unfoldable pub after_item : Directory → List Held → ActItem → List Held
 after_item dir values item =
-    with_these item.attr.0 (values_after item.op (all_stored dir item.attr.0 item.values) (stored_in values item.attr.0)) values
+    with_these item.attr.0 (values_after item.op (all_stored dir item.attr.0 item.values)
+    (stored_in values item.attr.0)) values
 
 unfoldable pub after_items : Directory → List Held → List ActItem → List Held
 after_items dir values [] = values
@@ -76,7 +77,8 @@ item_checks dir held item =
 
 unfoldable pub all_item_checks : Directory → List Held → List ActItem → List Check
 all_item_checks dir held [] = []
-all_item_checks dir held (item ∷ items) = item_checks dir held item ++ all_item_checks dir (after_item dir held item) items
+all_item_checks dir held (item ∷ items) = item_checks dir held item ++ all_item_checks dir (after_item dir held item)
+    items
 
 -- ---- checks of the attributes that the items name, on what all items made
 

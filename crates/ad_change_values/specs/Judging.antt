@@ -11,8 +11,10 @@ use Rattle.ad_dir_model.specs.Directory.{Directory}
 use Rattle.ad_needs_rules.specs.Checks.{Check, code, or_code, first_failing}
 use Rattle.ad_change_values.specs.declared.stop.Stop.{Stop}
 use Rattle.ad_change_values.specs.declared.stop.Stop.TheVariants as stop
-use Rattle.ad_change_values.specs.Values.{is_password, all_attrs, value_in, reads, is_short, leads, is_no_empty_password, all_stored}
-use Rattle.ad_change_values.specs.Items.{adds_new, gives_once, deletes_there, is_item_named, all_item_checks, final_checks, after_items}
+use Rattle.ad_change_values.specs.Values.{is_password, all_attrs, value_in, reads, is_short, leads}
+use Rattle.ad_change_values.specs.Values.{is_no_empty_password, all_stored}
+use Rattle.ad_change_values.specs.Items.{adds_new, gives_once, deletes_there, is_item_named, all_item_checks}
+use Rattle.ad_change_values.specs.Items.{final_checks, after_items}
 
 -- The first check that fails has this code, or memory ran out.
 abbrev pub StopsAt : List Check → Stop → Type 0
@@ -57,7 +59,8 @@ checks_on dir stored item =
 abbrev pub value_checks : Directory → ℕ → List Held → List ActItem → List Check
 value_checks dir class held items =
     all_item_checks dir held items
-    ++ flat_map (final_checks dir.schema class (after_items dir held items)) (filter (is_item_named items) (all_attrs dir.schema))
+    ++ flat_map (final_checks dir.schema class (after_items dir held items))
+    (filter (is_item_named items) (all_attrs dir.schema))
 
 -- ---- attributes that are named
 

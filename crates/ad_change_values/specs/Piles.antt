@@ -1,5 +1,6 @@
 -- Stored values of which some were taken away since they came.
-use Rattle.std.specs.Prelude.{◌≡◌, ℕ, suc, ◌≤◌, Bool, false, not, nat_lt, if◌then◌else◌, Option, Some, None, is_some, List, [], ◌∷◌, length, map}
+use Rattle.std.specs.Prelude.{◌≡◌, ℕ, suc, ◌≤◌, Bool, false, not, nat_lt, if◌then◌else◌, Option, Some, None, is_some}
+use Rattle.std.specs.Prelude.{List, [], ◌∷◌, length, map}
 use Rattle.std.specs.List.{list_any}
 use Rattle.std.specs.BTreeMap.{BTreeMap, get}
 use Rattle.ad_dir_objects.specs.declared.object.Stored.{Stored as StoredIn}
@@ -16,7 +17,8 @@ is_since place (Some first) = not (nat_lt place first)
 -- From a place on, those values that are there: a key names the place from which on its values are.
 unfoldable pub alive : (StoredKey → Option ℕ) → ℕ → List StoredIn → List StoredIn
 alive since place [] = []
-alive since place (one ∷ others) = if is_since place (since (key_of one)) then one ∷ alive since (suc place) others else alive since (suc place) others
+alive since place (one ∷ others) = if is_since place (since (key_of one)) then one ∷ alive since (suc place) others
+    else alive since (suc place) others
 
 -- one of the values has the key
 abbrev pub has_key : List StoredIn → StoredKey → Bool

@@ -62,7 +62,8 @@ stored_total = record { antisymm = antisymm; trans = trans; congr = congr }
 
 -- keys that are one are equal
 pub exact : (a b : StoredKey) → same_by a b ≡ true → a ≡ b
-exact (by.Plain a) (by.Plain b) e = ap (λ (k : Key). by.Plain k) ((equal_decides a b).0 ((Equal-is (key_order a b)).0 e))
+exact (by.Plain a) (by.Plain b) e = ap (λ (k : Key). by.Plain k)
+    ((equal_decides a b).0 ((Equal-is (key_order a b)).0 e))
 exact (by.Link a) (by.Link b) e = ap (λ (n : ℕ). by.Link n) ((unsigned_Decides a b).0 (sym (unsigned_tied a b) ∙ e))
 exact (by.Plain a) (by.Link b) e = absurd cc
 exact (by.Link a) (by.Plain b) e = absurd cc

@@ -33,13 +33,15 @@ all_attrs schema = range_with_len 0 (length (attrs_of schema))
 
 -- an object of the class lacks the attribute, and may not
 abbrev pub is_lacking : List SchemaRecord → ℕ → ℕ → Bool → Bool
-is_lacking schema class attr has_some = not has_some && (is_must schema class attr && not (is_never_missing schema class attr))
+is_lacking schema class attr has_some = not has_some
+    && (is_must schema class attr && not (is_never_missing schema class attr))
 
 -- ---- one value
 
 -- The value in the attribute's syntax. A password is kept as its digest, and its syntax isn't asked.
 unfoldable pub value_in : List SchemaRecord → ℕ → List ℕ → Result Value ValueFault
-value_in schema attr bytes = if is_password schema attr then Ok (as_shown (sha256 bytes)) else normal_or_fault (syntax_at schema attr) bytes
+value_in schema attr bytes = if is_password schema attr then Ok (as_shown (sha256 bytes))
+    else normal_or_fault (syntax_at schema attr) bytes
 
 abbrev pub is_unreadable : Result Value ValueFault → Bool
 is_unreadable (Err fault.Syntax) = true

@@ -17,7 +17,8 @@ use std::collections::BTreeMap;
 pub(crate) type Counts = BTreeMap<u32, usize>;
 
 fn put_count(counts: &mut Counts, attr: u32, count: usize) -> Result<(), AllocError>
-    ensures { OnOk result ((other : ℕ) → count_in counts.new other ≡ cond (attr == other) count (count_in counts.old other)) }
+    ensures { OnOk result ((other : ℕ) → count_in counts.new other ≡ cond (attr == other) count
+        (count_in counts.old other)) }
 {
     match counts.insert(attr, count) {
         Ok(_) => Ok(()),
@@ -37,7 +38,8 @@ pub(crate) fn count_of(counts: &Counts, attr: AttrId) -> usize
 
 /// How many values each attribute has.
 pub(crate) fn counts_of(alloc: Global, held: &[(AttrId, Few<Stored>)]) -> Result<Counts, AllocError>
-    ensures { IfOk result (λ counts. (attr : ℕ) → count_in counts attr ≡ length (stored_in (map held_seen held.now) attr)) }
+    ensures { IfOk result (λ counts. (attr : ℕ) → count_in counts attr
+        ≡ length (stored_in (map held_seen held.now) attr)) }
 {
     let mut counts = BTreeMap::new(alloc);
     let mut place = held.len();

@@ -1,6 +1,7 @@
 //! The checks of the attributes that the items of a Modify name, on what all of them made.
 
-ghost use Rattle.std.specs.Prelude.{◌≡◌, ◌<◌, ◌==◌, ◌&&◌, not, if◌then◌else◌, List, [], map, filter, length, nat_lt, IfOk};
+ghost use Rattle.std.specs.Prelude.{◌≡◌, ◌<◌, ◌==◌, ◌&&◌, not, if◌then◌else◌, List, [], map, filter, length, nat_lt};
+ghost use Rattle.std.specs.Prelude.{IfOk};
 ghost use Rattle.std.specs.List.{flat_map, AllByRecursion};
 ghost use Rattle.ad_schema.specs.Attributes.{attrs_of};
 ghost use Rattle.ad_schema.specs.Classes.{classes_of};
@@ -70,7 +71,8 @@ fn judge_if(
     requires class { class.0 < length (classes_of schema.now) }
     requires attr { attr.0 < length (attrs_of schema.now) }
     ensures { (held : List HeldValue) → count_in counts.now attr.0 ≡ length (stored_in held attr.0)
-        → Judges (if named then modify.final_checks schema.now class.0 held attr.0 else []) (λ _. Unit {0}) result }
+        → Judges (if named then modify.final_checks schema.now class.0 held attr.0 else [])
+        (λ _. Unit {0}) result }
 {
     if named {
         return judge_attr(schema, class, attr, count_of(counts, attr));

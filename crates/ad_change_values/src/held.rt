@@ -26,7 +26,8 @@ fn place_of(held: &[(AttrId, Few<Stored>)], attr: AttrId) -> Option<usize>
 pub fn take_stored(alloc: Global, held: &mut Held, attr: AttrId) -> Few<Stored>
     requires { AttrsRiseFrom 0 (map held_seen held.old.items) }
     ensures taken { map stored_seen result ≡ stored_in (map held_seen held.old.items) attr.0 }
-    ensures left { map held_seen held.new.items ≡ modify.without attr.0 (map held_seen held.old.items) }
+    ensures left { map held_seen held.new.items
+        ≡ modify.without attr.0 (map held_seen held.old.items) }
 {
     match place_of(held.as_slice(), attr) {
         Some(place) => {

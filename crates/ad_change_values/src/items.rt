@@ -26,7 +26,8 @@ use std::alloc::{AllocError, Global};
 
 // Whether one of the values is among those that are stored.
 fn any_among(alloc: Global, stored: &Pile, new: &[Stored]) -> Result<bool, AllocError>
-    ensures { IfOk result (λ any. any ≡ list_any (is_among (map stored_seen stored.now)) (map stored_seen new.now)) }
+    ensures { IfOk result (λ any. any ≡ list_any (is_among (map stored_seen stored.now))
+        (map stored_seen new.now)) }
 {
     for one in new {
         let there = stored.has(alloc, one)?;
@@ -39,7 +40,8 @@ fn any_among(alloc: Global, stored: &Pile, new: &[Stored]) -> Result<bool, Alloc
 
 // Whether each of them is.
 fn all_among(alloc: Global, stored: &Pile, new: &[Stored]) -> Result<bool, AllocError>
-    ensures { IfOk result (λ all. all ≡ list_all (is_among (map stored_seen stored.now)) (map stored_seen new.now)) }
+    ensures { IfOk result (λ all. all ≡ list_all (is_among (map stored_seen stored.now))
+        (map stored_seen new.now)) }
 {
     for one in new {
         let there = stored.has(alloc, one)?;
@@ -52,7 +54,8 @@ fn all_among(alloc: Global, stored: &Pile, new: &[Stored]) -> Result<bool, Alloc
 
 // Whether no value that is added is there.
 fn adds_new(alloc: Global, op: u8, new: &[Stored], stored: &Pile) -> Result<bool, AllocError>
-    ensures { IfOk result (λ fine. fine ≡ modify.adds_new op (map stored_seen new.now) (map stored_seen stored.now)) }
+    ensures { IfOk result (λ fine. fine ≡ modify.adds_new op (map stored_seen new.now)
+        (map stored_seen stored.now)) }
 {
     if op != 0 {
         return Ok(true);
@@ -75,8 +78,10 @@ fn deletes_there(
     new: &[Stored],
     stored: &Pile,
 ) -> Result<bool, AllocError>
-    ensures { IfOk result (λ there. there ≡ (if length item.now.values == 0 then not (length (map stored_seen stored.now) == 0)
-        else list_all (is_among (map stored_seen stored.now)) (map stored_seen new.now) && not twice)) }
+    ensures { IfOk result (λ there. there
+        ≡ (if length item.now.values == 0 then not (length (map stored_seen stored.now) == 0)
+        else list_all (is_among (map stored_seen stored.now)) (map stored_seen new.now)
+        && not twice)) }
 {
     if item.values.is_empty() {
         return Ok(is_some(stored));
@@ -93,9 +98,11 @@ fn deletes_well(
     new: &[Stored],
     stored: &Pile,
 ) -> Result<bool, AllocError>
-    ensures { IfOk result (λ there. there ≡ (not (item.now.op == 1) || (if length item.now.values == 0
+    ensures { IfOk result (λ there. there
+        ≡ (not (item.now.op == 1) || (if length item.now.values == 0
         then not (length (map stored_seen stored.now) == 0)
-        else list_all (is_among (map stored_seen stored.now)) (map stored_seen new.now) && not twice))) }
+        else list_all (is_among (map stored_seen stored.now)) (map stored_seen new.now)
+        && not twice))) }
 {
     if item.op != 1 {
         return Ok(true);
@@ -112,7 +119,8 @@ fn gives_once(op: u8, twice: bool) -> bool
 
 // Whether no new password is empty.
 fn is_filled(schema: &Schema, item: &ActItem) -> bool
-    ensures { result ≡ (item.now.op == 1 || list_all (is_no_empty_password schema.now item.now.attr.0) item.now.values) }
+    ensures { result ≡ (item.now.op == 1
+        || list_all (is_no_empty_password schema.now item.now.attr.0) item.now.values) }
 {
     item.op == 1 || has_no_empty_password(schema, item.attr, item.values.as_slice())
 }
@@ -134,7 +142,8 @@ fn judge_kept(
     stored: &Pile,
 ) -> Result<(), Stop>
     requires { twice ≡ is_given_twice schema.now item.now.attr.0 item.now.values }
-    ensures { Judges (kept_checks schema.now item.now (map stored_seen new.now) (map stored_seen stored.now))
+    ensures { Judges (kept_checks schema.now item.now (map stored_seen new.now)
+        (map stored_seen stored.now))
         (λ _. Unit {0}) result }
 {
     let fresh = adds_new(alloc, item.op, new, stored)?;
@@ -179,7 +188,8 @@ fn is_none(gone: &[Stored]) -> bool
 
 // The stored values without these, or none where none are said.
 fn taken_from(alloc: Global, stored: Pile, gone: &[Stored]) -> Result<Pile, AllocError>
-    ensures { IfOk result (λ left. map stored_seen left ≡ modify.taken_from (map stored_seen stored) (map stored_seen gone.now)) }
+    ensures { IfOk result (λ left. map stored_seen left ≡ modify.taken_from (map stored_seen stored)
+        (map stored_seen gone.now)) }
 {
     if is_none(gone) {
         return Ok(Pile::of(Few::new(alloc)));
@@ -207,7 +217,8 @@ fn apply_item(alloc: Global, dir: &Dir, rows: &mut Rows, item: &ActItem) -> Resu
     requires attr { item.now.attr.0 < length (attrs_of dir.now.schema) }
     requires rise { AttrsRiseFrom 0 (by_attr rows.old.entries) }
     ensures { Judges (modify.item_checks dir.now (by_attr rows.old.entries) item.now)
-        (λ _. by_attr rows.new.entries ≡ modify.after_item dir.now (by_attr rows.old.entries) item.now) result }
+        (λ _. by_attr rows.new.entries ≡ modify.after_item dir.now (by_attr rows.old.entries)
+        item.now) result }
 {
     let taken = take_pile(alloc, rows, item.attr);
     let stored = taken.looked_at(alloc, item.values.len())?;
@@ -221,10 +232,12 @@ fn apply_item(alloc: Global, dir: &Dir, rows: &mut Rows, item: &ActItem) -> Resu
 
 /// The checks of the items, and the attributes with their values after all of them.
 pub fn judge_items(alloc: Global, dir: &Dir, held: Held, items: &[ActItem]) -> Result<Held, Stop>
-    requires attrs { AllByRecursion (λ item. item.attr.0 < length (attrs_of dir.now.schema)) items.now }
+    requires attrs { AllByRecursion (λ item. item.attr.0 < length (attrs_of dir.now.schema))
+        items.now }
     requires rise { AttrsRiseFrom 0 (map held_seen held.items) }
     ensures { Judges (modify.all_item_checks dir.now (map held_seen held.items) items.now)
-        (λ after. map held_seen after.items ≡ modify.after_items dir.now (map held_seen held.items) items.now) result }
+        (λ after. map held_seen after.items ≡ modify.after_items dir.now (map held_seen held.items)
+        items.now) result }
 {
     let mut rows = rows_of(held)?;
     for item in items {

@@ -86,7 +86,8 @@ fn has_in(
     one: &Stored,
 ) -> Result<bool, AllocError>
     requires { IsPile all.now places.now }
-    ensures { IfOk result (λ there. there ≡ is_among (map stored_seen (pile_in all.now places.now)) (stored_seen one.now)) }
+    ensures { IfOk result (λ there. there ≡ is_among (map stored_seen (pile_in all.now places.now))
+        (stored_seen one.now)) }
 {
     match places {
         Some(places) => {
@@ -114,7 +115,8 @@ fn add_all(
 ) -> Result<(Few<Stored>, Option<Places>), AllocError>
     requires { IsIndex (since_in places) all }
     ensures pile { IfOk result (λ both. IsPile both.0 both.1) }
-    ensures seen { IfOk result (λ both. pile_in both.0 both.1 ≡ alive (since_in places) 0 all ++ new.items) }
+    ensures seen { IfOk result (λ both. pile_in both.0 both.1 ≡ alive (since_in places) 0 all
+        ++ new.items) }
 {
     for one in new {
         add_one(alloc, &mut all, &mut places, one)?;
@@ -154,7 +156,8 @@ fn without_in(
 ) -> Result<(Few<Stored>, Option<Places>), AllocError>
     requires { IsPile all places }
     ensures pile { IfOk result (λ both. IsPile both.0 both.1) }
-    ensures seen { IfOk result (λ both. pile_in both.0 both.1 ≡ filter (not_among gone.now) (pile_in all places)) }
+    ensures seen { IfOk result (λ both. pile_in both.0 both.1 ≡ filter (not_among gone.now)
+        (pile_in all places)) }
 {
     match places {
         Some(places) => {
@@ -217,7 +220,8 @@ impl Pile {
     ///
     /// Out of memory.
     pub fn has(&self, alloc: Global, one: &Stored) -> Result<bool, AllocError>
-        ensures { IfOk result (λ there. there ≡ is_among (map stored_seen self.now) (stored_seen one.now)) }
+        ensures { IfOk result (λ there. there ≡ is_among (map stored_seen self.now)
+            (stored_seen one.now)) }
     {
         has_in(alloc, &self.all, &self.places, one)
     }

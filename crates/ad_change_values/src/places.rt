@@ -1,6 +1,7 @@
 //! An index of stored values: of each key that is there, from which place on its values are.
 
-ghost use Rattle.std.specs.Prelude.{◌≡◌, ◌==◌, ◌++◌, ◌∷◌, [], Some, None, is_some, suc, not, cond, if◌then◌else◌, filter, length, IfOk, OnOk};
+ghost use Rattle.std.specs.Prelude.{◌≡◌, ◌==◌, ◌++◌, ◌∷◌, [], Some, None, is_some, suc, not, cond, if◌then◌else◌};
+ghost use Rattle.std.specs.Prelude.{filter, length, IfOk, OnOk};
 ghost use Rattle.ad_change_values.specs.StoredKeys.{key_of, same_by};
 ghost use Rattle.ad_change_values.specs.declared.keys.StoredKey.{StoredKey as KeyValue};
 ghost use Rattle.ad_change_values.specs.Piles.{alive, is_since, not_among, since_in, IsIndex};
@@ -15,7 +16,8 @@ use std::collections::BTreeMap;
 pub(crate) type Places = BTreeMap<StoredKey, usize>;
 
 fn put(places: &mut Places, key: StoredKey, place: usize) -> Result<(), AllocError>
-    ensures { OnOk result ((other : KeyValue) → since_in places.new other ≡ cond (same_by key other) (Some place) (since_in places.old other)) }
+    ensures { OnOk result ((other : KeyValue) → since_in places.new other ≡ cond (same_by key other)
+        (Some place) (since_in places.old other)) }
 {
     match places.insert(key, place) {
         Ok(_) => Ok(()),
@@ -24,7 +26,8 @@ fn put(places: &mut Places, key: StoredKey, place: usize) -> Result<(), AllocErr
 }
 
 fn take(places: &mut Places, key: &StoredKey)
-    ensures { (other : KeyValue) → since_in places.new other ≡ cond (same_by key.now other) None (since_in places.old other) }
+    ensures { (other : KeyValue) → since_in places.new other ≡ cond (same_by key.now other) None
+        (since_in places.old other) }
 {
     places.remove(key);
 }
@@ -68,7 +71,8 @@ pub(crate) fn is_bare(places: &Places) -> bool
 
 // Puts the place of a value that comes after so many, unless one of its key is there.
 fn put_new(places: &mut Places, key: StoredKey, place: usize) -> Result<(), AllocError>
-    ensures { OnOk result ((other : KeyValue) → since_in places.new other ≡ (if is_some (since_in places.old key) then since_in places.old other
+    ensures { OnOk result ((other : KeyValue) → since_in places.new other
+        ≡ (if is_some (since_in places.old key) then since_in places.old other
         else cond (same_by key other) (Some place) (since_in places.old other))) }
 {
     if places.contains_key(&key) {
@@ -87,7 +91,8 @@ pub(crate) fn add_one(
 ) -> Result<(), AllocError>
     requires { IsIndex (since_in places.old) all.old }
     ensures index { OnOk result (IsIndex (since_in places.new) all.new) }
-    ensures added { OnOk result (alive (since_in places.new) 0 all.new ≡ alive (since_in places.old) 0 all.old ++ one ∷ []) }
+    ensures added { OnOk result (alive (since_in places.new) 0 all.new ≡ alive (since_in places.old)
+        0 all.old ++ one ∷ []) }
 {
     let key = key_of(alloc, &one)?;
     put_new(places, key, all.len())?;

@@ -18,7 +18,8 @@ pub(crate) const MANY: usize = 32;
 // Puts a key among those that came before it, and tells whether it is none of them.
 fn is_new(keys: &mut BTreeSet<StoredKey>, key: StoredKey) -> Result<bool, AllocError>
     ensures new { IfOk result (λ new. new ≡ not (contains stored_order keys.old key)) }
-    ensures keys { OnOk result ((other : KeyValue) → contains stored_order keys.new other ≡ (same_by key other || contains stored_order keys.old other)) }
+    ensures keys { OnOk result ((other : KeyValue) → contains stored_order keys.new other
+        ≡ (same_by key other || contains stored_order keys.old other)) }
 {
     match keys.insert(key) {
         Ok(new) => Ok(new),

@@ -22,7 +22,8 @@ use std::collections::BTreeMap;
 pub(crate) type Rows = BTreeMap<u32, Pile>;
 
 fn put_row(rows: &mut Rows, attr: AttrId, pile: Pile) -> Result<(), AllocError>
-    ensures { OnOk result (by_attr rows.new.entries ≡ with_values attr.0 (map stored_seen pile) (by_attr rows.old.entries)) }
+    ensures { OnOk result (by_attr rows.new.entries ≡ with_values attr.0 (map stored_seen pile)
+        (by_attr rows.old.entries)) }
 {
     match rows.insert(attr.0, pile) {
         Ok(_) => Ok(()),
@@ -83,7 +84,8 @@ pub(crate) fn take_pile(alloc: Global, rows: &mut Rows, attr: AttrId) -> Pile
 /// Puts the values of an attribute that isn't held where its number belongs, if there are any.
 pub(crate) fn put_pile(rows: &mut Rows, attr: AttrId, stored: Pile) -> Result<(), AllocError>
     requires { HoldsNone attr.0 (by_attr rows.old.entries) }
-    ensures { OnOk result (by_attr rows.new.entries ≡ modify.with_these attr.0 (map stored_seen stored) (by_attr rows.old.entries)) }
+    ensures { OnOk result (by_attr rows.new.entries ≡ modify.with_these attr.0
+        (map stored_seen stored) (by_attr rows.old.entries)) }
 {
     if stored.is_empty() {
         return Ok(());

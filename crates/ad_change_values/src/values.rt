@@ -69,7 +69,8 @@ fn digest_of(alloc: Global, bytes: &[u8]) -> Result<Value, AllocError>
 #[tactic(auto, unfolding(crate::specs::Values::value_in, ad_dir_model::specs::Attributes::syntax_at))]
 fn value_in(alloc: Global, schema: &Schema, attr: AttrId, bytes: &[u8]) -> Result<Value, ValueFault>
     requires { attr.0 < length (attrs_of schema.now) }
-    ensures { GivesUnless is_memory (λ value. value) result (values.value_in schema.now attr.0 bytes.now) }
+    ensures { GivesUnless is_memory (λ value. value) result
+        (values.value_in schema.now attr.0 bytes.now) }
 {
     if is_password(schema, attr) {
         return Ok(digest_of(alloc, bytes)?);
@@ -88,7 +89,8 @@ fn read_more(
     requires { attr.0 < length (attrs_of schema.now) }
     ensures { Judges (or_code (values.reads schema.now attr.0 bytes.now) 21 ∷ [])
         (λ short. (short ≡ values.is_short schema.now attr.0 bytes.now)
-        × (read.new ≡ read.old ++ option_to_list (result_ok (values.value_in schema.now attr.0 bytes.now)))) result }
+        × (read.new ≡ read.old ++ option_to_list
+        (result_ok (values.value_in schema.now attr.0 bytes.now)))) result }
 {
     match value_in(alloc, schema, attr, bytes) {
         Ok(value) => {
@@ -238,7 +240,8 @@ fn is_same(a: &Stored, b: &Stored) -> bool
 }
 
 fn any_same(stored: &[Stored], value: &Stored) -> bool
-    ensures { result ≡ list_any (λ one. values.same_stored (stored_seen value.now) (stored_seen one)) stored.now }
+    ensures { result ≡ list_any (λ one. values.same_stored (stored_seen value.now)
+        (stored_seen one)) stored.now }
 {
     stored.iter().any(|one| is_same(value, one))
 }

@@ -1,5 +1,6 @@
 -- Which names of attributes and classes are told of an object at which one has rights.
-use Rattle.std.specs.Prelude.{ℕ, zero, suc, Bool, false, not, ◌&&◌, ◌==◌, if◌then◌else◌, List, [], ◌∷◌, ◌++◌, length, slice_get}
+use Rattle.std.specs.Prelude.{ℕ, zero, suc, Bool, false, not, ◌&&◌, ◌==◌, if◌then◌else◌, List, [], ◌∷◌, ◌++◌, length}
+use Rattle.std.specs.Prelude.{slice_get}
 use Rattle.std.specs.Option.{option_map_or}
 use Rattle.ad_schema.specs.declared.line.SchemaRecord.{SchemaRecord}
 use Rattle.ad_schema.specs.declared.info.AttrId.{AttrId}
@@ -26,20 +27,24 @@ is_object_sid schema place = option_map_or (λ (id : AttrId). id.0 == place) (at
 -- attribute of the class, the object's identifier, and back links.
 unfoldable pub is_replaceable : List SchemaRecord → ℕ → ℕ → AttrInfo → Bool
 is_replaceable schema class place info =
-    not (is_computed info.name) && not (naming_of schema class == place) && not (is_object_sid schema place) && not (attr_is_back_link schema place)
+    not (is_computed info.name) && not (naming_of schema class == place) && not (is_object_sid schema place)
+    && not (attr_is_back_link schema place)
 
 -- An attribute is listed where objects of the class may have it, its values can be replaced, and one may write it.
 abbrev pub is_listed : List SchemaRecord → ℕ → RightsValue → ℕ → AttrInfo → Bool
-is_listed schema class rights place info = is_allowed schema class place && is_replaceable schema class place info && rights.may_write place
+is_listed schema class rights place info = is_allowed schema class place && is_replaceable schema class place info
+    && rights.may_write place
 
 unfoldable pub attribute_at : List SchemaRecord → ℕ → RightsValue → ℕ → List (List ℕ)
 attribute_at schema class rights place =
-    option_map_or (λ (info : AttrInfo). name_if (is_listed schema class rights place info) info.name) (slice_get (attrs_of schema) place) []
+    option_map_or (λ (info : AttrInfo). name_if (is_listed schema class rights place info) info.name)
+    (slice_get (attrs_of schema) place) []
 
 -- of the first n attributes
 unfoldable pub attributes_below : List SchemaRecord → ℕ → RightsValue → ℕ → List (List ℕ)
 attributes_below schema class rights zero = []
-attributes_below schema class rights (suc n) = attributes_below schema class rights n ++ attribute_at schema class rights n
+attributes_below schema class rights (suc n) = attributes_below schema class rights n ++ attribute_at schema class
+    rights n
 
 -- The names of all that are listed, in schema order.
 abbrev pub attributes : List SchemaRecord → ℕ → RightsValue → List (List ℕ)
@@ -51,11 +56,13 @@ attributes schema class rights = attributes_below schema class rights (length (a
 -- below one of the class, and one may create them.
 abbrev pub is_child_listed : List SchemaRecord → ℕ → RightsValue → ℕ → Bool
 is_child_listed schema class rights place =
-    is_structural schema place && not (is_schema_class schema place) && is_under schema place class && rights.may_create place
+    is_structural schema place && not (is_schema_class schema place) && is_under schema place class
+    && rights.may_create place
 
 unfoldable pub child_at : List SchemaRecord → ℕ → RightsValue → ℕ → List (List ℕ)
 child_at schema class rights place =
-    option_map_or (λ (info : ClassInfo). name_if (is_child_listed schema class rights place) info.name) (slice_get (classes_of schema) place) []
+    option_map_or (λ (info : ClassInfo). name_if (is_child_listed schema class rights place) info.name)
+    (slice_get (classes_of schema) place) []
 
 -- of the first n classes
 unfoldable pub children_below : List SchemaRecord → ℕ → RightsValue → ℕ → List (List ℕ)

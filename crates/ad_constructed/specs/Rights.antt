@@ -16,4 +16,5 @@ if_may may flags = if may then flags else 0
 -- The parts of the descriptor that may be written, as flags: 3 for the owner and the group, 4 for the DACL, 8 for the
 -- SACL.
 unfoldable pub parts_of : RightsValue → ℕ
-parts_of rights = if_may rights.may_write_owner 3 + if_may rights.may_write_list 4 + if_may rights.may_write_system_list 8
+parts_of rights = if_may rights.may_write_owner 3 + if_may rights.may_write_list 4
+    + if_may rights.may_write_system_list 8

@@ -40,7 +40,8 @@ fn push_attribute<R: Rights>(
 ) -> Result<(), AllocError>
     requires class { class.0 < length (classes_of schema.now) }
     requires attr { attr.0 < length (attrs_of schema.now) }
-    ensures { OnOk result (all_items names.new.items ≡ all_items names.old.items ++ attribute_at schema.now class.0 (R.view rights.now) attr.0) }
+    ensures { OnOk result (all_items names.new.items ≡ all_items names.old.items
+        ++ attribute_at schema.now class.0 (R.view rights.now) attr.0) }
 {
     let info = schema.attr_info(attr);
     let listed = is_listed(schema, class, rights, attr, info);
@@ -56,7 +57,8 @@ fn push_child<R: Rights>(
     child: ClassId,
 ) -> Result<(), AllocError>
     requires { child.0 < length (classes_of schema.now) }
-    ensures { OnOk result (all_items names.new.items ≡ all_items names.old.items ++ child_at schema.now class.0 (R.view rights.now) child.0) }
+    ensures { OnOk result (all_items names.new.items ≡ all_items names.old.items
+        ++ child_at schema.now class.0 (R.view rights.now) child.0) }
 {
     let info = schema.class_info(child);
     let listed = is_child_listed(schema, class, rights, child);
@@ -80,7 +82,8 @@ pub fn attributes<R: Rights>(
     rights: &R,
 ) -> Result<Vec<Vec<u8>>, AllocError>
     requires { class.0 < length (classes_of schema.now) }
-    ensures { IfOk result (λ names. all_items names.items ≡ attributes schema.now class.0 (R.view rights.now)) }
+    ensures { IfOk result (λ names. all_items names.items ≡ attributes schema.now class.0
+        (R.view rights.now)) }
 {
     let mut names = Vec::new(alloc);
     'each: for place in 0..attr_count(schema) {
@@ -104,7 +107,8 @@ pub fn children<R: Rights>(
     class: ClassId,
     rights: &R,
 ) -> Result<Vec<Vec<u8>>, AllocError>
-    ensures { IfOk result (λ names. all_items names.items ≡ children schema.now class.0 (R.view rights.now)) }
+    ensures { IfOk result (λ names. all_items names.items ≡ children schema.now class.0
+        (R.view rights.now)) }
 {
     let mut names = Vec::new(alloc);
     'each: for place in 0..class_count(schema) {

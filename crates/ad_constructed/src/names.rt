@@ -98,7 +98,8 @@ pub(crate) fn push_if(
     listed: bool,
     name: &[u8],
 ) -> Result<(), AllocError>
-    ensures { OnOk result (all_items names.new.items ≡ all_items names.old.items ++ name_if listed name.now) }
+    ensures { OnOk result (all_items names.new.items ≡ all_items names.old.items
+        ++ name_if listed name.now) }
 {
     if listed {
         names.push(Vec::from_slice(alloc, name)?)?;

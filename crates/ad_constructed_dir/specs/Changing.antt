@@ -2,7 +2,8 @@
 use Rattle.std.specs.Prelude.{ℕ, Bool, false, List, [], ◌∷◌, if◌then◌else◌, slice_get, decimal}
 use Rattle.std.specs.Option.{option_map_or}
 use Rattle.ad_ids.specs.declared.token.Token.{Token}
-use Rattle.ad_acl.specs.Mask.{create_child, write_property, control_access, write_dac, write_owner, access_system_security}
+use Rattle.ad_acl.specs.Mask.{create_child, write_property, control_access, write_dac, write_owner}
+use Rattle.ad_acl.specs.Mask.{access_system_security}
 use Rattle.ad_schema.specs.declared.info.AttrInfo.{AttrInfo}
 use Rattle.ad_schema.specs.declared.info.ClassInfo.{ClassInfo}
 use Rattle.ad_schema.specs.Attributes.{attrs_of}
@@ -18,19 +19,23 @@ use Rattle.ad_needs.specs.Modifying.{force_change}
 
 -- ---- rights
 
--- An attribute is written with the right to write it on its path, and a password is set by who may force it to change.
+-- An attribute is written with the right to write it on its path, and a password is set by who may force it to
+-- change.
 abbrev pub is_writer : Directory → Token → ℕ → ℕ → AttrInfo → Bool
 is_writer dir token number place info =
     if is_password info.name then is_granted dir token number (force_change ∷ []) control_access
-    else is_granted dir token number (path_of dir.schema (record { 0 = (object_at dir.objects number).class }) (record { 0 = place })) write_property
+    else is_granted dir token number (path_of dir.schema (record { 0 = (object_at dir.objects number).class })
+    (record { 0 = place })) write_property
 
 unfoldable pub may_write : Directory → Token → ℕ → ℕ → Bool
-may_write dir token number place = option_map_or (is_writer dir token number place) (slice_get (attrs_of dir.schema) place) false
+may_write dir token number place = option_map_or (is_writer dir token number place)
+    (slice_get (attrs_of dir.schema) place) false
 
 -- an object below it is created on the path of its class
 unfoldable pub may_create : Directory → Token → ℕ → ℕ → Bool
 may_create dir token number place =
-    option_map_or (λ (info : ClassInfo). is_granted dir token number (info.guid ∷ []) create_child) (slice_get (classes_of dir.schema) place) false
+    option_map_or (λ (info : ClassInfo). is_granted dir token number (info.guid ∷ []) create_child)
+    (slice_get (classes_of dir.schema) place) false
 
 -- the parts of the descriptor are written on the object as a whole
 abbrev pub rights_at : Directory → Token → ℕ → RightsValue

@@ -1,5 +1,6 @@
 -- How code asks for what a token may change at an object.
-use Rattle.std.specs.Prelude.{◌≡◌, ℕ, zero, suc, Bool, false, ◌&&◌, List, [], ◌∷◌, ◌++◌, Some, length, slice_get, slice_index_or}
+use Rattle.std.specs.Prelude.{◌≡◌, ℕ, zero, suc, Bool, false, ◌&&◌, List, [], ◌∷◌, ◌++◌, Some, length, slice_get}
+use Rattle.std.specs.Prelude.{slice_index_or}
 use Rattle.ad_ids.specs.declared.token.Token.{Token}
 use Rattle.ad_acl.specs.Mask.{write_dac, write_owner, access_system_security}
 use Rattle.ad_schema.specs.declared.info.AttrId.{AttrId}
@@ -27,7 +28,8 @@ abbrev pub writes_of : Directory → Token → ℕ → ℕ → List Bool
 writes_of dir token number class = writes_below dir token number class (length (attrs_of dir.schema))
 
 -- the masks are those of the right to write, on the paths of these attributes in their order
-pub record AreWriteMasks (dir : Directory) (token : Token) (number : ℕ) (class : ClassId) (ids : List AttrId) (masks : List ℕ) : Type 0 where
+pub record AreWriteMasks (dir : Directory) (token : Token) (number : ℕ) (class : ClassId) (ids : List AttrId)
+    (masks : List ℕ) : Type 0 where
   pub long : length masks ≡ length ids
   pub each : (i : ℕ) (id : AttrId) → slice_get ids i ≡ Some id
       → IsMask 32 (is_granted dir token number (path_of dir.schema class id)) (slice_index_or masks i 0)

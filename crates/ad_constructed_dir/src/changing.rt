@@ -26,7 +26,8 @@ pub fn attributes_written(
     number: u32,
 ) -> Result<Vec<Vec<u8>>, AllocError>
     requires { is_live dir.now.objects number ≡ true }
-    ensures { IfOk result (λ names. all_items names.items ≡ (changing_of dir.now token.now number).attributes) }
+    ensures { IfOk result (λ names. all_items names.items
+        ≡ (changing_of dir.now token.now number).attributes) }
 {
     let class = class_of(dir, number);
     let written = written_attrs(alloc, dir, token, number, class)?;
@@ -52,7 +53,8 @@ pub fn children_created(
     number: u32,
 ) -> Result<Vec<Vec<u8>>, AllocError>
     requires { is_live dir.now.objects number ≡ true }
-    ensures { IfOk result (λ names. all_items names.items ≡ (changing_of dir.now token.now number).children) }
+    ensures { IfOk result (λ names. all_items names.items
+        ≡ (changing_of dir.now token.now number).children) }
 {
     let rights = ObjectRights {
         dir,

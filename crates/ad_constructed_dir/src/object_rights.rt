@@ -1,6 +1,7 @@
 //! What a token may do at an object, right by right.
 
-ghost use Rattle.std.specs.Prelude.{◌≡◌, ◌≤◌, ◌<◌, ◌+◌, ◌-◌, ◌^◌, ◌&&◌, ◌∷◌, [], ℕ, true, length, drop, if◌then◌else◌, IfOk};
+ghost use Rattle.std.specs.Prelude.{◌≡◌, ◌≤◌, ◌<◌, ◌+◌, ◌-◌, ◌^◌, ◌&&◌, ◌∷◌, [], ℕ, true, length, drop};
+ghost use Rattle.std.specs.Prelude.{if◌then◌else◌, IfOk};
 ghost use Rattle.ad_acl.specs.Mask.{has_bit};
 ghost use Rattle.ad_schema.specs.Attributes.{attrs_of};
 ghost use Rattle.ad_schema.specs.Classes.{classes_of, is_allowed};
@@ -69,7 +70,8 @@ fn has_write(mask: u32) -> bool
 // Whether an attribute on whose path these rights are granted may be written.
 fn writes(dir: &Dir, token: &Token, number: u32, info: &AttrInfo, mask: u32) -> bool
     requires { is_live dir.now.objects number ≡ true }
-    ensures { result ≡ (if is_password info.now.name then is_granted dir.now token.now number (force_change ∷ []) 8 else has_bit mask 5) }
+    ensures { result ≡ (if is_password info.now.name then is_granted dir.now token.now number
+        (force_change ∷ []) 8 else has_bit mask 5) }
 {
     if is_password(info.name.as_slice()) {
         return forces_change(dir, token, number);
@@ -93,9 +95,11 @@ fn writes_allowed(
     requires class { class.0 ≡ (object_at dir.now.objects number).class }
     requires attr { attr.0 < length (attrs_of dir.now.schema) }
     requires allowed { allowed ≡ is_allowed dir.now.schema class.0 attr.0 }
-    requires masks { AreWriteMasks dir.now token.now number class (allowed_attrs dir.now.schema class.0) masks.now }
+    requires masks { AreWriteMasks dir.now token.now number class
+        (allowed_attrs dir.now.schema class.0) masks.now }
     requires next { next ≡ length (allowed_below dir.now.schema class.0 attr.0) }
-    ensures { result ≡ (is_allowed dir.now.schema class.0 attr.0 && may_write dir.now token.now number attr.0) }
+    ensures { result ≡ (is_allowed dir.now.schema class.0 attr.0 && may_write dir.now token.now
+        number attr.0) }
 {
     let _ = class;
     if !allowed {
@@ -135,7 +139,8 @@ fn each_written(
     requires live { is_live dir.now.objects number ≡ true }
     requires class { class.0 ≡ (object_at dir.now.objects number).class }
     requires within { class.0 < length (classes_of dir.now.schema) }
-    requires masks { AreWriteMasks dir.now token.now number class (allowed_attrs dir.now.schema class.0) masks.now }
+    requires masks { AreWriteMasks dir.now token.now number class
+        (allowed_attrs dir.now.schema class.0) masks.now }
     ensures { IfOk result (λ written. written.items ≡ writes_of dir.now token.now number class.0) }
 {
     let mut written = Vec::new(alloc);
@@ -203,7 +208,8 @@ fn creates(dir: &Dir, token: &Token, number: u32, class: ClassId) -> bool
 
 fn has_on_object(dir: &Dir, token: &Token, number: u32, right: u32) -> bool
     requires { is_live dir.now.objects number ≡ true }
-    ensures { (bit : ℕ) → right ≡ 2 ^ bit → bit < 28 → result ≡ is_granted dir.now token.now number [] bit }
+    ensures { (bit : ℕ) → right ≡ 2 ^ bit → bit < 28 → result ≡ is_granted dir.now token.now number
+        [] bit }
 {
     grants(dir, token, number, &Path::empty(), right)
 }
@@ -250,7 +256,8 @@ pub(crate) struct ObjectRights<'a> {
 impl<'a> Rights for ObjectRights<'a> {
     ghost use Rattle.ad_constructed_dir.specs.Writes.{rights_by};
 
-    ghost view = { λ rights. rights_by rights.dir.now rights.token.now rights.number rights.written.now };
+    ghost view = { λ rights. rights_by rights.dir.now rights.token.now rights.number
+        rights.written.now };
 
     fn may_write(&self, attr: AttrId) -> bool {
         match self.written.get(attr.0 as usize) {

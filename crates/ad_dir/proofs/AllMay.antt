@@ -11,6 +11,11 @@ abbrev pub MayAll : Directory → List Edit → Type 0
 MayAll dir [] = Unit {0}
 MayAll dir (edit ∷ edits) = May dir edit × MayAll (edited edit dir) edits
 
-pub may_all : (dir : Directory) (edits : List EditIn) → AllByRecursion HasNormal edits → MayAll dir (map edit_seen edits) → MayApplyAll dir edits
+pub may_all : (dir : Directory) (edits : List EditIn) → AllByRecursion HasNormal edits
+    → MayAll dir (map edit_seen edits) → MayApplyAll dir edits
 may_all dir [] normal may = tt
-may_all dir (edit ∷ edits) normal may = (record { normal = normal.0; may = may.0 }, may_all (edited (edit_seen edit) dir) edits normal.1 may.1)
+may_all dir (edit ∷ edits) normal may = (
+  record { normal = normal.0; may = may.0 },
+  may_all
+      (edited (edit_seen edit) dir) edits normal.1 may.1,
+)

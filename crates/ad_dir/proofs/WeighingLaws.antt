@@ -1,5 +1,6 @@
 -- The weight of all objects after a put and a removal.
-use Rattle.std.proofs.Common.{◌≡◌, ℕ, ◌+◌, ◌-◌, ◌<◌, ◌≤◌, List, [], ◌∷◌, Option, Some, None, Result, Ok, Err, inl, inr, refl, sym, subst, ap, ◌∙◌, arith}
+use Rattle.std.proofs.Common.{◌≡◌, ℕ, ◌+◌, ◌-◌, ◌<◌, ◌≤◌, List, [], ◌∷◌, Option, Some, None, Result, Ok, Err, inl}
+use Rattle.std.proofs.Common.{inr, refl, sym, subst, ap, ◌∙◌, arith}
 use Rattle.std.specs.Prelude.{nat_eq, nat_lt, nat_le, OnOk, OnErr}
 use Rattle.std.specs.Option.{option_map_or, IfSome}
 use Rattle.std.proofs.lemmas.Bool.{cases_Bool, eqb-true, leb-true}
@@ -17,12 +18,14 @@ use Rattle.ad_dir.specs.Weighing.{WeighsOne, Weighs, weight_in}
 none_in : (schema : List SchemaRecord) (m n : ℕ) (os : List Object) → RiseAbove m os → n ≤ m → weight_in schema os n ≡ 0
 none_in schema m n os rise le = by_found (object_of os n) refl
   where
-    by_found : (found : Option Object) → object_of os n ≡ found → option_map_or (object_weight schema) (object_of os n) 0 ≡ 0
+    by_found : (found : Option Object) → object_of os n ≡ found → option_map_or (object_weight schema)
+        (object_of os n) 0 ≡ 0
     by_found None is = ap (λ (f : Option Object). option_map_or (object_weight schema) f 0) is
     by_found (Some o) is = let above : m < n = of_above m os n o rise is in absurd (omega (arith, above, le))
 
 pub put_weighs : (schema : List SchemaRecord) (m : ℕ) (o : Object) (os : List Object) → RiseAbove m os
-    → objects_weight schema (put o os) + weight_in schema os o.number ≡ objects_weight schema os + object_weight schema o
+    → objects_weight schema (put o os) + weight_in schema os o.number ≡ objects_weight schema os
+    + object_weight schema o
 unfolding objects_weight put object_of
 put_weighs schema m o [] rise = omega arith
 put_weighs schema m o (x ∷ xs) rise = elim (cases_Bool (nat_eq x.number o.number)) [
@@ -38,7 +41,8 @@ put_weighs schema m o (x ∷ xs) rise = elim (cases_Bool (nat_eq x.number o.numb
   ]
 ]
 
-pub removed_weighs : (schema : List SchemaRecord) (m n : ℕ) (os : List Object) → RiseAbove m os → objects_weight schema (removed n os) + weight_in schema os n ≡ objects_weight schema os
+pub removed_weighs : (schema : List SchemaRecord) (m n : ℕ) (os : List Object) → RiseAbove m os
+    → objects_weight schema (removed n os) + weight_in schema os n ≡ objects_weight schema os
 unfolding objects_weight removed object_of
 removed_weighs schema m n [] rise = omega arith
 removed_weighs schema m n (x ∷ xs) rise =
@@ -74,12 +78,20 @@ none_weigh schema = refl
 
 pub left_within : (weight left : ℕ) → left_of 268435456 weight ≡ Some left → left ≤ 268435456
 left_within weight left e = elim (cases_Bool (nat_le weight 268435456)) [
-  | inl enough ↦ let is : 268435456 - weight ≡ left = same_Some (268435456 - weight) left (rw enough at e) in omega (arith, is)
+  | inl enough ↦ let is : 268435456 - weight ≡ left = same_Some (268435456 - weight) left (rw enough at e)
+      in omega (arith, is)
   | inr heavy ↦ absurd (none-some left (rw heavy at e))
 ]
 
 -- whether the put went well or not
-pub either_weighs : {A E : Type 0} (r : Result A E) (schema : List SchemaRecord) (before after : List Entry) (o : Object) (known new old : Option ℕ) → OnOk r (objects_in after ≡ put o (objects_in before)) → OnErr r (after ≡ before)
-    → OnOk r (known ≡ new) → OnErr r (known ≡ old) → Weighs schema old (objects_in before) → Weighs schema new (put o (objects_in before)) → Weighs schema known (objects_in after)
-either_weighs (Ok x) schema before after o known new old ok err is_new is_old weighs puts = subst (Weighs schema known) (sym ok) (subst (λ (k : Option ℕ). Weighs schema k (put o (objects_in before))) (sym is_new) puts)
-either_weighs (Err x) schema before after o known new old ok err is_new is_old weighs puts = subst (λ (entries : List Entry). Weighs schema known (objects_in entries)) (sym err) (subst (λ (k : Option ℕ). Weighs schema k (objects_in before)) (sym is_old) weighs)
+pub either_weighs : {A E : Type 0} (r : Result A E) (schema : List SchemaRecord) (before after : List Entry)
+    (o : Object) (known new old : Option ℕ) → OnOk r (objects_in after ≡ put o (objects_in before))
+    → OnErr r (after ≡ before)
+    → OnOk r (known ≡ new) → OnErr r (known ≡ old) → Weighs schema old (objects_in before)
+    → Weighs schema new (put o (objects_in before)) → Weighs schema known (objects_in after)
+either_weighs (Ok x) schema before after o known new old ok err is_new is_old weighs puts
+    = subst (Weighs schema known) (sym ok)
+    (subst (λ (k : Option ℕ). Weighs schema k (put o (objects_in before))) (sym is_new) puts)
+either_weighs (Err x) schema before after o known new old ok err is_new is_old weighs puts
+    = subst (λ (entries : List Entry). Weighs schema known (objects_in entries)) (sym err)
+    (subst (λ (k : Option ℕ). Weighs schema k (objects_in before)) (sym is_old) weighs)

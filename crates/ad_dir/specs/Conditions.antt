@@ -18,16 +18,17 @@ use Rattle.ad_dir_model.specs.Conditions.{Fits}
 abbrev pub IsNormal : List ℕ → Type 0
 IsNormal bytes = SpellsNormal (sd_in bytes) bytes
 
--- An object that may be put: its number is from 1 to 2^32 - 2, its content is of the schema, no sibling has its name and no
--- other object its identifier, and its links name live objects or itself. The root has no parent. Any other object has a live
--- one, which is neither the object nor below it, and no object gets too deep.
+-- An object that may be put: its number is from 1 to 2^32 - 2, its content is of the schema, no sibling has its name
+-- and no other object its identifier, and its links name live objects or itself. The root has no parent. Any other
+-- object has a live one, which is neither the object nor below it, and no object gets too deep.
 pub record MayPut (dir : Directory) (o : Object) : Type 0 where
   pub some : 1 ≤ o.number
   pub fits_number : o.number < 2 ^ 32 - 1
   pub fits : Fits dir o
   pub no_parent : o.number ≡ root → o.parent ≡ 0
   pub parent_live : o.number ≢ root → is_live dir.objects o.parent ≡ true
-  pub placed : o.number ≢ root → (number : ℕ) → is_live (put o dir.objects) number ≡ true → IsPlaced (parent_at (put o dir.objects)) number
+  pub placed : o.number ≢ root → (number : ℕ) → is_live (put o dir.objects) number ≡ true
+      → IsPlaced (parent_at (put o dir.objects)) number
 
 -- An object that may go: it is live and isn't pending, and no other one has it as its parent or links to it.
 pub record MayRemove (dir : Directory) (number : ℕ) : Type 0 where

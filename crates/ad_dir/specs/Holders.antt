@@ -18,8 +18,8 @@ holders objects target = numbers_where (links_to target) objects
 abbrev pub is_holder : List Object → ℕ → ℕ → Bool
 is_holder objects target number = option_map_or (links_to target) (object_of objects number) false
 
--- A number above this one, such that no live object between them holds a link to the target, and none at all above this one
--- where there is no such number. It may be that of an object that holds none.
+-- A number above this one, such that no live object between them holds a link to the target, and none at all above
+-- this one where there is no such number. It may be that of an object that holds none.
 pub record IsNextHolder (objects : List Object) (target above : ℕ) (result : Option ℕ) : Type 0 where
   pub is_above : IfSome result (λ next. above < next)
   pub each : (number : ℕ) (o : Object) → object_of objects number ≡ Some o → links_to target o ≡ true → above < number

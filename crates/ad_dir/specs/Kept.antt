@@ -19,9 +19,16 @@ use Rattle.ad_dn.specs.declared.rdn.Rdn.{Rdn}
 use Rattle.ad_dir_model.specs.Directory.{Directory}
 
 abbrev pub dir_seen : List SchemaRecord → List Entry → List Pending → MetaIn → Directory
-dir_seen schema entries pending meta = record { schema = schema; objects = objects_in entries; pending = pending; meta = meta_seen meta }
+dir_seen schema entries pending meta = record {
+  schema = schema;
+  objects = objects_in entries;
+  pending = pending;
+  meta
+      = meta_seen meta;
+}
 
-pub record IsKept (schema : List SchemaRecord) (objects : List Entry) (index : Index) (flags : List Bool) (links : List (ℕ × ℕ)) (weight : Option ℕ) : Type 0 where
+pub record IsKept (schema : List SchemaRecord) (objects : List Entry) (index : Index) (flags : List Bool)
+    (links : List (ℕ × ℕ)) (weight : Option ℕ) : Type 0 where
   pub sids : HaveTheirSids schema objects
   pub standing : AreStanding schema (objects_in objects)
   pub indexed : IsIndexed schema index (objects_in objects)
@@ -37,4 +44,5 @@ AreLive objects stored = AllByRecursion (λ number. is_live objects number ≡ t
 -- the object of a name from its end, the first part being the root's own
 unfoldable pub found_from_root : Directory → List Rdn → Option ℕ
 found_from_root dir [] = None
-found_from_root dir (top ∷ parts) = if same_rdn (rdn_of dir.schema (object_at dir.objects root)) top then found_below dir root parts else None
+found_from_root dir (top ∷ parts) = if same_rdn (rdn_of dir.schema (object_at dir.objects root)) top
+    then found_below dir root parts else None

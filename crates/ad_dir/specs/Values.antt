@@ -20,17 +20,19 @@ may_have key (link number) = true
 abbrev pub may_store : ℕ → Key → Object → Bool
 may_store attr key o = list_any (may_have key) (stored_in o.values attr)
 
--- A number above this one, such that no live object between them may store a value of the attribute with the key, and none at all
--- above this one where there is no such number. It may be that of an object that stores none, or of none.
+-- A number above this one, such that no live object between them may store a value of the attribute with the key, and
+-- none at all above this one where there is no such number. It may be that of an object that stores none, or of none.
 pub record IsNextWith (objects : List Object) (attr : ℕ) (key : Key) (above : ℕ) (result : Option ℕ) : Type 0 where
   pub is_above : IfSome result (λ next. above < next)
-  pub each : (number : ℕ) (o : Object) → object_of objects number ≡ Some o → may_store attr key o ≡ true → above < number
+  pub each : (number : ℕ) (o : Object) → object_of objects number ≡ Some o → may_store attr key o ≡ true → above
+      < number
       → IsSomeAnd result (λ next. next ≤ number)
 
 -- the same of objects whose naming value has the key, as a text
 pub record IsNextNamed (objects : List Object) (key : Key) (above : ℕ) (result : Option ℕ) : Type 0 where
   pub is_above : IfSome result (λ next. above < next)
-  pub each : (number : ℕ) (o : Object) → object_of objects number ≡ Some o → same_key (computed syntax.Unicode o.name).key key ≡ true → above < number
+  pub each : (number : ℕ) (o : Object) → object_of objects number ≡ Some o
+      → same_key (computed syntax.Unicode o.name).key key ≡ true → above < number
       → IsSomeAnd result (λ next. next ≤ number)
 
 -- the values of the attribute are counted by their keys, and none is a link

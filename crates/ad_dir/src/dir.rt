@@ -38,7 +38,8 @@ use std::alloc::{AllocError, Global};
 use std::collections::BTreeMap;
 use std::marker::Model;
 
-/// A directory. Its objects lie with their descriptors in one pool; what they weigh together is kept where it is known.
+/// A directory. Its objects lie with their descriptors in one pool; what they weigh together is kept where it is
+/// known.
 pub struct Dir {
     schema: Schema,
     objects: Objects,
@@ -76,7 +77,8 @@ impl Model for Dir {
 
     ghost view = { λ dir. dir_seen dir.schema dir.objects.entries dir.queue dir.meta };
 
-    ghost invariant = { λ dir. IsKept dir.schema dir.objects.entries dir.index dir.indexed.items dir.links.entries dir.weight };
+    ghost invariant = { λ dir. IsKept dir.schema dir.objects.entries dir.index dir.indexed.items
+        dir.links.entries dir.weight };
 }
 
 impl Dir {
@@ -106,7 +108,8 @@ impl Dir {
         })
     }
 
-    /// The directory of these objects, by rising number, with their descriptors, and of these distinct pending parents.
+    /// The directory of these objects, by rising number, with their descriptors, and of these distinct pending
+    /// parents.
     ///
     /// # Errors
     ///
@@ -120,7 +123,14 @@ impl Dir {
     ) -> Result<Dir, AllocError>
         requires standing { AreStanding schema (objects_of objects.items) }
         requires distinct { AreDistinct queue.items }
-        ensures { IfOk result (λ dir. dir ≡ record { schema = schema; objects = objects_of objects.items; pending = queue.items; meta = meta_seen meta }) }
+        ensures { IfOk result (λ dir. dir
+            ≡ record {
+              schema = schema;
+              objects = objects_of objects.items;
+              pending
+                  = queue.items;
+              meta = meta_seen meta;
+            }) }
     {
         let weight = weight_of_all(&schema, objects.as_slice());
         let indexed = indexed_attrs(alloc, &schema)?;
@@ -179,27 +189,30 @@ impl Dir {
 
     /// The object of a number, and none exactly where none is live. It takes no memory.
     pub fn object(&self, number: u32) -> Option<&Object>
-        ensures { option_map (λ object. object_seen object.now (sd_at self.now.objects number)) result ≡ object_of self.now.objects number }
+        ensures { option_map (λ object. object_seen object.now (sd_at self.now.objects number))
+            result ≡ object_of self.now.objects number }
     {
         self.objects.object(number)
     }
 
     /// The descriptor of an object, and none exactly where none of the number is live. It takes no memory.
     pub fn sd(&self, number: u32) -> Option<SdView<'_>>
-        ensures { option_map seen result ≡ option_map (λ object. object.sd) (object_of self.now.objects number) }
+        ensures { option_map seen result ≡ option_map (λ object. object.sd)
+            (object_of self.now.objects number) }
     {
         self.objects.sd(number)
     }
 
-    /// The identifier of a live object, the first value of its objectSid. None where there is none. It takes no memory.
+    /// The identifier of a live object, the first value of its objectSid. None where there is none. It takes no
+    /// memory.
     pub fn self_sid(&self, number: u32) -> Option<&Sid>
         ensures { option_copied result ≡ self_sid self.now number }
     {
         self.objects.sid(number)
     }
 
-    /// The numbers of all live objects by their names, one entry each, from its parent, 0 for the root, and its folded naming
-    /// value, in no fixed order. It takes no memory.
+    /// The numbers of all live objects by their names, one entry each, from its parent, 0 for the root, and its
+    /// folded naming value, in no fixed order. It takes no memory.
     pub fn names(&self) -> &IndexMap<NameKey, u32>
         ensures { AreNames self.now.objects result.now.entries }
     {
@@ -207,7 +220,8 @@ impl Dir {
         &self.index.names
     }
 
-    /// The numbers of the live objects with an identifier by these, one entry each, in no fixed order. It takes no memory.
+    /// The numbers of the live objects with an identifier by these, one entry each, in no fixed order. It takes no
+    /// memory.
     pub fn sids(&self) -> &IndexMap<Sid, u32>
         ensures { AreSids self.now.schema self.now.objects result.now.entries }
     {
@@ -236,8 +250,8 @@ impl Dir {
         next_holder(&self.links, target, above)
     }
 
-    /// The next object above a number that may store a value of an attribute with this key. Where the attribute is indexed the
-    /// others aren't looked at, and else nothing is known of the next number. It takes no memory.
+    /// The next object above a number that may store a value of an attribute with this key. Where the attribute is
+    /// indexed the others aren't looked at, and else nothing is known of the next number. It takes no memory.
     pub fn next_with(&self, attr: AttrId, key: &Key, above: u32) -> Option<u32>
         ensures { IsNextWith self.now.objects attr.0 key.now above result }
     {
@@ -245,8 +259,8 @@ impl Dir {
         values::next_with(&self.schema, indexed, &self.links, attr, key, above)
     }
 
-    /// The next object above a number whose naming value may have this key, as a text. The others aren't looked at. It takes no
-    /// memory.
+    /// The next object above a number whose naming value may have this key, as a text. The others aren't looked at.
+    /// It takes no memory.
     pub fn next_named(&self, key: &Key, above: u32) -> Option<u32>
         ensures { IsNextNamed self.now.objects key.now above result }
     {
@@ -268,7 +282,9 @@ impl Dir {
     /// The child of a parent with this naming value, in UTF-8, after case folding, whatever the type of its RDN.
     pub fn child(&self, _alloc: Global, parent: u32, name: &[u8]) -> Result<Option<u32>, AllocError>
         requires { IsUtf8 name.now }
-        ensures child { IfOk result (λ child. child ≡ option_map (λ object. object.number) (child_named self.now.objects parent name.now)) }
+        ensures child { IfOk result
+            (λ child. child ≡ option_map (λ object. object.number)
+            (child_named self.now.objects parent name.now)) }
         ensures succeeds { IsOk result }
     {
         Ok(self.child_named(parent, name))
@@ -277,7 +293,8 @@ impl Dir {
     /// The same without any memory.
     pub(crate) fn child_named(&self, parent: u32, name: &[u8]) -> Option<u32>
         requires { IsUtf8 name.now }
-        ensures { result ≡ option_map (λ object. object.number) (child_named self.now.objects parent name.now) }
+        ensures { result ≡ option_map (λ object. object.number)
+            (child_named self.now.objects parent name.now) }
     {
         with_name(&self.index.names, parent, name)
     }
@@ -312,7 +329,8 @@ impl Dir {
         self.objects.same_descriptor(a, b)
     }
 
-    /// How many bytes the objects weigh together, by the rule of the limits: none where that isn't kept, as where it is too much.
+    /// How many bytes the objects weigh together, by the rule of the limits: none where that isn't kept, as where it
+    /// is too much.
     pub fn weight(&self) -> Option<usize>
         ensures { IfSome result (λ bytes. bytes ≡ weight self.now) }
     {
@@ -377,7 +395,8 @@ impl Dir {
 
     fn put_object(&mut self, object: Object, bytes: Vec<u8>) -> Result<(), AllocError>
         requires { MayApply self.old (Edit.PutObject object bytes) }
-        ensures ok { OnOk result (self.new ≡ edited (edit_seen (Edit.PutObject object bytes)) self.old) }
+        ensures ok { OnOk result (self.new ≡ edited (edit_seen (Edit.PutObject object bytes))
+            self.old) }
         ensures err { OnErr result (self.new ≡ self.old) }
     {
         let weight = weight_with(&self.schema, &self.objects, self.weight, &object);

@@ -58,7 +58,8 @@ fn is_holder(dir: &Dir, target: u32, number: u32) -> bool
 
 // Puts a number at the end, if its object holds a link to a target.
 fn push_holder(dir: &Dir, target: u32, number: u32, found: &mut Vec<u32>) -> Result<(), AllocError>
-    ensures { OnOk result (found.new.items ≡ found.old.items ++ (if is_holder dir.now.objects target number then number ∷ [] else [])) }
+    ensures { OnOk result (found.new.items ≡ found.old.items
+        ++ (if is_holder dir.now.objects target number then number ∷ [] else [])) }
 {
     if is_holder(dir, target, number) {
         found.push(number)?;

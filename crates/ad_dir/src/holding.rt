@@ -18,8 +18,8 @@ use ad_schema::Schema;
 use ad_sd::NormalSd;
 use std::alloc::{AllocError, Global};
 
-/// Puts an object with the normal bytes of its descriptor in the place of the one that has its number, or else where its
-/// number belongs. No other object has its keys.
+/// Puts an object with the normal bytes of its descriptor in the place of the one that has its number, or else where
+/// its number belongs. No other object has its keys.
 ///
 /// # Errors
 ///
@@ -38,9 +38,11 @@ pub(crate) fn put(
     requires rise { Rise (objects_in objects.old.entries) }
     requires named { AreNamed (objects_in objects.old.entries) }
     requires named_too { IsUtf8 object.name }
-    requires own { HasOwnKeys schema.now (objects_in objects.old.entries) (object_seen object (sd_in bytes.now)) }
+    requires own { HasOwnKeys schema.now (objects_in objects.old.entries)
+        (object_seen object (sd_in bytes.now)) }
     requires indexed { IsIndexed schema.now index.old (objects_in objects.old.entries) }
-    ensures ok { OnOk result (objects_in objects.new.entries ≡ put (object_seen object (sd_in bytes.now)) (objects_in objects.old.entries)) }
+    ensures ok { OnOk result (objects_in objects.new.entries
+        ≡ put (object_seen object (sd_in bytes.now)) (objects_in objects.old.entries)) }
     ensures err { OnErr result (objects.new.entries ≡ objects.old.entries) }
     ensures sids { HaveTheirSids schema.now objects.new.entries }
     ensures indexed { IsIndexed schema.now index.new (objects_in objects.new.entries) }
@@ -59,8 +61,10 @@ pub(crate) fn remove(objects: &mut Objects, index: &mut Index, number: u32)
     requires named { AreNamed (objects_in objects.old.entries) }
     requires rise { Rise (objects_in objects.old.entries) }
     requires lists { ListsRise index.old.children.entries }
-    ensures removed { objects_in objects.new.entries ≡ removed number (objects_in objects.old.entries) }
-    ensures sids { (schema : List SchemaRecord) → HaveTheirSids schema objects.old.entries → HaveTheirSids schema objects.new.entries }
+    ensures removed { objects_in objects.new.entries
+        ≡ removed number (objects_in objects.old.entries) }
+    ensures sids { (schema : List SchemaRecord) → HaveTheirSids schema objects.old.entries
+        → HaveTheirSids schema objects.new.entries }
     ensures indexed { (schema : List SchemaRecord) → HaveTheirSids schema objects.old.entries
         → IsIndexed schema index.old (objects_in objects.old.entries)
         → IsIndexed schema index.new (objects_in objects.new.entries) }

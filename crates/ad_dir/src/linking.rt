@@ -28,8 +28,11 @@ fn count_more(
     indexed: &[bool],
     object: &Object,
 ) -> Result<LinkChange, AllocError>
-    ensures adds { IfOk result (λ change. Adds object.now.number change.more.items links.old.entries links.new.entries) }
-    ensures balanced { IfOk result (λ change. IsBalanced (ties_found indexed.now (object_of (objects_in objects.now.entries) object.now.number))
+    ensures adds { IfOk result (λ change. Adds object.now.number change.more.items links.old.entries
+        links.new.entries) }
+    ensures balanced { IfOk result (λ change.
+        IsBalanced (ties_found indexed.now
+        (object_of (objects_in objects.now.entries) object.now.number))
         (object_ties indexed.now object.now) change.more.items change.less.items) }
     ensures keeps { Keeps links.old.entries links.new.entries }
 {
@@ -40,8 +43,10 @@ fn count_more(
 
 // Counts those that it has less no more, or where it wasn't put those that were counted.
 fn count_less(links: &mut Links, number: u32, change: &LinkChange, put: &Result<(), AllocError>)
-    ensures ok { OnOk put.now (Drops number change.now.less.items links.old.entries links.new.entries) }
-    ensures err { OnErr put.now (Drops number change.now.more.items links.old.entries links.new.entries) }
+    ensures ok { OnOk put.now (Drops number change.now.less.items links.old.entries
+        links.new.entries) }
+    ensures err { OnErr put.now (Drops number change.now.more.items links.old.entries
+        links.new.entries) }
 {
     match put {
         Ok(()) => drop_links(links, number, change.less.as_slice()),
@@ -49,8 +54,8 @@ fn count_less(links: &mut Links, number: u32, change: &LinkChange, put: &Result<
     }
 }
 
-/// Puts an object with the normal bytes of its descriptor in the place of the one that has its number, or else where its
-/// number belongs. No other object has its keys.
+/// Puts an object with the normal bytes of its descriptor in the place of the one that has its number, or else where
+/// its number belongs. No other object has its keys.
 ///
 /// # Errors
 ///
@@ -71,10 +76,12 @@ pub(crate) fn put(
     requires rise { Rise (objects_in objects.old.entries) }
     requires named { AreNamed (objects_in objects.old.entries) }
     requires named_too { IsUtf8 object.name }
-    requires own { HasOwnKeys schema.now (objects_in objects.old.entries) (object_seen object (sd_in bytes.now)) }
+    requires own { HasOwnKeys schema.now (objects_in objects.old.entries)
+        (object_seen object (sd_in bytes.now)) }
     requires indexed { IsIndexed schema.now index.old (objects_in objects.old.entries) }
     requires linked { AreCounted indexed.now links.old.entries (objects_in objects.old.entries) }
-    ensures ok { OnOk result (objects_in objects.new.entries ≡ put (object_seen object (sd_in bytes.now)) (objects_in objects.old.entries)) }
+    ensures ok { OnOk result (objects_in objects.new.entries
+        ≡ put (object_seen object (sd_in bytes.now)) (objects_in objects.old.entries)) }
     ensures err { OnErr result (objects.new.entries ≡ objects.old.entries) }
     ensures sids { HaveTheirSids schema.now objects.new.entries }
     ensures indexed { IsIndexed schema.now index.new (objects_in objects.new.entries) }
@@ -91,7 +98,8 @@ pub(crate) fn put(
 // Counts what the object of a number has no more.
 fn forget(alloc: Global, objects: &Objects, links: &mut Links, indexed: &[bool], number: u32)
     ensures { AreCounted indexed.now links.old.entries (objects_in objects.now.entries)
-        → AreCounted indexed.now links.new.entries (removed number (objects_in objects.now.entries)) }
+        → AreCounted indexed.now links.new.entries
+        (removed number (objects_in objects.now.entries)) }
 {
     if let Some(object) = objects.object(number) {
         forget_holder(alloc, links, indexed, object);
@@ -109,8 +117,10 @@ pub(crate) fn remove(
     requires named { AreNamed (objects_in objects.old.entries) }
     requires rise { Rise (objects_in objects.old.entries) }
     requires lists { ListsRise index.old.children.entries }
-    ensures removed { objects_in objects.new.entries ≡ removed number (objects_in objects.old.entries) }
-    ensures sids { (schema : List SchemaRecord) → HaveTheirSids schema objects.old.entries → HaveTheirSids schema objects.new.entries }
+    ensures removed { objects_in objects.new.entries
+        ≡ removed number (objects_in objects.old.entries) }
+    ensures sids { (schema : List SchemaRecord) → HaveTheirSids schema objects.old.entries
+        → HaveTheirSids schema objects.new.entries }
     ensures indexed { (schema : List SchemaRecord) → HaveTheirSids schema objects.old.entries
         → IsIndexed schema index.old (objects_in objects.old.entries)
         → IsIndexed schema index.new (objects_in objects.new.entries) }

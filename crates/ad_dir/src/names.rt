@@ -29,7 +29,8 @@ const PARTS: u32 = 65;
 /// A live object.
 pub fn live_object(dir: &Dir, number: u32) -> &Object
     requires { is_live dir.now.objects number ≡ true }
-    ensures { object_seen result.now (sd_at dir.now.objects number) ≡ object_at dir.now.objects number }
+    ensures { object_seen result.now (sd_at dir.now.objects number) ≡ object_at dir.now.objects
+        number }
 {
     match dir.object(number) {
         Some(object) => object,
@@ -59,7 +60,12 @@ fn rdn_of_class(
 ) -> Result<Rdn, AllocError>
     requires class { class.0 < length (classes_of schema.now) }
     requires name { IsValue name.now }
-    ensures made { IfOk result (λ rdn. rdn ≡ record { kind = str_to_ascii_uppercase (attr_name schema.now (naming_of schema.now class.0)); value = name.now }) }
+    ensures made { IfOk result (λ rdn. rdn
+        ≡ record {
+          kind = str_to_ascii_uppercase
+              (attr_name schema.now (naming_of schema.now class.0));
+          value = name.now;
+        }) }
     ensures rdn { IfOk result IsRdn }
 {
     Rdn::new(alloc, naming_name(schema, class), name)
@@ -68,7 +74,8 @@ fn rdn_of_class(
 // The first part of the name of an object.
 fn rdn_of(alloc: Global, dir: &Dir, number: u32) -> Result<Rdn, AllocError>
     requires { is_live dir.now.objects number ≡ true }
-    ensures made { IfOk result (λ rdn. rdn ≡ names.rdn_of dir.now.schema (object_at dir.now.objects number)) }
+    ensures made { IfOk result (λ rdn. rdn ≡ names.rdn_of dir.now.schema
+        (object_at dir.now.objects number)) }
     ensures rdn { IfOk result IsRdn }
 {
     dir.stands();
@@ -127,8 +134,8 @@ pub(crate) fn dn_of(alloc: Global, dir: &Dir, number: u32) -> Result<Dn, AllocEr
 
 // ---- the object of a name
 
-// Whether the first part of the name of an object of a class with a naming value has this type, in any case, and a value
-// that is the same after folding.
+// Whether the first part of the name of an object of a class with a naming value has this type, in any case, and a
+// value that is the same after folding.
 fn is_of_rdn(schema: &Schema, class: ClassId, name: &[u8], kind: &[u8], value: &[u8]) -> bool
     requires class { class.0 < length (classes_of schema.now) }
     requires name { IsUtf8 name.now }
@@ -149,7 +156,9 @@ fn is_of_rdn(schema: &Schema, class: ClassId, name: &[u8], kind: &[u8], value: &
 fn has_rdn(dir: &Dir, number: u32, kind: &[u8], value: &[u8]) -> bool
     requires live { is_live dir.now.objects number ≡ true }
     requires value { IsUtf8 value.now }
-    ensures { result ≡ names.same_rdn (names.rdn_of dir.now.schema (object_at dir.now.objects number)) (record { kind = kind.now; value = value.now }) }
+    ensures { result ≡ names.same_rdn
+        (names.rdn_of dir.now.schema (object_at dir.now.objects number))
+        (record { kind = kind.now; value = value.now }) }
 {
     dir.stands();
     let object = live_object(dir, number);
@@ -166,7 +175,8 @@ fn has_rdn(dir: &Dir, number: u32, kind: &[u8], value: &[u8]) -> bool
 fn if_rdn(dir: &Dir, number: u32, kind: &[u8], value: &[u8]) -> Option<u32>
     requires live { is_live dir.now.objects number ≡ true }
     requires value { IsUtf8 value.now }
-    ensures { result ≡ (if names.same_rdn (names.rdn_of dir.now.schema (object_at dir.now.objects number))
+    ensures { result ≡ (if names.same_rdn
+        (names.rdn_of dir.now.schema (object_at dir.now.objects number))
         (record { kind = kind.now; value = value.now }) then Some number else None) }
 {
     if has_rdn(dir, number, kind, value) {
@@ -179,7 +189,8 @@ fn if_rdn(dir: &Dir, number: u32, kind: &[u8], value: &[u8]) -> Option<u32>
 // The child of this type and value.
 pub(crate) fn typed_child(dir: &Dir, parent: u32, kind: &[u8], value: &[u8]) -> Option<u32>
     requires { IsUtf8 value.now }
-    ensures { result ≡ names.child_of_rdn dir.now parent (record { kind = kind.now; value = value.now }) }
+    ensures { result ≡ names.child_of_rdn dir.now parent
+        (record { kind = kind.now; value = value.now }) }
 {
     dir.stands();
     match dir.child_named(parent, value) {
@@ -208,9 +219,11 @@ fn found_below(dir: &Dir, number: u32, rdns: &[Rdn]) -> Option<u32>
 fn before<'a>(rdns: &'a [Rdn], suffix: &[Rdn]) -> Option<&'a [Rdn]>
     requires rdns { AreRdns rdns.now }
     requires suffix { AreRdns suffix.now }
-    ensures { MatchOption result (names.begins_with (reverse rdns.entry.now) (reverse suffix.now) ≡ false)
+    ensures { MatchOption result (names.begins_with (reverse rdns.entry.now) (reverse suffix.now)
+        ≡ false)
         (λ front. (names.begins_with (reverse rdns.entry.now) (reverse suffix.now) ≡ true)
-        × (reverse front.now ≡ drop (length suffix.now) (reverse rdns.entry.now)) × AreRdns front.now) }
+        × (reverse front.now ≡ drop (length suffix.now) (reverse rdns.entry.now))
+        × AreRdns front.now) }
 {
     for i in 0..suffix.len() {
         if i >= rdns.len() {
@@ -255,8 +268,8 @@ pub(crate) fn found(dir: &Dir, dn: &Dn) -> Option<u32>
 }
 
 impl Dir {
-    /// The object of a name: the root's name from its end, and then part by part the child of that type, in any case, and of
-    /// that naming value after case folding.
+    /// The object of a name: the root's name from its end, and then part by part the child of that type, in any case,
+    /// and of that naming value after case folding.
     pub fn find(&self, _alloc: Global, dn: &Dn) -> Result<Option<u32>, AllocError>
         ensures found { IfOk result (λ found. found ≡ names.found self.now dn.now.rdns) }
         ensures succeeds { IsOk result }
@@ -264,7 +277,8 @@ impl Dir {
         Ok(found(self, dn))
     }
 
-    /// The name of a live object (RFC 4514): its naming attribute in upper case with its value, each above it so, the suffix.
+    /// The name of a live object (RFC 4514): its naming attribute in upper case with its value, each above it so, the
+    /// suffix.
     ///
     /// # Errors
     ///

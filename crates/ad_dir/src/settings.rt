@@ -19,7 +19,9 @@ use std::str;
 // The child of this common name, of a parent that there is.
 fn child_of(dir: &Dir, parent: Option<u32>, name: &[u8]) -> Option<u32>
     requires { IsUtf8 name.now }
-    ensures { result ≡ option_and_then (λ number. child_of_rdn dir.now number (record { kind = codes "CN"; value = name.now })) parent }
+    ensures { result ≡ option_and_then
+        (λ number. child_of_rdn dir.now number (record { kind = codes "CN"; value = name.now }))
+        parent }
 {
     match parent {
         Some(number) => typed_child(dir, number, b"CN", name),
@@ -41,7 +43,8 @@ fn directory_service(dir: &Dir) -> Option<u32>
 #[tactic(auto, unfolding(ad_dir_model::specs::Identity::first_of_attr, ad_dir_model::specs::Attributes::rule_place))]
 fn heuristics(dir: &Dir, number: u32) -> Option<&Value>
     requires { is_live dir.now.objects number ≡ true }
-    ensures { option_copied result ≡ first_of_attr (heuristics dir.now.schema) (object_at dir.now.objects number) }
+    ensures { option_copied result ≡ first_of_attr (heuristics dir.now.schema)
+        (object_at dir.now.objects number) }
 {
     match dir.schema().attr_of_rule(RuleAttr::DsHeuristics) {
         Some(attr) => first_of(live_object(dir, number).values.as_slice(), attr),
@@ -82,7 +85,8 @@ fn setting_at(text: &[u8], place: usize) -> Option<char>
 // The setting at a place, by the settings of a live object.
 fn setting_of(dir: &Dir, number: u32, place: usize) -> Option<char>
     requires { is_live dir.now.objects number ≡ true }
-    ensures { result ≡ slice_get (option_map_or (λ v. chars v.shown) (first_of_attr (heuristics dir.now.schema) (object_at dir.now.objects number)) []) place }
+    ensures { result ≡ slice_get (option_map_or (λ v. chars v.shown)
+        (first_of_attr (heuristics dir.now.schema) (object_at dir.now.objects number)) []) place }
 {
     dir.stands();
     match heuristics(dir, number) {
@@ -161,8 +165,8 @@ impl Dir {
         list_mode(self)
     }
 
-    /// Which groups aren't protected, as bits: what the 16th character of the settings says as a hexadecimal digit, 0 where
-    /// there is none ([MS-ADTS] 6.1.1.2.4.1.2). It takes no memory.
+    /// Which groups aren't protected, as bits: what the 16th character of the settings says as a hexadecimal digit, 0
+    /// where there is none ([MS-ADTS] 6.1.1.2.4.1.2). It takes no memory.
     pub fn taken_out(&self) -> u8
         ensures { result ≡ taken_out self.now }
     {

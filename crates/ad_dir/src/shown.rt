@@ -1,6 +1,7 @@
 //! The values that an object shows.
 
-ghost use Rattle.std.specs.Prelude.{◌≡◌, ◌<◌, ◌∷◌, ◌++◌, ◌==◌, ◌||◌, true, false, [], codes, map, reverse, length, slice_get, IfOk, OnOk};
+ghost use Rattle.std.specs.Prelude.{◌≡◌, ◌<◌, ◌∷◌, ◌++◌, ◌==◌, ◌||◌, true, false, [], codes, map, reverse, length};
+ghost use Rattle.std.specs.Prelude.{slice_get, IfOk, OnOk};
 ghost use Rattle.std.specs.Option.{option_copied, option_map_or};
 ghost use Rattle.ad_value.specs.declared.syntax.Syntax.TheVariants as syntax;
 ghost use Rattle.ad_schema.specs.Attributes.{attrs_of};
@@ -57,7 +58,8 @@ fn one(alloc: Global, syntax: Syntax, bytes: &[u8]) -> Result<Vec<Value>, AllocE
 // The one value that shows the name of a live object.
 fn named(alloc: Global, dir: &Dir, syntax: Syntax, number: u32) -> Result<Vec<Value>, AllocError>
     requires { is_live dir.now.objects number ≡ true }
-    ensures { IfOk result (λ values. values.items ≡ shown.computed syntax (name_text dir.now number) ∷ []) }
+    ensures { IfOk result (λ values. values.items ≡ shown.computed syntax (name_text dir.now number)
+        ∷ []) }
 {
     let text = dn_of(alloc, dir, number)?.text(alloc)?;
     one(alloc, syntax, text.as_slice())
@@ -126,7 +128,9 @@ fn chain_values(
     class: ClassId,
 ) -> Result<Vec<Value>, AllocError>
     requires { class.0 < length (classes_of schema.now) }
-    ensures { IfOk result (λ values. values.items ≡ map (λ c. shown.computed syntax (shown.class_name schema.now c)) (chain_of schema.now class.0)) }
+    ensures { IfOk result (λ values. values.items
+        ≡ map (λ c. shown.computed syntax (shown.class_name schema.now c))
+        (chain_of schema.now class.0)) }
 {
     ad_schema::chains_end();
     schema.make_schema();
@@ -147,7 +151,8 @@ fn class_values(
     class: ClassId,
 ) -> Result<Vec<Value>, AllocError>
     requires { class.0 < length (classes_of schema.now) }
-    ensures { IfOk result (λ values. values.items ≡ map (shown.computed syntax) (shown.class_names schema.now class.0)) }
+    ensures { IfOk result (λ values. values.items ≡ map (shown.computed syntax)
+        (shown.class_names schema.now class.0)) }
 {
     let mut values = chain_values(alloc, schema, syntax, class)?;
     values.reverse();
@@ -164,7 +169,8 @@ fn shown_value(
     stored: &Stored,
 ) -> Result<Value, AllocError>
     requires { AreLive dir.now.objects (stored_seen stored.now ∷ []) }
-    ensures { IfOk result (λ value. value ≡ shown.shown_value dir.now syntax (stored_seen stored.now)) }
+    ensures { IfOk result (λ value. value ≡ shown.shown_value dir.now syntax
+        (stored_seen stored.now)) }
 {
     match stored {
         Stored::Plain(value) => value.copy(alloc),
@@ -182,7 +188,8 @@ fn stored_values(
     stored: &[Stored],
 ) -> Result<Vec<Value>, AllocError>
     requires { AreLive dir.now.objects (map stored_seen stored.now) }
-    ensures { IfOk result (λ values. values.items ≡ map (shown.shown_value dir.now syntax) (map stored_seen stored.now)) }
+    ensures { IfOk result (λ values. values.items ≡ map (shown.shown_value dir.now syntax)
+        (map stored_seen stored.now)) }
 {
     let mut values = Vec::new(alloc);
     for value in stored {

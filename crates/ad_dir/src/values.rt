@@ -21,7 +21,8 @@ pub(crate) fn is_counted(schema: &Schema, indexed: &[bool], attr: AttrId) -> boo
 // The number behind one.
 fn behind(above: u32) -> Option<u32>
     ensures above { IfSome result (λ next. above < next) }
-    ensures least { (number : ℕ) → number < 4294967295 → above < number → IsSomeAnd result (λ next. next ≤ number) }
+    ensures least { (number : ℕ) → number < 4294967295 → above < number
+        → IsSomeAnd result (λ next. next ≤ number) }
 {
     if above < u32::MAX {
         return Some(above + 1);
@@ -29,7 +30,8 @@ fn behind(above: u32) -> Option<u32>
     None
 }
 
-/// The next object above a number that may store a value of an attribute with a key, by what is counted. It takes no memory.
+/// The next object above a number that may store a value of an attribute with a key, by what is counted. It takes no
+/// memory.
 pub(crate) fn next_with(
     schema: &Schema,
     indexed: &[bool],
@@ -38,7 +40,8 @@ pub(crate) fn next_with(
     key: &Key,
     above: u32,
 ) -> Option<u32>
-    ensures { (objects : List ObjectSeen) → AreStanding schema.now objects → AreCounted indexed.now links.now.entries objects
+    ensures { (objects : List ObjectSeen) → AreStanding schema.now objects
+        → AreCounted indexed.now links.now.entries objects
         → IsNextWith objects attr.0 key.now above result }
 {
     if is_counted(schema, indexed, attr) {

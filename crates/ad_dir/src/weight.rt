@@ -15,7 +15,8 @@ use ad_sd::NormalSd;
 use std::alloc::AllocError;
 
 fn weight_of(schema: &Schema, object: &Object) -> Option<usize>
-    ensures { (sd : SdValue) → WeighsOne result (object_weight schema.now (object_seen object.now sd)) }
+    ensures { (sd : SdValue) → WeighsOne result
+        (object_weight schema.now (object_seen object.now sd)) }
 {
     match after_object(schema, MAX_WEIGHT, object) {
         Some(left) => Some(MAX_WEIGHT - left),
@@ -76,7 +77,8 @@ pub(crate) fn weight_with(
 ) -> Option<usize>
     ensures { (sd : SdValue) → Rise (objects_in objects.now.entries)
         → Weighs schema.now all (objects_in objects.now.entries)
-        → Weighs schema.now result (put (object_seen object.now sd) (objects_in objects.now.entries)) }
+        → Weighs schema.now result (put (object_seen object.now sd)
+        (objects_in objects.now.entries)) }
 {
     let more = with_more(all, weight_of(schema, object));
     with_less(more, weight_at(schema, objects, object.number))

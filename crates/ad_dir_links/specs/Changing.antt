@@ -9,7 +9,8 @@ use Rattle.ad_dir_links.specs.Marks.{all_ties}
 
 -- The numbers of the one list are those of the other with some more and some less.
 abbrev pub IsBalanced : List ℕ → List ℕ → List ℕ → List ℕ → Type 0
-IsBalanced old new more less = (target : ℕ) → times target new + times target less ≡ times target old + times target more
+IsBalanced old new more less = (target : ℕ) → times target new + times target less ≡ times target old
+    + times target more
 
 -- the number stands at the place
 abbrev pub is_next : List ℕ → ℕ → ℕ → Bool

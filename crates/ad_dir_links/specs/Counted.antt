@@ -1,5 +1,6 @@
 -- How many links lead from a holder to a target, as a map counts them, and how many values with a mark.
-use Rattle.std.specs.Prelude.{◌≡◌, ℕ, ◌+◌, ◌*◌, ◌^◌, ◌-◌, ◌<◌, ◌≤◌, ◌==◌, Bool, if◌then◌else◌, unwrap_or, Some, List, [], ◌∷◌}
+use Rattle.std.specs.Prelude.{◌≡◌, ℕ, ◌+◌, ◌*◌, ◌^◌, ◌-◌, ◌<◌, ◌≤◌, ◌==◌, Bool, if◌then◌else◌, unwrap_or, Some, List}
+use Rattle.std.specs.Prelude.{[], ◌∷◌}
 use Rattle.std.specs.Map.{lookup}
 use Rattle.std.specs.BTreeMap.{is_at}
 use Rattle.std.specs.Ordering.{nat_cmp}
@@ -29,11 +30,13 @@ Covers count n = count < 2 ^ 32 - 1 → n ≤ count
 
 -- Each link of the object is counted, its naming value, and each value of an attribute that has its flag set.
 abbrev pub IsCounted : List Bool → List (ℕ × ℕ) → Object → Type 0
-IsCounted indexed entries o = o.number < 2 ^ 32 → (target : ℕ) → Covers (counted entries target o.number) (times target (all_ties indexed o.name o.values))
+IsCounted indexed entries o = o.number < 2 ^ 32 → (target : ℕ) → Covers (counted entries target o.number)
+    (times target (all_ties indexed o.name o.values))
 
 -- Those of each object are.
 abbrev pub AreCounted : List Bool → List (ℕ × ℕ) → List Object → Type 0
-AreCounted indexed entries objects = (number : ℕ) (o : Object) → object_of objects number ≡ Some o → IsCounted indexed entries o
+AreCounted indexed entries objects = (number : ℕ) (o : Object) → object_of objects number ≡ Some o
+    → IsCounted indexed entries o
 
 -- ---- changes
 
@@ -43,15 +46,19 @@ gain one targets target holder = if one == holder then times target targets else
 
 -- what was counted still is
 abbrev pub Keeps : List (ℕ × ℕ) → List (ℕ × ℕ) → Type 0
-Keeps old new = (target holder n : ℕ) → holder < 2 ^ 32 → Covers (counted old target holder) n → Covers (counted new target holder) n
+Keeps old new = (target holder n : ℕ) → holder < 2 ^ 32 → Covers (counted old target holder) n
+    → Covers (counted new target holder) n
 
 -- and links from one holder to these targets are counted besides, or no more
 abbrev pub Adds : ℕ → List ℕ → List (ℕ × ℕ) → List (ℕ × ℕ) → Type 0
-Adds one targets old new = (target holder n : ℕ) → holder < 2 ^ 32 → Covers (counted old target holder) n → Covers (counted new target holder) (n + gain one targets target holder)
+Adds one targets old new = (target holder n : ℕ) → holder < 2 ^ 32 → Covers (counted old target holder) n
+    → Covers (counted new target holder) (n + gain one targets target holder)
 
 abbrev pub Drops : ℕ → List ℕ → List (ℕ × ℕ) → List (ℕ × ℕ) → Type 0
-Drops one targets old new = (target holder n : ℕ) → holder < 2 ^ 32 → Covers (counted old target holder) (n + gain one targets target holder) → Covers (counted new target holder) n
+Drops one targets old new = (target holder n : ℕ) → holder < 2 ^ 32 → Covers (counted old target holder)
+    (n + gain one targets target holder) → Covers (counted new target holder) n
 
 -- what was counted still is, but for one holder
 abbrev pub Forgets : ℕ → List (ℕ × ℕ) → List (ℕ × ℕ) → Type 0
-Forgets one old new = (target holder n : ℕ) → holder < 2 ^ 32 → (one ≡ holder → ⊥) → Covers (counted old target holder) n → Covers (counted new target holder) n
+Forgets one old new = (target holder n : ℕ) → holder < 2 ^ 32 → (one ≡ holder → ⊥)
+    → Covers (counted old target holder) n → Covers (counted new target holder) n

@@ -1,5 +1,6 @@
 -- What stands for a stored value among what is counted of its object.
-use Rattle.std.specs.Prelude.{ℕ, ◌%◌, Bool, false, if◌then◌else◌, Option, Some, None, List, ◌∷◌, fold, filter_map, slice_index_or}
+use Rattle.std.specs.Prelude.{ℕ, ◌%◌, Bool, false, if◌then◌else◌, Option, Some, None, List, ◌∷◌, fold, filter_map}
+use Rattle.std.specs.Prelude.{slice_index_or}
 use Rattle.std.specs.List.{flat_map}
 use Rattle.std.specs.declared.hash.DefaultHasher.{DefaultHasher}
 use Rattle.std.specs.Hash as fed

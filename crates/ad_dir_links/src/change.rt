@@ -1,4 +1,5 @@
-//! What the edit of an object changes of what is counted: what is there before and after it in the same order is passed over.
+//! What the edit of an object changes of what is counted: what is there before and after it in the same order is
+//! passed over.
 
 ghost use Rattle.std.specs.Prelude.{◌≡◌, ◌+◌, ◌≤◌, ℕ, Some, [], map, length, drop, IfOk, slice_get};
 ghost use Rattle.std.specs.Option.{option_map_or};
@@ -10,7 +11,8 @@ use crate::gather::ties_of;
 use ad_dir_objects::Object;
 use std::alloc::{AllocError, Global};
 
-/// The targets of links and the marks of values that an object has more than before, and those that it doesn't have any more.
+/// The targets of links and the marks of values that an object has more than before, and those that it doesn't have
+/// any more.
 #[derive(Drop)]
 pub struct LinkChange {
     pub more: Vec<u32>,
@@ -30,7 +32,8 @@ fn is_next(numbers: &[u32], place: usize, number: u32) -> bool
 // Up to which place the new numbers are old ones, and the old ones that are none of these.
 fn matched(alloc: Global, old: &[u32], new: &[u32]) -> Result<(usize, Vec<u32>), AllocError>
     ensures within { IfOk result (λ found. found.0 ≤ length new.now) }
-    ensures balanced { IfOk result (λ found. IsBalanced old.now new.now (drop found.0 new.now) found.1.items) }
+    ensures balanced { IfOk result (λ found. IsBalanced old.now new.now (drop found.0 new.now)
+        found.1.items) }
 {
     let mut place = 0usize;
     let mut less = Vec::new(alloc);
@@ -46,7 +49,8 @@ fn matched(alloc: Global, old: &[u32], new: &[u32]) -> Result<(usize, Vec<u32>),
 
 // How the numbers of one list differ from those of the other.
 fn change_of(alloc: Global, old: &[u32], new: &[u32]) -> Result<LinkChange, AllocError>
-    ensures { IfOk result (λ change. IsBalanced old.now new.now change.more.items change.less.items) }
+    ensures { IfOk result (λ change. IsBalanced old.now new.now change.more.items
+        change.less.items) }
 {
     let (place, less) = matched(alloc, old, new)?;
     Ok(LinkChange {
@@ -61,7 +65,9 @@ fn ties_before(
     indexed: &[bool],
     old: Option<&Object>,
 ) -> Result<Vec<u32>, AllocError>
-    ensures { IfOk result (λ all. all.items ≡ option_map_or (λ object. all_ties indexed.now object.now.name (map held_seen object.now.values)) old.entry []) }
+    ensures { IfOk result (λ all. all.items
+        ≡ option_map_or (λ object. all_ties indexed.now object.now.name
+        (map held_seen object.now.values)) old.entry []) }
 {
     match old {
         Some(object) => ties_of(alloc, indexed, object),
@@ -80,8 +86,11 @@ pub fn link_change(
     old: Option<&Object>,
     new: &Object,
 ) -> Result<LinkChange, AllocError>
-    ensures { IfOk result (λ change. IsBalanced (option_map_or (λ object. all_ties indexed.now object.now.name (map held_seen object.now.values)) old.entry [])
-        (all_ties indexed.now new.now.name (map held_seen new.now.values)) change.more.items change.less.items) }
+    ensures { IfOk result (λ change.
+        IsBalanced (option_map_or (λ object. all_ties indexed.now object.now.name
+        (map held_seen object.now.values)) old.entry [])
+        (all_ties indexed.now new.now.name (map held_seen new.now.values)) change.more.items
+        change.less.items) }
 {
     let before = ties_before(alloc, indexed, old)?;
     let after = ties_of(alloc, indexed, new)?;

@@ -6,8 +6,8 @@ ghost use Rattle.ad_dir_links.specs.Counted.{Covers, Adds, Drops, Keeps, count_i
 use std::alloc::{AllocError, Global};
 use std::collections::BTreeMap;
 
-/// How many links lead from a holder to a target, by a number that has the target's in front of the holder's. One that is
-/// `u32::MAX` stands for any number of links.
+/// How many links lead from a holder to a target, by a number that has the target's in front of the holder's. One
+/// that is `u32::MAX` stands for any number of links.
 pub type Links = BTreeMap<u64, u32>;
 
 /// The number of a pair.
@@ -49,7 +49,8 @@ fn without_one(count: u32) -> u32
 // Puts a count.
 fn insert_count(links: &mut Links, key: u64, count: u32) -> Result<(), AllocError>
     ensures here { OnOk result (count_in links.new.entries key ≡ count) }
-    ensures others { OnOk result ((other : ℕ) → other ≢ key → count_in links.new.entries other ≡ count_in links.old.entries other) }
+    ensures others { OnOk result ((other : ℕ) → other ≢ key → count_in links.new.entries other
+        ≡ count_in links.old.entries other) }
     ensures err { OnErr result (links.new.entries ≡ links.old.entries) }
 {
     match links.insert(key, count) {
@@ -62,7 +63,8 @@ fn insert_count(links: &mut Links, key: u64, count: u32) -> Result<(), AllocErro
 fn replace_count(links: &mut Links, key: u64, count: u32)
     requires { 0 < count → 0 < count_in links.old.entries key }
     ensures here { count_in links.new.entries key ≡ count }
-    ensures others { (other : ℕ) → other ≢ key → count_in links.new.entries other ≡ count_in links.old.entries other }
+    ensures others { (other : ℕ) → other ≢ key → count_in links.new.entries other
+        ≡ count_in links.old.entries other }
 {
     if count == 0 {
         let _was = links.remove(&key);

@@ -47,8 +47,8 @@ fn set(flags: &mut Vec<bool>, attr: AttrId) {
     }
 }
 
-/// A flag for each attribute of a schema, set where it is indexed: where searchFlags has bit 1 ([MS-ADTS] 2.2.10), and always
-/// for objectSid, sAMAccountName and the attributes that name objects.
+/// A flag for each attribute of a schema, set where it is indexed: where searchFlags has bit 1 ([MS-ADTS] 2.2.10),
+/// and always for objectSid, sAMAccountName and the attributes that name objects.
 ///
 /// # Errors
 ///

@@ -1,5 +1,5 @@
-//! What is counted of an object, as a list: the mark of its naming value, the targets of its links, and the marks of its values
-//! that are indexed.
+//! What is counted of an object, as a list: the mark of its naming value, the targets of its links, and the marks of
+//! its values that are indexed.
 
 ghost use Rattle.std.specs.Prelude.{◌≡◌, ◌++◌, [], ◌∷◌, map, filter_map, if◌then◌else◌, Option, Some, None, OnOk, IfOk};
 ghost use Rattle.ad_dir_objects.specs.Seen.{stored_seen, held_seen};
@@ -29,7 +29,8 @@ fn mark_if(
     attr: AttrId,
     value: &Value,
 ) -> Result<Option<u32>, AllocError>
-    ensures { IfOk result (λ found. found ≡ (if counts then Some (mark attr.0 value.now.key) else None)) }
+    ensures { IfOk result (λ found. found
+        ≡ (if counts then Some (mark attr.0 value.now.key) else None)) }
 {
     if !counts {
         return Ok(None);
@@ -61,7 +62,8 @@ fn push_tie(
     value: &Stored,
     all: &mut Vec<u32>,
 ) -> Result<(), AllocError>
-    ensures { OnOk result (all.new.items ≡ all.old.items ++ filter_map (tie counts attr.0) (stored_seen value.now ∷ [])) }
+    ensures { OnOk result (all.new.items ≡ all.old.items ++ filter_map (tie counts attr.0)
+        (stored_seen value.now ∷ [])) }
 {
     match tie_of(alloc, counts, attr, value)? {
         Some(number) => all.push(number)?,
@@ -78,7 +80,8 @@ fn push_ties(
     values: &[Stored],
     all: &mut Vec<u32>,
 ) -> Result<(), AllocError>
-    ensures { OnOk result (all.new.items ≡ all.old.items ++ filter_map (tie counts attr.0) (map stored_seen values.now)) }
+    ensures { OnOk result (all.new.items ≡ all.old.items ++ filter_map (tie counts attr.0)
+        (map stored_seen values.now)) }
 {
     'each: for value in values {
         push_tie(alloc, counts, attr, value, all)?;
@@ -94,7 +97,8 @@ fn push_all(
     values: &[(AttrId, Few<Stored>)],
     all: &mut Vec<u32>,
 ) -> Result<(), AllocError>
-    ensures { OnOk result (all.new.items ≡ all.old.items ++ ties_in indexed.now (map held_seen values.now)) }
+    ensures { OnOk result (all.new.items ≡ all.old.items
+        ++ ties_in indexed.now (map held_seen values.now)) }
 {
     'each: for held in values {
         let counts = is_indexed(indexed, held.0);
@@ -113,7 +117,8 @@ pub(crate) fn ties_of(
     indexed: &[bool],
     object: &Object,
 ) -> Result<Vec<u32>, AllocError>
-    ensures { IfOk result (λ all. all.items ≡ all_ties indexed.now object.now.name (map held_seen object.now.values)) }
+    ensures { IfOk result (λ all. all.items ≡ all_ties indexed.now object.now.name
+        (map held_seen object.now.values)) }
 {
     let mut all = Vec::new(alloc);
     all.push(name_mark(alloc, object.name.as_slice())?)?;

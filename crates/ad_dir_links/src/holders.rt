@@ -94,7 +94,8 @@ fn add_holder(
     indexed: &[bool],
     object: &Object,
 ) -> Result<(), AllocError>
-    ensures { OnOk result (Adds object.now.number (object_ties indexed.now object.now) links.old.entries links.new.entries) }
+    ensures { OnOk result (Adds object.now.number (object_ties indexed.now object.now)
+        links.old.entries links.new.entries) }
 {
     let ties = ties_of(alloc, indexed, object)?;
     add_links(links, object.number, ties.as_slice())

@@ -1,7 +1,7 @@
 //! What represents a value of an attribute: a number by which the objects that store one with its key are found.
 //!
-//! It is 32 bits of SipHash. Values that share it by chance or by design cost a search for one of them a look at the others'
-//! objects, and nothing else.
+//! It is 32 bits of SipHash. Values that share it by chance or by design cost a search for one of them a look at the
+//! others' objects, and nothing else.
 
 ghost use Rattle.std.specs.Prelude.{◌≡◌, IfOk};
 ghost use Rattle.ad_value.specs.declared.syntax.Syntax.TheVariants as syntax;

@@ -1,5 +1,6 @@
 -- Counts over lists of numbers and of pending entries.
-use Rattle.std.proofs.Common.{◌≡◌, ℕ, ◌+◌, ◌*◌, ◌≤◌, Bool, true, false, List, [], ◌∷◌, length, inl, inr, refl, sym, ap, arith, ◌∙◌}
+use Rattle.std.proofs.Common.{◌≡◌, ℕ, ◌+◌, ◌*◌, ◌≤◌, Bool, true, false, List, [], ◌∷◌, length, inl, inr, refl, sym}
+use Rattle.std.proofs.Common.{ap, arith, ◌∙◌}
 use Rattle.std.specs.Prelude.{nat_eq}
 use Rattle.std.specs.List.{AllByRecursion}
 use Rattle.std.proofs.lemmas.Bool.{eqb-true, eqb-false, ne_eqb, eq-eqb, cases_Bool, or_parts, false≢true}
@@ -24,14 +25,21 @@ live_first : (x : Object) (xs : List Object) → is_live (x ∷ xs) x.number ≡
 unfolding object_of
 live_first x xs = rw (eq-eqb x.number x.number refl) refl
 
-pub all_numbers : (P : ℕ → Type 0) (os : List Object) → ((n : ℕ) → is_live os n ≡ true → P n) → AllByRecursion P (numbers os)
+pub all_numbers : (P : ℕ → Type 0) (os : List Object) → ((n : ℕ) → is_live os n ≡ true → P n)
+    → AllByRecursion P (numbers os)
 unfolding numbers
 all_numbers P [] each = tt
-all_numbers P (x ∷ xs) each = (each x.number (live_first x xs), all_numbers P xs (λ n live. each n (live_more x xs n live)))
+all_numbers P (x ∷ xs) each = (
+  each x.number (live_first x xs),
+  all_numbers P xs
+      (λ n live. each n (live_more x xs n live)),
+)
 
 -- ---- counts
 
-pub count_within : (f g h e : ℕ → Bool) (ns : List ℕ) → AllByRecursion (λ (n : ℕ). bit (f n) + (bit (g n) + bit (h n)) ≤ bit (e n)) ns → count f ns + (count g ns + count h ns) ≤ count e ns
+pub count_within : (f g h e : ℕ → Bool) (ns : List ℕ)
+    → AllByRecursion (λ (n : ℕ). bit (f n) + (bit (g n) + bit (h n)) ≤ bit (e n)) ns → count f ns
+    + (count g ns + count h ns) ≤ count e ns
 unfolding count
 count_within f g h e [] all = omega arith
 count_within f g h e (n ∷ ns) all =
@@ -75,14 +83,17 @@ sum_add f g [] = refl
 sum_add f g (n ∷ ns) = let rest = sum_add f g ns in omega (arith, rest)
 
 -- the order of the two sums doesn't matter
-pub exchange : (share : Pending → ℕ → ℕ) (ns : List ℕ) (es : List Pending) → sum_entries (λ (e : Pending). sum_numbers (share e) ns) es ≡ sum_numbers (λ (n : ℕ). sum_entries (λ (e : Pending). share e n) es) ns
+pub exchange : (share : Pending → ℕ → ℕ) (ns : List ℕ) (es : List Pending)
+    → sum_entries (λ (e : Pending). sum_numbers (share e) ns) es
+    ≡ sum_numbers (λ (n : ℕ). sum_entries (λ (e : Pending). share e n) es) ns
 unfolding sum_entries
 exchange share ns [] = sym (no_sum ns)
 exchange share ns (e ∷ es) =
     ap (λ (k : ℕ). sum_numbers (share e) ns + k) (exchange share ns es)
     ∙ sym (sum_add (share e) (λ (n : ℕ). sum_entries (λ (x : Pending). share x n) es) ns)
 
-pub sum_bounded : (f : ℕ → ℕ) (bound : ℕ) (ns : List ℕ) → AllByRecursion (λ (n : ℕ). f n ≤ bound) ns → sum_numbers f ns ≤ bound * length ns
+pub sum_bounded : (f : ℕ → ℕ) (bound : ℕ) (ns : List ℕ) → AllByRecursion (λ (n : ℕ). f n ≤ bound) ns
+    → sum_numbers f ns ≤ bound * length ns
 unfolding sum_numbers
 sum_bounded f bound [] all = omega arith
 sum_bounded f bound (n ∷ ns) all =
@@ -90,7 +101,8 @@ sum_bounded f bound (n ∷ ns) all =
     let rest : sum_numbers f ns ≤ bound * length ns = sum_bounded f bound ns all.1 in
     omega arith
 
-pub sum_entries_le : (f g : Pending → ℕ) (es : List Pending) → ((e : Pending) → f e ≤ g e) → sum_entries f es ≤ sum_entries g es
+pub sum_entries_le : (f g : Pending → ℕ) (es : List Pending) → ((e : Pending) → f e ≤ g e) → sum_entries f es
+    ≤ sum_entries g es
 unfolding sum_entries
 sum_entries_le f g [] each = omega arith
 sum_entries_le f g (e ∷ es) each =
@@ -98,7 +110,8 @@ sum_entries_le f g (e ∷ es) each =
     let rest : sum_entries f es ≤ sum_entries g es = sum_entries_le f g es each in
     omega arith
 
-pub sum_entries_add : (f g : Pending → ℕ) (es : List Pending) → sum_entries (λ (e : Pending). f e + g e) es ≡ sum_entries f es + sum_entries g es
+pub sum_entries_add : (f g : Pending → ℕ) (es : List Pending) → sum_entries (λ (e : Pending). f e + g e) es
+    ≡ sum_entries f es + sum_entries g es
 unfolding sum_entries
 sum_entries_add f g [] = refl
 sum_entries_add f g (e ∷ es) = let rest = sum_entries_add f g es in omega (arith, rest)
@@ -121,7 +134,8 @@ count_is test (n ∷ ns) = ap (λ (k : ℕ). bit (test n) + k) (count_is test ns
 
 -- ---- no parent is pending twice
 
-pub not_pending_none : (n : ℕ) (es : List Pending) → is_pending n es ≡ false → sum_entries (λ (e : Pending). bit (nat_eq n e.parent)) es ≡ 0
+pub not_pending_none : (n : ℕ) (es : List Pending) → is_pending n es ≡ false
+    → sum_entries (λ (e : Pending). bit (nat_eq n e.parent)) es ≡ 0
 unfolding sum_entries
 not_pending_none n [] none = refl
 not_pending_none n (e ∷ es) none =
@@ -130,14 +144,16 @@ not_pending_none n (e ∷ es) none =
     let rest : sum_entries (λ (x : Pending). bit (nat_eq n x.parent)) es ≡ 0 = not_pending_none n es parts.1 in
     rw (ne_eqb n e.parent other) (omega arith)
 
-pub pending_once : (n : ℕ) (es : List Pending) → AreDistinct es → sum_entries (λ (e : Pending). bit (nat_eq n e.parent)) es ≤ 1
+pub pending_once : (n : ℕ) (es : List Pending) → AreDistinct es
+    → sum_entries (λ (e : Pending). bit (nat_eq n e.parent)) es ≤ 1
 unfolding sum_entries
 pending_once n [] distinct = omega arith
 pending_once n (e ∷ es) distinct =
     elim (cases_Bool (nat_eq n e.parent)) [
       | inl same ↦
           let is : n ≡ e.parent = eqb-true n e.parent same in
-          let none : sum_entries (λ (x : Pending). bit (nat_eq n x.parent)) es ≡ 0 = not_pending_none n es (rw is distinct.0) in
+          let none : sum_entries (λ (x : Pending). bit (nat_eq n x.parent)) es ≡ 0
+          = not_pending_none n es (rw is distinct.0) in
           rw same (omega arith)
       | inr other ↦
           let rest : sum_entries (λ (x : Pending). bit (nat_eq n x.parent)) es ≤ 1 = pending_once n es distinct.1 in

@@ -1,8 +1,10 @@
 -- What is found in the list of objects, and after one was put or removed.
-use Rattle.std.proofs.Common.{◌≡◌, ℕ, ◌<◌, ◌≤◌, Bool, true, false, cond, List, [], ◌∷◌, map, Option, Some, None, inl, inr, refl, sym, subst, ap, arith, ◌∙◌}
+use Rattle.std.proofs.Common.{◌≡◌, ℕ, ◌<◌, ◌≤◌, Bool, true, false, cond, List, [], ◌∷◌, map, Option, Some, None, inl}
+use Rattle.std.proofs.Common.{inr, refl, sym, subst, ap, arith, ◌∙◌}
 use Rattle.std.specs.Prelude.{nat_eq, nat_lt, find, filter, is_some, unwrap_or}
 use Rattle.std.specs.List.{AllByRecursion}
-use Rattle.std.proofs.lemmas.Bool.{eqb-true, eqb-false, eq-eqb, ne_eqb, ltb-true, ltb-false, false≢true, both_ways, cases_Bool}
+use Rattle.std.proofs.lemmas.Bool.{eqb-true, eqb-false, eq-eqb, ne_eqb, ltb-true, ltb-false, false≢true, both_ways}
+use Rattle.std.proofs.lemmas.Bool.{cases_Bool}
 use Rattle.std.proofs.lemmas.Option.{none-some, same_Some}
 use Rattle.ad_dir_model.specs.Object.{Object, no_object}
 use Rattle.ad_dir_model.specs.Objects.{RiseAbove, numbers, object_of, is_live, object_at, put, removed}
@@ -62,11 +64,13 @@ of_above m (x ∷ xs) n o rise is =
 pub live_above : (m : ℕ) (os : List Object) (n : ℕ) → RiseAbove m os → is_live os n ≡ true → m < n
 live_above m os n rise live = of_above m os n (object_at os n) rise (of-live os n live)
 
-all_weaker : (P Q : Object → Type 0) (os : List Object) → ((o : Object) → P o → Q o) → AllByRecursion P os → AllByRecursion Q os
+all_weaker : (P Q : Object → Type 0) (os : List Object) → ((o : Object) → P o → Q o) → AllByRecursion P os
+    → AllByRecursion Q os
 all_weaker P Q [] weaker all = tt
 all_weaker P Q (o ∷ os) weaker all = (weaker o all.0, all_weaker P Q os weaker all.1)
 
-behind_found : (m : ℕ) (x : Object) (xs : List Object) (o : Object) → RiseAbove m (x ∷ xs) → object_of xs o.number ≡ Some o → object_of (x ∷ xs) o.number ≡ Some o
+behind_found : (m : ℕ) (x : Object) (xs : List Object) (o : Object) → RiseAbove m (x ∷ xs) → object_of xs o.number
+    ≡ Some o → object_of (x ∷ xs) o.number ≡ Some o
 unfolding object_of
 behind_found m x xs o rise is =
     let apart : x.number ≡ o.number → ⊥ = λ (e : x.number ≡ o.number).
@@ -78,7 +82,8 @@ unfolding object_of
 found_at_head x xs = rw (eq-eqb x.number x.number refl) refl
 
 -- each object of a list that rises is found by its number
-pub all_found : (m : ℕ) (os : List Object) → RiseAbove m os → AllByRecursion (λ (o : Object). object_of os o.number ≡ Some o) os
+pub all_found : (m : ℕ) (os : List Object) → RiseAbove m os
+    → AllByRecursion (λ (o : Object). object_of os o.number ≡ Some o) os
 all_found m [] rise = tt
 all_found m (x ∷ xs) rise = (
   found_at_head x xs,
@@ -116,7 +121,8 @@ of-put_same o (x ∷ xs) =
       ]
     ]
 
-pub of-put_other : (o : Object) (os : List Object) (n : ℕ) → (o.number ≡ n → ⊥) → object_of (put o os) n ≡ object_of os n
+pub of-put_other : (o : Object) (os : List Object) (n : ℕ) → (o.number ≡ n → ⊥) → object_of (put o os) n
+    ≡ object_of os n
 unfolding object_of put
 of-put_other o [] n apart = rw (ne_eqb o.number n apart) refl
 of-put_other o (x ∷ xs) n apart =
@@ -127,14 +133,16 @@ of-put_other o (x ∷ xs) n apart =
           rw (same, ne_eqb o.number n apart, ne_eqb x.number n other) refl
       | inr differ ↦ elim (cases_Bool (nat_lt o.number x.number)) [
         | inl less ↦ rw (differ, less, ne_eqb o.number n apart) refl
-        | inr least ↦ rw (differ, least) (ap (λ (rest : Option Object). cond (nat_eq x.number n) (Some x) rest) (of-put_other o xs n apart))
+        | inr least ↦ rw (differ, least) (ap (λ (rest : Option Object). cond (nat_eq x.number n) (Some x) rest)
+            (of-put_other o xs n apart))
       ]
     ]
 
 pub at-put_same : (o : Object) (os : List Object) → object_at (put o os) o.number ≡ o
 at-put_same o os = at-of (put o os) o.number o (of-put_same o os)
 
-pub at-put_other : (o : Object) (os : List Object) (n : ℕ) → (o.number ≡ n → ⊥) → object_at (put o os) n ≡ object_at os n
+pub at-put_other : (o : Object) (os : List Object) (n : ℕ) → (o.number ≡ n → ⊥) → object_at (put o os) n
+    ≡ object_at os n
 unfolding object_at
 at-put_other o os n apart = ap (λ (found : Option Object). unwrap_or found no_object) (of-put_other o os n apart)
 
@@ -152,23 +160,28 @@ live-put o os n live =
       | inr apart ↦ live-put_other o os n (eqb-false o.number n apart) ∙ live
     ]
 
-live_behind : (x : Object) (xs : List Object) (n : ℕ) → nat_eq x.number n ≡ false → is_live (x ∷ xs) n ≡ true → is_live xs n ≡ true
+live_behind : (x : Object) (xs : List Object) (n : ℕ) → nat_eq x.number n ≡ false → is_live (x ∷ xs) n ≡ true
+    → is_live xs n ≡ true
 unfolding object_of
 live_behind x xs n apart live = rw apart at live
 
 -- the numbers stay where the object's is there
-pub numbers-put : (m : ℕ) (o : Object) (os : List Object) → RiseAbove m os → is_live os o.number ≡ true → numbers (put o os) ≡ numbers os
+pub numbers-put : (m : ℕ) (o : Object) (os : List Object) → RiseAbove m os → is_live os o.number ≡ true
+    → numbers (put o os) ≡ numbers os
 unfolding numbers put object_of
 numbers-put m o [] rise live = absurd (false≢true live)
 numbers-put m o (x ∷ xs) rise live =
     elim (cases_Bool (nat_eq x.number o.number)) [
-      | inl same ↦ rw same (ap (λ (n : ℕ). n ∷ map (λ (y : Object). y.number) xs) (sym (eqb-true x.number o.number same)))
+      | inl same ↦ rw same (ap (λ (n : ℕ). n ∷ map (λ (y : Object). y.number) xs)
+          (sym (eqb-true x.number o.number same)))
       | inr apart ↦ elim (cases_Bool (nat_lt o.number x.number)) [
         | inl less ↦
             let below : o.number < x.number = ltb-true o.number x.number less in
-            let above : x.number < o.number = live_above x.number xs o.number rise.1 (live_behind x xs o.number apart live) in
+            let above : x.number < o.number = live_above x.number xs o.number rise.1
+            (live_behind x xs o.number apart live) in
             absurd (omega arith)
-        | inr least ↦ rw (apart, least) (ap (λ (ns : List ℕ). x.number ∷ ns) (numbers-put x.number o xs rise.1 (live_behind x xs o.number apart live)))
+        | inr least ↦ rw (apart, least) (ap (λ (ns : List ℕ). x.number ∷ ns)
+            (numbers-put x.number o xs rise.1 (live_behind x xs o.number apart live)))
       ]
     ]
 
@@ -192,7 +205,8 @@ of-removed_other k (x ∷ xs) n apart =
           let is : x.number ≡ k = eqb-true x.number k same in
           let other : x.number ≡ n → ⊥ = λ (e : x.number ≡ n). apart (sym is ∙ e) in
           rw (same, ne_eqb x.number n other) (of-removed_other k xs n apart)
-      | inr differ ↦ rw differ (ap (λ (rest : Option Object). cond (nat_eq x.number n) (Some x) rest) (of-removed_other k xs n apart))
+      | inr differ ↦ rw differ (ap (λ (rest : Option Object). cond (nat_eq x.number n) (Some x) rest)
+          (of-removed_other k xs n apart))
     ]
 
 pub rise_filter : (test : Object → Bool) (m : ℕ) (os : List Object) → RiseAbove m os → RiseAbove m (filter test os)
@@ -213,7 +227,8 @@ pub record IsFirst (test : Object → Bool) (m : ℕ) (os : List Object) (o : Ob
   pub above : m < o.number
   pub least : (n : ℕ) (x : Object) → object_of os n ≡ Some x → test x ≡ true → o.number ≤ n
 
-first_here : (test : Object → Bool) (m : ℕ) (x : Object) (xs : List Object) → RiseAbove m (x ∷ xs) → test x ≡ true → IsFirst test m (x ∷ xs) x
+first_here : (test : Object → Bool) (m : ℕ) (x : Object) (xs : List Object) → RiseAbove m (x ∷ xs) → test x ≡ true
+    → IsFirst test m (x ∷ xs) x
 unfolding object_of
 first_here test m x xs rise passes = record {
   live = rw (eq-eqb x.number x.number refl) refl;
@@ -225,7 +240,8 @@ first_here test m x xs rise passes = record {
   ];
 }
 
-first_behind : (test : Object → Bool) (m : ℕ) (x : Object) (xs : List Object) (o : Object) → RiseAbove m (x ∷ xs) → test x ≡ false → IsFirst test x.number xs o → IsFirst test m (x ∷ xs) o
+first_behind : (test : Object → Bool) (m : ℕ) (x : Object) (xs : List Object) (o : Object) → RiseAbove m (x ∷ xs)
+    → test x ≡ false → IsFirst test x.number xs o → IsFirst test m (x ∷ xs) o
 unfolding object_of
 first_behind test m x xs o rise fails first =
     let above : x.number < o.number = first.above in
@@ -241,15 +257,18 @@ first_behind test m x xs o rise fails first =
       ];
     }
 
-pub found_first : (test : Object → Bool) (m : ℕ) (os : List Object) (o : Object) → RiseAbove m os → find test os ≡ Some o → IsFirst test m os o
+pub found_first : (test : Object → Bool) (m : ℕ) (os : List Object) (o : Object) → RiseAbove m os → find test os
+    ≡ Some o → IsFirst test m os o
 found_first test m [] o rise is = absurd (none-some o is)
 found_first test m (x ∷ xs) o rise is =
     elim (cases_Bool (test x)) [
-      | inl passes ↦ subst (IsFirst test m (x ∷ xs)) (same_Some x o (rw passes at is)) (first_here test m x xs rise passes)
+      | inl passes ↦ subst (IsFirst test m (x ∷ xs)) (same_Some x o (rw passes at is))
+          (first_here test m x xs rise passes)
       | inr fails ↦ first_behind test m x xs o rise fails (found_first test x.number xs o rise.1 (rw fails at is))
     ]
 
-pub none_found : (test : Object → Bool) (os : List Object) (n : ℕ) (x : Object) → find test os ≡ None → object_of os n ≡ Some x → test x ≡ false
+pub none_found : (test : Object → Bool) (os : List Object) (n : ℕ) (x : Object) → find test os ≡ None → object_of os n
+    ≡ Some x → test x ≡ false
 unfolding object_of
 none_found test [] n x none is = absurd (none-some x is)
 none_found test (y ∷ ys) n x none is =

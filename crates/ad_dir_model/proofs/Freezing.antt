@@ -27,10 +27,15 @@ entry_explicit entry = rw (none_left entry.flags) refl
 
 all_explicit : (entries : List Entry) → list_all is_explicit (map frozen_entry entries) ≡ true
 all_explicit [] = refl
-all_explicit (e ∷ es) = and_from (is_explicit (frozen_entry e)) (list_all is_explicit (map frozen_entry es)) (entry_explicit e) (all_explicit es)
+all_explicit (e ∷ es) = and_from (is_explicit (frozen_entry e)) (list_all is_explicit (map frozen_entry es))
+    (entry_explicit e) (all_explicit es)
 
 list_frozen : (list : AceList) → IsFrozenList (frozen_list list)
-list_frozen list = record { protected = refl; explicit = AllPass-from_list_all is_explicit (map frozen_entry list.entries) (all_explicit list.entries) }
+list_frozen list = record {
+  protected = refl;
+  explicit = AllPass-from_list_all is_explicit
+      (map frozen_entry list.entries) (all_explicit list.entries);
+}
 
 pub frozen_is : (sd : Sd) → IsFrozen (frozen sd)
 unfolding frozen
@@ -47,7 +52,8 @@ entry_twice entry = ap (with_flags entry) (and_assoc not_inherited entry.flags n
 
 entries_twice : (entries : List Entry) → map frozen_entry (map frozen_entry entries) ≡ map frozen_entry entries
 entries_twice [] = refl
-entries_twice (e ∷ es) = ap (λ (x : Entry). x ∷ map frozen_entry (map frozen_entry es)) (entry_twice e) ∙ ap (λ (xs : List Entry). frozen_entry e ∷ xs) (entries_twice es)
+entries_twice (e ∷ es) = ap (λ (x : Entry). x ∷ map frozen_entry (map frozen_entry es)) (entry_twice e)
+    ∙ ap (λ (xs : List Entry). frozen_entry e ∷ xs) (entries_twice es)
 
 with_entries : List Entry → AceList
 with_entries entries = record { protected = true; entries = entries }

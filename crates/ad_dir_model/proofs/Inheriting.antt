@@ -15,7 +15,8 @@ use Rattle.ad_dir_model.specs.Objects.{Rise, object_of, sd_at, put}
 use Rattle.ad_dir_model.specs.Tree.{root}
 use Rattle.ad_dir_model.specs.SameSd.{same_sd}
 use Rattle.ad_dir_model.specs.Directory.{Directory}
-use Rattle.ad_dir_model.specs.Inheritance.{guid_at, whole_at, IsSettled, covers, IsSettledOrCovered, marked_if_changed, stored, settled, written}
+use Rattle.ad_dir_model.specs.Inheritance.{guid_at, whole_at, IsSettled, covers, IsSettledOrCovered}
+use Rattle.ad_dir_model.specs.Inheritance.{marked_if_changed, stored, settled, written}
 use Rattle.ad_dir_model.proofs.Finding.{of_number, of_above, of-put_same, of-put_other, at-put_same, at-put_other}
 use Rattle.ad_dir_model.proofs.SameSdLaws.{same_sd-is}
 use Rattle.ad_dir_model.proofs.PendingLaws.{marked_if_keeps, marked_if_changed_covers}
@@ -42,7 +43,8 @@ explicit-explicit sd =
     ∙ ap (λ (list : AceList). with_lists sd (explicit_list sd.dacl) list) (explicit_list_twice sd.sacl)
 
 -- below the root
-pub whole_below : (dir : Directory) (o : Object) → (o.number ≡ root → ⊥) → whole_at dir o ≡ whole (sd_at dir.objects o.parent) o.sd (guid_at dir.schema o.class)
+pub whole_below : (dir : Directory) (o : Object) → (o.number ≡ root → ⊥) → whole_at dir o
+    ≡ whole (sd_at dir.objects o.parent) o.sd (guid_at dir.schema o.class)
 unfolding whole_at
 whole_below dir o not_root = rw (ne_eqb o.number root not_root) refl
 
@@ -53,7 +55,8 @@ whole_root dir o is_root = rw (eq-eqb o.number root is_root) refl
 -- ---- each object but the root, and but one
 
 pub record InheritsBut (n : ℕ) (dir : Directory) : Type 0 where
-  pub each : (m : ℕ) (x : Object) → object_of dir.objects m ≡ Some x → (m ≡ root → ⊥) → (m ≡ n → ⊥) → IsSettledOrCovered dir x
+  pub each : (m : ℕ) (x : Object) → object_of dir.objects m ≡ Some x → (m ≡ root → ⊥) → (m ≡ n → ⊥)
+      → IsSettledOrCovered dir x
 
 pub record Inherits (dir : Directory) : Type 0 where
   pub each : (m : ℕ) (x : Object) → object_of dir.objects m ≡ Some x → (m ≡ root → ⊥) → IsSettledOrCovered dir x
@@ -65,30 +68,39 @@ inherits_but n dir inherits = record { each = λ m x is not_root _. inherits.eac
 -- the old one or who are covered.
 pub record KeepsCover (dir : Directory) (o : Object) (pending : List Pending) : Type 0 where
   pub self : (o.number ≡ root → ⊥) → IsSettledOrCovered (placed dir o pending) o
-  pub others : (m : ℕ) (x : Object) → object_of dir.objects m ≡ Some x → covers dir.pending x.parent m ≡ true → covers pending x.parent m ≡ true
-  pub children : (sd_at dir.objects o.number ≡ o.sd) ⊎ ((m : ℕ) (x : Object) → object_of dir.objects m ≡ Some x → x.parent ≡ o.number → covers pending o.number m ≡ true)
+  pub others : (m : ℕ) (x : Object) → object_of dir.objects m ≡ Some x → covers dir.pending x.parent m ≡ true
+      → covers pending x.parent m ≡ true
+  pub children : (sd_at dir.objects o.number ≡ o.sd)
+      ⊎ ((m : ℕ) (x : Object) → object_of dir.objects m ≡ Some x → x.parent ≡ o.number → covers pending o.number m
+      ≡ true)
 
-pub keep : (dir : Directory) (o : Object) (pending : List Pending) → InheritsBut o.number dir → KeepsCover dir o pending → Inherits (placed dir o pending)
+pub keep : (dir : Directory) (o : Object) (pending : List Pending) → InheritsBut o.number dir
+    → KeepsCover dir o pending → Inherits (placed dir o pending)
 keep dir o pending before keeps = record { each = each }
   where
     after : Directory
     after = placed dir o pending
 
-    other_parent : (x : Object) → (x.number ≡ root → ⊥) → (o.number ≡ x.parent → ⊥) → x.sd ≡ whole_at dir x → x.sd ≡ whole_at (placed dir o pending) x
+    other_parent : (x : Object) → (x.number ≡ root → ⊥) → (o.number ≡ x.parent → ⊥) → x.sd ≡ whole_at dir x → x.sd
+        ≡ whole_at (placed dir o pending) x
     other_parent x not_root apart settled =
         settled ∙ whole_below dir x not_root
-        ∙ ap (λ (parent : Object). whole parent.sd x.sd (guid_at dir.schema x.class)) (sym (at-put_other o dir.objects x.parent apart))
+        ∙ ap (λ (parent : Object). whole parent.sd x.sd (guid_at dir.schema x.class))
+        (sym (at-put_other o dir.objects x.parent apart))
         ∙ sym (whole_below (placed dir o pending) x not_root)
 
-    same_parent : (x : Object) → (x.number ≡ root → ⊥) → x.parent ≡ o.number → sd_at dir.objects o.number ≡ o.sd → x.sd ≡ whole_at dir x → x.sd ≡ whole_at (placed dir o pending) x
+    same_parent : (x : Object) → (x.number ≡ root → ⊥) → x.parent ≡ o.number → sd_at dir.objects o.number ≡ o.sd
+        → x.sd ≡ whole_at dir x → x.sd ≡ whole_at (placed dir o pending) x
     same_parent x not_root is unchanged settled =
         let old : sd_at dir.objects x.parent ≡ o.sd = rw is unchanged in
-        let new : sd_at (put o dir.objects) x.parent ≡ o.sd = rw is (ap (λ (y : Object). y.sd) (at-put_same o dir.objects)) in
+        let new : sd_at (put o dir.objects) x.parent ≡ o.sd
+        = rw is (ap (λ (y : Object). y.sd) (at-put_same o dir.objects)) in
         settled ∙ whole_below dir x not_root
         ∙ ap (λ (sd : Sd). whole sd x.sd (guid_at dir.schema x.class)) (old ∙ sym new)
         ∙ sym (whole_below (placed dir o pending) x not_root)
 
-    was_settled : (m : ℕ) (x : Object) → object_of dir.objects m ≡ Some x → (x.number ≡ root → ⊥) → IsSettled dir x → IsSettledOrCovered (placed dir o pending) x
+    was_settled : (m : ℕ) (x : Object) → object_of dir.objects m ≡ Some x → (x.number ≡ root → ⊥) → IsSettled dir x
+        → IsSettledOrCovered (placed dir o pending) x
     was_settled m x is not_root settled =
         elim (cases_Bool (nat_eq o.number x.parent)) [
           | inl child ↦
@@ -102,18 +114,23 @@ keep dir o pending before keeps = record { each = each }
           | inr apart ↦ inl (other_parent x not_root (eqb-false o.number x.parent apart) settled)
         ]
 
-    was_covered : (m : ℕ) (x : Object) → object_of dir.objects m ≡ Some x → covers dir.pending x.parent x.number ≡ true → IsSettledOrCovered (placed dir o pending) x
+    was_covered : (m : ℕ) (x : Object) → object_of dir.objects m ≡ Some x → covers dir.pending x.parent x.number
+        ≡ true → IsSettledOrCovered (placed dir o pending) x
     was_covered m x is covered =
         let number : x.number ≡ m = of_number dir.objects m x is in
         inr (rw number (keeps.others m x is (rw number at covered)))
 
-    each : (m : ℕ) (x : Object) → object_of (put o dir.objects) m ≡ Some x → (m ≡ root → ⊥) → IsSettledOrCovered (placed dir o pending) x
+    each : (m : ℕ) (x : Object) → object_of (put o dir.objects) m ≡ Some x → (m ≡ root → ⊥)
+        → IsSettledOrCovered (placed dir o pending) x
     each m x is not_root =
         elim (cases_Bool (nat_eq o.number m)) [
           | inl same ↦
               let number : o.number ≡ m = eqb-true o.number m same in
-              let itself : o ≡ x = same_Some o x (sym (of-put_same o dir.objects) ∙ subst (λ (n : ℕ). object_of (put o dir.objects) n ≡ Some x) (sym number) is) in
-              subst (λ (y : Object). IsSettledOrCovered (placed dir o pending) y) itself (keeps.self (λ (e : o.number ≡ root). not_root (sym number ∙ e)))
+              let itself : o ≡ x = same_Some o x
+              (sym (of-put_same o dir.objects) ∙ subst (λ (n : ℕ). object_of (put o dir.objects) n ≡ Some x)
+              (sym number) is) in
+              subst (λ (y : Object). IsSettledOrCovered (placed dir o pending) y) itself
+              (keeps.self (λ (e : o.number ≡ root). not_root (sym number ∙ e)))
           | inr differ ↦
               let apart : o.number ≡ m → ⊥ = eqb-false o.number m differ in
               let old : object_of dir.objects m ≡ Some x = sym (of-put_other o dir.objects m apart) ∙ is in
@@ -128,28 +145,39 @@ keep dir o pending before keeps = record { each = each }
 -- ---- writing
 
 -- an object that is put with the descriptor that it should have is settled
-pub settled_is : (dir : Directory) (o : Object) (pending : List Pending) → (o.number ≡ root → ⊥) → (o.number ≡ o.parent → ⊥) → IsSettled (placed dir (settled dir o) pending) (settled dir o)
+pub settled_is : (dir : Directory) (o : Object) (pending : List Pending) → (o.number ≡ root → ⊥)
+    → (o.number ≡ o.parent → ⊥) → IsSettled (placed dir (settled dir o) pending) (settled dir o)
 settled_is dir o pending not_root apart =
-    let before : sd_at (put (settled dir o) dir.objects) o.parent ≡ sd_at dir.objects o.parent = ap (λ (x : Object). x.sd) (at-put_other (settled dir o) dir.objects o.parent apart) in
+    let before : sd_at (put (settled dir o) dir.objects) o.parent ≡ sd_at dir.objects o.parent
+    = ap (λ (x : Object). x.sd) (at-put_other (settled dir o) dir.objects o.parent apart) in
     whole_below dir o not_root
-    ∙ sym (whole-whole (sd_at dir.objects o.parent) (sd_at dir.objects o.parent) o.sd (guid_at dir.schema o.class) (guid_at dir.schema o.class))
-    ∙ ap (λ (sd : Sd). whole sd (whole (sd_at dir.objects o.parent) o.sd (guid_at dir.schema o.class)) (guid_at dir.schema o.class)) (sym before)
-    ∙ ap (λ (sd : Sd). whole (sd_at (put (settled dir o) dir.objects) o.parent) sd (guid_at dir.schema o.class)) (sym (whole_below dir o not_root))
+    ∙ sym (whole-whole (sd_at dir.objects o.parent) (sd_at dir.objects o.parent) o.sd (guid_at dir.schema o.class)
+    (guid_at dir.schema o.class))
+    ∙ ap (λ (sd : Sd). whole sd (whole (sd_at dir.objects o.parent) o.sd (guid_at dir.schema o.class))
+    (guid_at dir.schema o.class)) (sym before)
+    ∙ ap (λ (sd : Sd). whole (sd_at (put (settled dir o) dir.objects) o.parent) sd (guid_at dir.schema o.class))
+    (sym (whole_below dir o not_root))
     ∙ sym (whole_below (placed dir (settled dir o) pending) (settled dir o) not_root)
 
 -- the one rule: the object gets what it should have and is marked where its descriptor changed
 pub stored_inherits : (dir : Directory) (o : Object) → Rise dir.objects → InheritsBut o.number dir
     → ((o.number ≡ root → ⊥) → IsSettledOrCovered (stored dir o) o) → Inherits (stored dir o)
 unfolding stored
-stored_inherits dir o rise before self = keep dir o (marked_if_changed (sd_at dir.objects o.number) o dir.pending) before (record {
-  self = self;
-  others = λ m x is covered. marked_if_keeps (sd_at dir.objects o.number) o x.parent m dir.pending (of_above 0 dir.objects m x rise is) covered;
-  children = elim (cases_Bool (same_sd (sd_at dir.objects o.number) o.sd)) [
-    | inl same ↦ inl (same_sd-is (sd_at dir.objects o.number) o.sd same)
-    | inr differ ↦ inr (λ m x is _. marked_if_changed_covers (sd_at dir.objects o.number) o m dir.pending (of_above 0 dir.objects m x rise is) differ)
-  ];
-})
+stored_inherits dir o rise before self = keep dir o (marked_if_changed (sd_at dir.objects o.number) o dir.pending)
+    before (record {
+      self = self;
+      others = λ m x is covered. marked_if_keeps (sd_at dir.objects o.number) o x.parent m dir.pending
+          (of_above 0 dir.objects m x rise is) covered;
+      children = elim (cases_Bool (same_sd (sd_at dir.objects o.number) o.sd)) [
+        | inl same ↦ inl (same_sd-is (sd_at dir.objects o.number) o.sd same)
+        | inr differ ↦ inr (λ m x is _. marked_if_changed_covers (sd_at dir.objects o.number) o m dir.pending
+            (of_above 0 dir.objects m x rise is) differ)
+      ];
+    })
 
-pub written_inherits : (dir : Directory) (o : Object) → Rise dir.objects → InheritsBut o.number dir → (o.number ≡ o.parent → ⊥) → Inherits (written dir o)
+pub written_inherits : (dir : Directory) (o : Object) → Rise dir.objects → InheritsBut o.number dir
+    → (o.number ≡ o.parent → ⊥) → Inherits (written dir o)
 unfolding written stored
-written_inherits dir o rise before apart = stored_inherits dir (settled dir o) rise before (λ not_root. inl (settled_is dir o (marked_if_changed (sd_at dir.objects o.number) (settled dir o) dir.pending) not_root apart))
+written_inherits dir o rise before apart = stored_inherits dir (settled dir o) rise before
+    (λ not_root. inl (settled_is dir o (marked_if_changed (sd_at dir.objects o.number) (settled dir o) dir.pending)
+    not_root apart))

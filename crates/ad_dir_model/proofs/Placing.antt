@@ -24,19 +24,24 @@ pub record IsFromBefore (o : Object) (objects : List Object) (m : ℕ) (x : Obje
 abbrev pub PutOrBefore : Object → List Object → ℕ → Object → Type 0
 PutOrBefore o objects m x = (o ≡ x) ⊎ IsFromBefore o objects m x
 
-pub put_or_before : (o : Object) (objects : List Object) (m : ℕ) (x : Object) → object_of (put o objects) m ≡ Some x → PutOrBefore o objects m x
+pub put_or_before : (o : Object) (objects : List Object) (m : ℕ) (x : Object) → object_of (put o objects) m ≡ Some x
+    → PutOrBefore o objects m x
 put_or_before o objects m x is =
     elim (cases_Bool (nat_eq o.number m)) [
       | inl same ↦
           let number : o.number ≡ m = eqb-true o.number m same in
-          inl (same_Some o x (sym (of-put_same o objects) ∙ subst (λ (n : ℕ). object_of (put o objects) n ≡ Some x) (sym number) is))
+          inl (same_Some o x (sym (of-put_same o objects) ∙ subst (λ (n : ℕ). object_of (put o objects) n ≡ Some x)
+          (sym number) is))
       | inr differ ↦
           let apart : o.number ≡ m → ⊥ = eqb-false o.number m differ in
           let old : object_of objects m ≡ Some x = sym (of-put_other o objects m apart) ∙ is in
           inr (record { apart = apart; live = old; number = of_number objects m x old })
     ]
 
-pub all_live_more : (objects more : List Object) (numbers : List ℕ) → ((n : ℕ) → is_live objects n ≡ true → is_live more n ≡ true) → AllByRecursion (λ (n : ℕ). is_live objects n ≡ true) numbers → AllByRecursion (λ (n : ℕ). is_live more n ≡ true) numbers
+pub all_live_more : (objects more : List Object) (numbers : List ℕ)
+    → ((n : ℕ) → is_live objects n ≡ true → is_live more n ≡ true)
+    → AllByRecursion (λ (n : ℕ). is_live objects n ≡ true) numbers → AllByRecursion (λ (n : ℕ). is_live more n ≡ true)
+    numbers
 all_live_more objects more [] keeps all = tt
 all_live_more objects more (n ∷ ns) keeps all = (keeps n all.0, all_live_more objects more ns keeps all.1)
 
@@ -56,7 +61,8 @@ put_sid dir o may m other sid is has_sid own =
       | inr before ↦ may.own_sid m other sid before.live has_sid own
     ]
 
-pub before_name : (dir : Directory) (o : Object) → Fits dir o → (m : ℕ) (x : Object) → object_of dir.objects m ≡ Some x → HasOwnName dir.objects x → HasOwnName (put o dir.objects) x
+pub before_name : (dir : Directory) (o : Object) → Fits dir o → (m : ℕ) (x : Object) → object_of dir.objects m
+    ≡ Some x → HasOwnName dir.objects x → HasOwnName (put o dir.objects) x
 before_name dir o may m x live own k other is same_parent same_name =
     elim (put_or_before o dir.objects k other is) [
       | inl itself ↦
@@ -66,7 +72,8 @@ before_name dir o may m x live own k other is same_parent same_name =
       | inr before ↦ own k other before.live same_parent same_name
     ]
 
-pub before_sid : (dir : Directory) (o : Object) → Fits dir o → (m : ℕ) (x : Object) → object_of dir.objects m ≡ Some x → HasOwnSid dir.schema dir.objects x → HasOwnSid dir.schema (put o dir.objects) x
+pub before_sid : (dir : Directory) (o : Object) → Fits dir o → (m : ℕ) (x : Object) → object_of dir.objects m ≡ Some x
+    → HasOwnSid dir.schema dir.objects x → HasOwnSid dir.schema (put o dir.objects) x
 before_sid dir o may m x live own k other sid is has_sid x_sid =
     elim (put_or_before o dir.objects k other is) [
       | inl itself ↦
@@ -93,7 +100,8 @@ each_placed dir o pending each may stands m x is =
           record {
             content = old.content;
             stands = stands m x is;
-            links = all_live_more dir.objects (put o dir.objects) (links_in x.values) (live-put o dir.objects) old.links;
+            links = all_live_more dir.objects (put o dir.objects) (links_in x.values) (live-put o dir.objects)
+                old.links;
             own_name = before_name dir o may m x before.live old.own_name;
             own_sid = before_sid dir o may m x before.live old.own_sid;
           }

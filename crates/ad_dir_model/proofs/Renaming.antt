@@ -11,9 +11,11 @@ use Rattle.ad_dir_model.specs.Conditions.{MayReplace, MayMove}
 use Rattle.ad_dir_model.proofs.Finding.{at_number}
 use Rattle.ad_dir_model.proofs.Writing.{changed_sound, moved_sound}
 
-pub renamed_sound : (dir : Directory) (number parent : ℕ) (name : List ℕ) → IsSound dir → is_live dir.objects number ≡ true
+pub renamed_sound : (dir : Directory) (number parent : ℕ) (name : List ℕ) → IsSound dir → is_live dir.objects number
+    ≡ true
     → MayReplace dir (renamed_object (object_at dir.objects number) parent name)
-    → (((object_at dir.objects number).parent ≡ parent → ⊥) → MayMove dir (renamed_object (object_at dir.objects number) parent name))
+    → (((object_at dir.objects number).parent ≡ parent → ⊥)
+    → MayMove dir (renamed_object (object_at dir.objects number) parent name))
     → IsSound (renamed dir number parent name)
 unfolding renamed
 renamed_sound dir number parent name sound live may move =
@@ -21,7 +23,8 @@ renamed_sound dir number parent name sound live may move =
       | inl same ↦ rw same (changed_sound dir object sound may
           (sym (eqb-true (object_at dir.objects number).parent parent same) ∙ ap (λ (x : Object). x.parent) at)
           (record { class = ap (λ (x : Object). x.class) at; sd = ap (λ (x : Object). x.sd) at }))
-      | inr differ ↦ rw differ (moved_sound dir object sound may (move (eqb-false (object_at dir.objects number).parent parent differ)))
+      | inr differ ↦ rw differ (moved_sound dir object sound may
+          (move (eqb-false (object_at dir.objects number).parent parent differ)))
     ]
   where
     object : Object

@@ -65,7 +65,8 @@ sid_same a = (same_sid-Decides a a).1 refl
 -- ---- entries
 
 make_entry : AceKind → ℕ → ℕ → Option Guid → Option Guid → SidValue → Entry
-make_entry kind flags mask object inherited sid = record { kind = kind; flags = flags; mask = mask; object = object; inherited = inherited; sid = sid }
+make_entry kind flags mask object inherited sid
+    = record { kind = kind; flags = flags; mask = mask; object = object; inherited = inherited; sid = sid }
 
 entry_is : (a b : Entry) → same_entry a b ≡ true → a ≡ b
 unfolding make_entry
@@ -90,7 +91,15 @@ entry_is a b same =
 
 entry_same : (a : Entry) → same_entry a a ≡ true
 entry_same a =
-    rw (kind_same a.kind, eq-eqb a.flags a.flags refl, eq-eqb a.mask a.mask refl, type_same a.object, type_same a.inherited, sid_same a.sid) refl
+    rw (
+      kind_same a.kind,
+      eq-eqb a.flags a.flags refl,
+      eq-eqb a.mask a.mask refl,
+      type_same a.object,
+      type_same
+          a.inherited,
+      sid_same a.sid,
+    ) refl
 
 entries_are : (xs ys : List Entry) → same_entries xs ys ≡ true → xs ≡ ys
 entries_are [] [] same = refl
@@ -117,7 +126,8 @@ list_is a b same =
     ∙ ap (λ (xs : List Entry). make_list b.protected xs) (entries_are a.entries b.entries parts.1)
 
 list_same : (a : AceList) → same_list a a ≡ true
-list_same a = and_from (same_mark a.protected a.protected) (same_entries a.entries a.entries) (mark_same a.protected) (entries_same a.entries)
+list_same a = and_from (same_mark a.protected a.protected) (same_entries a.entries a.entries) (mark_same a.protected)
+    (entries_same a.entries)
 
 make_sd : SidValue → SidValue → AceList → AceList → Sd
 make_sd owner group dacl sacl = record { owner = owner; group = group; dacl = dacl; sacl = sacl }

@@ -16,14 +16,17 @@ use Rattle.ad_dir_model.proofs.ScratchLaws.{stands_root, stands_below}
 use Rattle.ad_dir_model.proofs.Placing.{put_or_before}
 
 -- the parents are the old ones
-parent_put : (o : Object) (objects : List Object) (n : ℕ) → o.parent ≡ parent_at objects o.number → parent_at (put o objects) n ≡ parent_at objects n
+parent_put : (o : Object) (objects : List Object) (n : ℕ) → o.parent ≡ parent_at objects o.number
+    → parent_at (put o objects) n ≡ parent_at objects n
 parent_put o objects n same =
     elim (cases_Bool (nat_eq o.number n)) [
-      | inl here ↦ subst (λ (k : ℕ). parent_at (put o objects) k ≡ parent_at objects k) (eqb-true o.number n here) (ap (λ (x : Object). x.parent) (at-put_same o objects) ∙ same)
+      | inl here ↦ subst (λ (k : ℕ). parent_at (put o objects) k ≡ parent_at objects k) (eqb-true o.number n here)
+          (ap (λ (x : Object). x.parent) (at-put_same o objects) ∙ same)
       | inr other ↦ ap (λ (x : Object). x.parent) (at-put_other o objects n (eqb-false o.number n other))
     ]
 
-pub parents_put : (o : Object) (objects : List Object) → o.parent ≡ parent_at objects o.number → parent_at (put o objects) ≡ parent_at objects
+pub parents_put : (o : Object) (objects : List Object) → o.parent ≡ parent_at objects o.number
+    → parent_at (put o objects) ≡ parent_at objects
 parents_put o objects same = λ i n. parent_put o objects n same i
 
 -- ---- from what is asked of the root and below it
@@ -43,21 +46,31 @@ pub record StaysInPlace (dir : Directory) (o : Object) : Type 0 where
   pub explicit : o.number ≡ root → explicit_part o.sd ≡ o.sd
 
 pub same_parent : (dir : Directory) (o : Object) → StaysInPlace dir o → o.parent ≡ parent_at dir.objects o.number
-same_parent dir o stays = stays.parent ∙ ap (λ (x : Object). x.parent) (sym (at-of dir.objects o.number stays.old stays.live))
+same_parent dir o stays = stays.parent ∙ ap (λ (x : Object). x.parent)
+    (sym (at-of dir.objects o.number stays.old stays.live))
 
-pub placed_again : (dir : Directory) (o : Object) (n : ℕ) → StaysInPlace dir o → IsPlaced (parents dir) n → IsPlaced (parent_at (put o dir.objects)) n
-placed_again dir o n stays is = subst (λ (parent : ℕ → ℕ). IsPlaced parent n) (sym (parents_put o dir.objects (same_parent dir o stays))) is
+pub placed_again : (dir : Directory) (o : Object) (n : ℕ) → StaysInPlace dir o → IsPlaced (parents dir) n
+    → IsPlaced (parent_at (put o dir.objects)) n
+placed_again dir o n stays is = subst (λ (parent : ℕ → ℕ). IsPlaced parent n)
+    (sym (parents_put o dir.objects (same_parent dir o stays))) is
 
-put_stands : (dir : Directory) (o old : Object) (pending : List Pending) → StaysInPlace dir o → o.parent ≡ old.parent → o.number ≡ old.number → Stands dir old
+put_stands : (dir : Directory) (o old : Object) (pending : List Pending) → StaysInPlace dir o → o.parent ≡ old.parent
+    → o.number ≡ old.number → Stands dir old
     → ((o.number ≡ root → ⊥) → IsSettledOrCovered (placed dir o pending) o) → Stands (placed dir o pending) o
 put_stands dir o old pending stays parent number before inherits =
     elim (cases_Bool (nat_eq o.number root)) [
       | inl same ↦
           let is : o.number ≡ root = eqb-true o.number root same in
-          stands_from_root (placed dir o pending) o is (record { no_parent = parent ∙ (stands_root dir old (sym number ∙ is) before).no_parent; explicit = stays.explicit is })
+          stands_from_root (placed dir o pending) o is
+          (record {
+            no_parent = parent ∙ (stands_root dir old (sym number ∙ is) before).no_parent;
+            explicit
+                = stays.explicit is;
+          })
       | inr differ ↦
           let not_root : o.number ≡ root → ⊥ = eqb-false o.number root differ in
-          let below : IsBelowRoot dir old = stands_below dir old (λ (e : old.number ≡ root). not_root (number ∙ e)) before in
+          let below : IsBelowRoot dir old = stands_below dir old (λ (e : old.number ≡ root). not_root (number ∙ e))
+          before in
           stands_from_below (placed dir o pending) o not_root (record {
             parent_live = live-put o dir.objects o.parent (rw parent below.parent_live);
             placed = placed_again dir o o.number stays (rw number below.placed);
@@ -82,14 +95,16 @@ other_stands dir o x pending stays before inherits =
           })
     ]
 
-pub each_stands : (dir : Directory) (o : Object) (pending : List Pending) → EachIsSound dir → StaysInPlace dir o → Inherits (placed dir o pending)
+pub each_stands : (dir : Directory) (o : Object) (pending : List Pending) → EachIsSound dir → StaysInPlace dir o
+    → Inherits (placed dir o pending)
     → (m : ℕ) (x : Object) → object_of (put o dir.objects) m ≡ Some x → Stands (placed dir o pending) x
 each_stands dir o pending each stays inherits m x is =
     elim (put_or_before o dir.objects m x is) [
       | inl itself ↦
           let old_number : stays.old.number ≡ o.number = of_number dir.objects o.number stays.old stays.live in
           subst (Stands (placed dir o pending)) itself
-          (put_stands dir o stays.old pending stays stays.parent (sym old_number) (each o.number stays.old stays.live).stands
+          (put_stands dir o stays.old pending stays stays.parent (sym old_number)
+          (each o.number stays.old stays.live).stands
           (λ not_root. inherits.each o.number o (of-put_same o dir.objects) not_root))
       | inr before ↦
           other_stands dir o x pending stays (each m x before.live).stands

@@ -1,5 +1,6 @@
 -- The values of an object with those of one attribute replaced.
-use Rattle.std.proofs.Common.{◌≡◌, ℕ, zero, suc, ◌+◌, ◌<◌, ◌≤◌, Bool, true, false, List, [], ◌∷◌, ◌++◌, Option, Some, None, ◌⊎◌, inl, inr, refl, sym, subst, ap, arith, ◌∙◌}
+use Rattle.std.proofs.Common.{◌≡◌, ℕ, zero, suc, ◌+◌, ◌<◌, ◌≤◌, Bool, true, false, List, [], ◌∷◌, ◌++◌, Option, Some}
+use Rattle.std.proofs.Common.{None, ◌⊎◌, inl, inr, refl, sym, subst, ap, arith, ◌∙◌}
 use Rattle.std.specs.Prelude.{nat_eq, nat_lt, if◌then◌else◌, filter_map, find}
 use Rattle.std.specs.List.{AllByRecursion, flat_map}
 use Rattle.std.specs.Option.{option_map_or}
@@ -14,7 +15,8 @@ use Rattle.ad_dir_model.proofs.Unlinking.{all_append, all_front}
 abbrev pub held_of : ℕ → List Stored → Held
 held_of attr values = record { attr = attr; values = values }
 
-pub stored_same : (attr : ℕ) (new : List Stored) (values : List Held) → stored_in (with_values attr new values) attr ≡ new
+pub stored_same : (attr : ℕ) (new : List Stored) (values : List Held) → stored_in (with_values attr new values) attr
+    ≡ new
 unfolding stored_in with_values
 stored_same attr new [] = rw (eq-eqb attr attr refl) refl
 stored_same attr new (h ∷ hs) =
@@ -26,7 +28,8 @@ stored_same attr new (h ∷ hs) =
       ]
     ]
 
-pub stored_other : (attr other : ℕ) (new : List Stored) (values : List Held) → (attr ≡ other → ⊥) → stored_in (with_values attr new values) other ≡ stored_in values other
+pub stored_other : (attr other : ℕ) (new : List Stored) (values : List Held) → (attr ≡ other → ⊥)
+    → stored_in (with_values attr new values) other ≡ stored_in values other
 unfolding stored_in with_values
 stored_other attr other new [] apart = rw (ne_eqb attr other apart) refl
 stored_other attr other new (h ∷ hs) apart =
@@ -44,7 +47,8 @@ stored_other attr other new (h ∷ hs) apart =
       ]
     ]
 
-pub rise_with : (attr : ℕ) (new : List Stored) (least : ℕ) (values : List Held) → AttrsRiseFrom least values → least ≤ attr → AttrsRiseFrom least (with_values attr new values)
+pub rise_with : (attr : ℕ) (new : List Stored) (least : ℕ) (values : List Held) → AttrsRiseFrom least values → least
+    ≤ attr → AttrsRiseFrom least (with_values attr new values)
 unfolding with_values
 rise_with attr new least [] rise le = (le, tt)
 rise_with attr new least (h ∷ hs) rise le =
@@ -60,7 +64,8 @@ rise_with attr new least (h ∷ hs) rise le =
       ]
     ]
 
-pub each_with : (P : Held → Type 0) (attr : ℕ) (new : List Stored) (values : List Held) → P (held_of attr new) → AllByRecursion P values → AllByRecursion P (with_values attr new values)
+pub each_with : (P : Held → Type 0) (attr : ℕ) (new : List Stored) (values : List Held) → P (held_of attr new)
+    → AllByRecursion P values → AllByRecursion P (with_values attr new values)
 unfolding with_values
 each_with P attr new [] here all = (here, tt)
 each_with P attr new (h ∷ hs) here all =
@@ -72,7 +77,9 @@ each_with P attr new (h ∷ hs) here all =
       ]
     ]
 
-pub links_with : (P : ℕ → Type 0) (attr : ℕ) (new : List Stored) (values : List Held) → AllByRecursion P (filter_map linked new) → AllByRecursion P (links_in values) → AllByRecursion P (links_in (with_values attr new values))
+pub links_with : (P : ℕ → Type 0) (attr : ℕ) (new : List Stored) (values : List Held)
+    → AllByRecursion P (filter_map linked new) → AllByRecursion P (links_in values)
+    → AllByRecursion P (links_in (with_values attr new values))
 unfolding with_values links_in
 links_with P attr new [] here all = all_append P (filter_map linked new) [] here tt
 links_with P attr new (h ∷ hs) here all =
@@ -81,12 +88,15 @@ links_with P attr new (h ∷ hs) here all =
       | inl same ↦ rw same (all_append P (filter_map linked new) (links_in hs) here parts.1)
       | inr differ ↦ elim (cases_Bool (nat_lt attr h.attr)) [
         | inl less ↦ rw (differ, less) (all_append P (filter_map linked new) (links_in (h ∷ hs)) here all)
-        | inr more ↦ rw (differ, more) (all_append P (filter_map linked h.values) (links_in (with_values attr new hs)) parts.0 (links_with P attr new hs here parts.1))
+        | inr more ↦ rw (differ, more) (all_append P (filter_map linked h.values) (links_in (with_values attr new hs))
+            parts.0 (links_with P attr new hs here parts.1))
       ]
     ]
 
 -- values that weigh nothing make nothing heavier
-pub weight_with : (schema : List SchemaRecord) (attr : ℕ) (new : List Stored) (values : List Held) → held_weight schema (held_of attr new) ≡ 0 → all_held_weight schema (with_values attr new values) ≤ all_held_weight schema values
+pub weight_with : (schema : List SchemaRecord) (attr : ℕ) (new : List Stored) (values : List Held)
+    → held_weight schema (held_of attr new) ≡ 0 → all_held_weight schema (with_values attr new values)
+    ≤ all_held_weight schema values
 unfolding with_values all_held_weight
 weight_with schema attr new [] none = omega arith
 weight_with schema attr new (h ∷ hs) none =
@@ -95,7 +105,8 @@ weight_with schema attr new (h ∷ hs) none =
       | inr differ ↦ elim (cases_Bool (nat_lt attr h.attr)) [
         | inl less ↦ rw (differ, less) (omega arith)
         | inr more ↦
-            let rest : all_held_weight schema (with_values attr new hs) ≤ all_held_weight schema hs = weight_with schema attr new hs none in
+            let rest : all_held_weight schema (with_values attr new hs) ≤ all_held_weight schema hs
+            = weight_with schema attr new hs none in
             rw (differ, more) (omega arith)
       ]
     ]

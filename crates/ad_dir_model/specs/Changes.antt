@@ -1,5 +1,6 @@
 -- What a change makes of a directory. Whether it is allowed, and within the limits, is asked before.
-use Rattle.std.specs.Prelude.{ℕ, ◌+◌, nat_lt, Bool, true, not, ◌==◌, ◌||◌, if◌then◌else◌, Option, Some, None, List, [], ◌∷◌, map, filter, filter_map}
+use Rattle.std.specs.Prelude.{ℕ, ◌+◌, nat_lt, Bool, true, not, ◌==◌, ◌||◌, if◌then◌else◌, Option, Some, None, List}
+use Rattle.std.specs.Prelude.{[], ◌∷◌, map, filter, filter_map}
 use Rattle.std.specs.Option.{option_and_then}
 use Rattle.ad_ids.specs.SidValue.{SidValue}
 use Rattle.ad_ids.specs.Sid.{sid_bytes}
@@ -43,10 +44,11 @@ renamed dir number parent name =
 
 -- ---- an addition
 
--- The identifier that an object of the class gets: where the class must have one and the domain has one with fewer than
--- 15 numbers, the domain's with next_rid.
+-- The identifier that an object of the class gets: where the class must have one and the domain has one with fewer
+-- than 15 numbers, the domain's with next_rid.
 unfoldable pub new_sid : Directory → ℕ → Option SidValue
-new_sid dir class = option_and_then (λ attr. if is_must dir.schema class attr then domain_child dir dir.meta.next_rid else None) (object_sid dir.schema)
+new_sid dir class = option_and_then (λ attr. if is_must dir.schema class attr then domain_child dir dir.meta.next_rid
+    else None) (object_sid dir.schema)
 
 abbrev pub with_new_sid : Option ℕ → Option SidValue → List Held → List Held
 with_new_sid (Some attr) (Some sid) values = with_values attr (plain (as_shown (sid_bytes sid)) ∷ []) values
@@ -54,7 +56,11 @@ with_new_sid _ _ values = values
 
 -- the object with the next number and its identifier
 abbrev pub numbered : Directory → Object → Object
-numbered dir o = record o { number = dir.meta.next_number; values = with_new_sid (object_sid dir.schema) (new_sid dir o.class) o.values }
+numbered dir o = record o {
+  number = dir.meta.next_number;
+  values = with_new_sid (object_sid dir.schema)
+      (new_sid dir o.class) o.values;
+}
 
 abbrev pub counted_on : Meta → Option SidValue → Meta
 counted_on meta None = record meta { next_number = meta.next_number + 1 }

@@ -13,8 +13,8 @@ pub record Meta : Type 0 where
   pub next_rid : ℕ
   pub suffix : List Rdn
 
--- The objects stand by rising number. The pending list has the parents whose children are still to take over what they
--- pass down. The schema is the list of its records.
+-- The objects stand by rising number. The pending list has the parents whose children are still to take over what
+-- they pass down. The schema is the list of its records.
 pub record Directory : Type 0 where
   pub schema : List SchemaRecord
   pub objects : List Object

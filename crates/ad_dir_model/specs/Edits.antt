@@ -26,7 +26,8 @@ write_edits dir o = store_edits dir (settled dir o)
 abbrev pub rename_edits : Directory → ℕ → ℕ → List ℕ → List Edit
 rename_edits dir number parent name =
     let o = object_at dir.objects number in
-    if o.parent == parent then change_edits (renamed_object o parent name) else write_edits dir (renamed_object o parent name)
+    if o.parent == parent then change_edits (renamed_object o parent name)
+    else write_edits dir (renamed_object o parent name)
 
 abbrev pub add_edits : Directory → Object → List Edit
 add_edits dir o = put_object (settled dir (numbered dir o)) ∷ put_meta (counted_on dir.meta (new_sid dir o.class)) ∷ []
@@ -35,7 +36,8 @@ add_edits dir o = put_object (settled dir (numbered dir o)) ∷ put_meta (counte
 
 abbrev pub head_edits : Directory → List Pending → Option ℕ → List Edit
 head_edits dir others None = put_queue others ∷ []
-head_edits dir others (Some child) = write_edits (with_pending (advanced child dir.pending) dir) (object_at dir.objects child)
+head_edits dir others (Some child) = write_edits (with_pending (advanced child dir.pending) dir)
+    (object_at dir.objects child)
 
 abbrev pub pending_edits : Directory → List Pending → List Edit
 pending_edits dir [] = []
@@ -46,12 +48,13 @@ step_edits dir = pending_edits dir dir.pending
 
 -- ---- a deletion
 
--- The pending list first, then the objects that lose links, and then the objects that go, in any order: children before
--- their parents, so that each of them has none when it goes.
+-- The pending list first, then the objects that lose links, and then the objects that go, in any order: children
+-- before their parents, so that each of them has none when it goes.
 abbrev pub delete_edits : Directory → ℕ → List ℕ → List ℕ → List Edit
 delete_edits dir number losing going =
     put_queue (filter (λ entry. not (goes_with dir number entry.parent)) dir.pending)
-    ∷ (map (λ n. put_object (unlinked (goes_with dir number) (object_at dir.objects n))) losing ++ map (λ n. remove_object n) going)
+    ∷ (map (λ n. put_object (unlinked (goes_with dir number) (object_at dir.objects n))) losing
+    ++ map (λ n. remove_object n) going)
 
 -- ---- a protection run
 

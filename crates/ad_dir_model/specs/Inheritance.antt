@@ -1,5 +1,6 @@
 -- What inheritance says of an object, and the one rule of writing and marking.
-use Rattle.std.specs.Prelude.{◌≡◌, ◌⊎◌, ℕ, zero, suc, nat_lt, Bool, true, ◌==◌, ◌&&◌, if◌then◌else◌, unwrap_or, slice_get, List}
+use Rattle.std.specs.Prelude.{◌≡◌, ◌⊎◌, ℕ, zero, suc, nat_lt, Bool, true, ◌==◌, ◌&&◌, if◌then◌else◌, unwrap_or}
+use Rattle.std.specs.Prelude.{slice_get, List}
 use Rattle.std.specs.List.{list_any}
 use Rattle.ad_ids.specs.declared.guid.Guid.{Guid}
 use Rattle.ad_sd.specs.declared.parts.Sd.{Sd}

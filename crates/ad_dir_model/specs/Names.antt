@@ -1,5 +1,6 @@
 -- The names of objects, and the object of a name (RFC 4514).
-use Rattle.std.specs.Prelude.{ℕ, zero, suc, Bool, true, false, ◌==◌, ◌&&◌, if◌then◌else◌, Option, Some, None, codes, List, [], ◌∷◌, length, drop, find, reverse}
+use Rattle.std.specs.Prelude.{ℕ, zero, suc, Bool, true, false, ◌==◌, ◌&&◌, if◌then◌else◌, Option, Some, None, codes}
+use Rattle.std.specs.Prelude.{List, [], ◌∷◌, length, drop, find, reverse}
 use Rattle.std.specs.Option.{option_and_then}
 use Rattle.std.specs.Str.{bytes_eq, str_to_ascii_uppercase}
 use Rattle.ad_dn.specs.declared.rdn.Rdn.{Rdn}
@@ -61,16 +62,19 @@ abbrev pub number_if_typed : List SchemaRecord → Rdn → Object → Option ℕ
 number_if_typed schema rdn o = if same_rdn (rdn_of schema o) rdn then Some o.number else None
 
 unfoldable pub child_of_rdn : Directory → ℕ → Rdn → Option ℕ
-child_of_rdn dir parent rdn = option_and_then (number_if_typed dir.schema rdn) (child_named dir.objects parent rdn.value)
+child_of_rdn dir parent rdn = option_and_then (number_if_typed dir.schema rdn)
+    (child_named dir.objects parent rdn.value)
 
 -- part by part down from an object
 unfoldable pub found_below : Directory → ℕ → List Rdn → Option ℕ
 found_below dir number [] = Some number
-found_below dir number (rdn ∷ rdns) = option_and_then (λ child. found_below dir child rdns) (child_of_rdn dir number rdn)
+found_below dir number (rdn ∷ rdns) = option_and_then (λ child. found_below dir child rdns)
+    (child_of_rdn dir number rdn)
 
 -- the root's name from its end, and a name from its end that should begin so
 abbrev pub found_from_end : Directory → List Rdn → List Rdn → Option ℕ
-found_from_end dir top parts = if is_live dir.objects root && begins_with parts top then found_below dir root (drop (length top) parts) else None
+found_from_end dir top parts = if is_live dir.objects root && begins_with parts top then found_below dir root
+    (drop (length top) parts) else None
 
 -- The object of a name: from the end of the name the root's name, and then part by part down. The name without parts
 -- names no object.

@@ -1,5 +1,6 @@
 -- The objects of a directory, a list by rising number, and how they are found in it.
-use Rattle.std.specs.Prelude.{ℕ, ◌<◌, nat_lt, Bool, not, ◌==◌, ◌&&◌, if◌then◌else◌, Option, is_some, unwrap_or, List, [], ◌∷◌, map, filter, find}
+use Rattle.std.specs.Prelude.{ℕ, ◌<◌, nat_lt, Bool, not, ◌==◌, ◌&&◌, if◌then◌else◌, Option, is_some, unwrap_or, List}
+use Rattle.std.specs.Prelude.{[], ◌∷◌, map, filter, find}
 use Rattle.std.specs.Option.{option_map}
 use Rattle.ad_sd.specs.declared.parts.Sd.{Sd}
 use Rattle.ad_dir_model.specs.Object.{Object, no_object}

@@ -61,8 +61,8 @@ is_builtin sid number = is_sid (builtin number) sid
 abbrev pub is_of_domain : Directory → Option SidValue → ℕ → Bool
 is_of_domain dir sid rid = option_map_or (λ own. is_sid own sid) (domain_child dir rid) false
 
--- Administrators, Replicator, and of the domain Domain Admins, Schema Admins and Enterprise Admins. Account Operators,
--- Server Operators, Print Operators and Backup Operators, unless the settings take them out.
+-- Administrators, Replicator, and of the domain Domain Admins, Schema Admins and Enterprise Admins. Account
+-- Operators, Server Operators, Print Operators and Backup Operators, unless the settings take them out.
 unfoldable pub begins_protection : Directory → Option SidValue → Bool
 begins_protection dir sid =
     is_builtin sid 544 || (is_builtin sid 552
@@ -70,16 +70,18 @@ begins_protection dir sid =
     || ((is_builtin sid 550 && not (takes_out dir 2)) || ((is_builtin sid 551 && not (takes_out dir 3))
     || (is_of_domain dir sid 512 || (is_of_domain dir sid 518 || is_of_domain dir sid 519)))))))
 
--- Accounts of the domain that are protected and spread nothing: Administrator, krbtgt, Domain Controllers and Read-only
--- Domain Controllers.
+-- Accounts of the domain that are protected and spread nothing: Administrator, krbtgt, Domain Controllers and
+-- Read-only Domain Controllers.
 unfoldable pub is_protected_alone : Directory → Option SidValue → Bool
-is_protected_alone dir sid = is_of_domain dir sid 500 || (is_of_domain dir sid 502 || (is_of_domain dir sid 516 || is_of_domain dir sid 521))
+is_protected_alone dir sid = is_of_domain dir sid 500
+    || (is_of_domain dir sid 502 || (is_of_domain dir sid 516 || is_of_domain dir sid 521))
 
 -- ---- how it spreads
 
 -- the group's member names the object
 abbrev pub has_as_member : Directory → Object → ℕ → Bool
-has_as_member dir group number = option_map_or (λ attr. names number (stored_in group.values attr)) (member dir.schema) false
+has_as_member dir group number = option_map_or (λ attr. names number (stored_in group.values attr))
+    (member dir.schema) false
 
 -- the number that a value is, where it isn't negative
 abbrev pub number_in : Key → Option ℕ
@@ -89,7 +91,8 @@ number_in (key.Bytes bytes) = None
 
 -- the primary group of an object: the domain's identifier with its primaryGroupID
 unfoldable pub primary_group_sid : Directory → Object → Option SidValue
-primary_group_sid dir o = option_and_then (λ value. option_and_then (domain_child dir) (number_in value.key)) (first_of_attr (primary_group dir.schema) o)
+primary_group_sid dir o = option_and_then (λ value. option_and_then (domain_child dir) (number_in value.key))
+    (first_of_attr (primary_group dir.schema) o)
 
 abbrev pub has_as_primary : Directory → Object → Object → Bool
 has_as_primary dir o group = option_map_or (λ own. is_sid own (sid_in dir.schema group)) (primary_group_sid dir o) false
@@ -105,8 +108,10 @@ has set number = list_any (λ other. other == number) set
 
 -- The set has where protection begins, and with each of its objects all that have it as group.
 pub record IsClosed (dir : Directory) (set : List ℕ) : Type 0 where
-  pub begins : (number : ℕ) → is_live dir.objects number ≡ true → begins_protection dir (self_sid dir number) ≡ true → has set number ≡ true
-  pub spreads : (number group : ℕ) → is_live dir.objects number ≡ true → is_live dir.objects group ≡ true → has set group ≡ true
+  pub begins : (number : ℕ) → is_live dir.objects number ≡ true → begins_protection dir (self_sid dir number) ≡ true
+      → has set number ≡ true
+  pub spreads : (number group : ℕ) → is_live dir.objects number ≡ true → is_live dir.objects group ≡ true
+      → has set group ≡ true
       → has_group dir (object_at dir.objects number) (object_at dir.objects group) ≡ true → has set number ≡ true
 
 -- the object is in every such set, and so in the least
@@ -131,11 +136,13 @@ grown dir zero set = set
 grown dir (suc n) set = grown dir n (numbers_where (joins dir set) dir.objects)
 
 unfoldable pub spread : Directory → List ℕ
-spread dir = grown dir (length dir.objects) (numbers_where (λ o. begins_protection dir (sid_in dir.schema o)) dir.objects)
+spread dir = grown dir (length dir.objects)
+    (numbers_where (λ o. begins_protection dir (sid_in dir.schema o)) dir.objects)
 
 -- the protected objects by rising number
 unfoldable pub protected : Directory → List ℕ
-protected dir = numbers_where (λ o. has (spread dir) o.number || is_protected_alone dir (sid_in dir.schema o)) dir.objects
+protected dir = numbers_where (λ o. has (spread dir) o.number || is_protected_alone dir (sid_in dir.schema o))
+    dir.objects
 
 -- ---- adminCount
 
@@ -177,16 +184,19 @@ with_mark (Some mark) o = record o { values = with_values mark.attr (plain mark.
 
 -- the object with the descriptor, and with adminCount where it doesn't have it so
 unfoldable pub protected_object : Directory → Sd → Object → Object
-protected_object dir sd o = record (if has_mark (admin_count dir.schema) o then o else with_mark (admin_count dir.schema) o) { sd = sd }
+protected_object dir sd o = record (if has_mark (admin_count dir.schema) o then o
+    else with_mark (admin_count dir.schema) o) { sd = sd }
 
 -- the objects of the list get the descriptor one after the other, and each is marked where its own changed
 unfoldable pub all_protected : Sd → List ℕ → Directory → Directory
 all_protected sd [] dir = dir
-all_protected sd (number ∷ others) dir = all_protected sd others (stored dir (protected_object dir sd (object_at dir.objects number)))
+all_protected sd (number ∷ others) dir = all_protected sd others
+    (stored dir (protected_object dir sd (object_at dir.objects number)))
 
 -- the object changes: its descriptor or its adminCount
 abbrev pub changes : Directory → Sd → ℕ → Bool
-changes dir sd number = not (same_sd (sd_at dir.objects number) sd && has_mark (admin_count dir.schema) (object_at dir.objects number))
+changes dir sd number = not (same_sd (sd_at dir.objects number) sd && has_mark (admin_count dir.schema)
+    (object_at dir.objects number))
 
 -- the directory after a run, how many objects changed, and how many are protected
 pub record Run : Type 0 where

@@ -39,4 +39,5 @@ abbrev pub same_list : AceList → AceList → Bool
 same_list a b = same_mark a.protected b.protected && same_entries a.entries b.entries
 
 unfoldable pub same_sd : Sd → Sd → Bool
-same_sd a b = same_sid a.owner b.owner && (same_sid a.group b.group && (same_list a.dacl b.dacl && same_list a.sacl b.sacl))
+same_sd a b = same_sid a.owner b.owner && (same_sid a.group b.group
+    && (same_list a.dacl b.dacl && same_list a.sacl b.sacl))

@@ -12,7 +12,8 @@ use Rattle.ad_dir_model.specs.Names.{directory_service}
 unfoldable pub settings : Directory → List ℕ
 settings dir =
     option_map_or (λ v. chars v.shown)
-    (option_and_then (λ number. first_of_attr (heuristics dir.schema) (object_at dir.objects number)) (directory_service dir))
+    (option_and_then (λ number. first_of_attr (heuristics dir.schema) (object_at dir.objects number))
+    (directory_service dir))
     []
 
 -- List-object mode is on where the third character is 1 (49).

@@ -1,5 +1,6 @@
 -- The values that an object shows: stored ones and computed ones.
-use Rattle.std.specs.Prelude.{ℕ, Bool, ◌==◌, ◌||◌, if◌then◌else◌, unwrap_or, slice_get, codes, List, [], ◌∷◌, map, reverse, Result, Ok, Err}
+use Rattle.std.specs.Prelude.{ℕ, Bool, ◌==◌, ◌||◌, if◌then◌else◌, unwrap_or, slice_get, codes, List, [], ◌∷◌, map}
+use Rattle.std.specs.Prelude.{reverse, Result, Ok, Err}
 use Rattle.ad_value.specs.declared.syntax.Syntax.{Syntax}
 use Rattle.ad_value.specs.Value.{Value, value, as_shown}
 use Rattle.ad_value.specs.declared.fault.ValueFault.{ValueFault}
@@ -15,8 +16,8 @@ use Rattle.ad_dir_model.specs.Attributes.{is_named, syntax_at}
 use Rattle.ad_dir_model.specs.Directory.{Directory}
 use Rattle.ad_dir_model.specs.Names.{name_text}
 
--- A value that isn't stored in its normal form: it has the key of the normal form of what it shows, where there is one,
--- and else is compared by its bytes.
+-- A value that isn't stored in its normal form: it has the key of the normal form of what it shows, where there is
+-- one, and else is compared by its bytes.
 abbrev pub with_key_of : List ℕ → Result Value ValueFault → Value
 with_key_of shown (Ok v) = value shown v.key
 with_key_of shown (Err fault) = as_shown shown

@@ -1,5 +1,6 @@
 -- When a directory is sound, in parts; and which number is reported of one that isn't.
-use Rattle.std.specs.Prelude.{◌≡◌, ℕ, suc, ◌<◌, ◌≤◌, nat_le, Bool, true, false, ◌==◌, Option, Some, codes, List, [], ◌∷◌, length, Ok, is_ok}
+use Rattle.std.specs.Prelude.{◌≡◌, ℕ, suc, ◌<◌, ◌≤◌, nat_le, Bool, true, false, ◌==◌, Option, Some, codes, List, []}
+use Rattle.std.specs.Prelude.{◌∷◌, length, Ok, is_ok}
 use Rattle.std.specs.List.{AllByRecursion, list_all}
 use Rattle.std.specs.Option.{option_map_or}
 use Rattle.ad_ids.specs.SidValue.{SidValue}
@@ -94,8 +95,8 @@ pub record IsRoot (o : Object) : Type 0 where
   pub no_parent : o.parent ≡ 0
   pub explicit : explicit_part o.sd ≡ o.sd
 
--- Every other object has a live parent and stands at most 64 parents deep; and it has what its parent passes down, or a
--- pending entry that still reaches it.
+-- Every other object has a live parent and stands at most 64 parents deep; and it has what its parent passes down, or
+-- a pending entry that still reaches it.
 pub record IsBelowRoot (dir : Directory) (o : Object) : Type 0 where
   pub parent_live : is_live dir.objects o.parent ≡ true
   pub placed : IsPlaced (parents dir) o.number

@@ -32,7 +32,8 @@ unfoldable pub is_reached_within : (ℕ → ℕ) → ℕ → ℕ → ℕ → ℕ
 is_reached_within parent zero pending cursor number = false
 is_reached_within parent (suc levels) pending cursor number =
     if number == root then false
-    else ((parent number == pending && nat_lt cursor number) || is_reached_within parent levels pending cursor (parent number))
+    else ((parent number == pending && nat_lt cursor number) || is_reached_within parent levels pending cursor
+    (parent number))
 
 unfoldable pub is_reached : (ℕ → ℕ) → ℕ → ℕ → ℕ → Bool
 is_reached parent pending cursor number = is_reached_within parent max_depth pending cursor number

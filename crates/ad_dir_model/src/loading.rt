@@ -14,6 +14,8 @@ ghost use Rattle.ad_dir_model.specs.Conditions.{IsAllRead};
 pub fn what_is_recomputed_from_the_root_is_sound()
     ensures sound { (dir : Directory) → IsAllRead dir → IsSound (recomputed dir) }
     ensures empty { (dir : Directory) → (recomputed dir).pending ≡ [] }
-    ensures explicit { (dir : Directory) (number : ℕ) → IsAllRead dir → is_live dir.objects number ≡ true
-        → explicit_part (sd_at (recomputed dir).objects number) ≡ explicit_part (sd_at dir.objects number) }
+    ensures explicit { (dir : Directory) (number : ℕ) → IsAllRead dir → is_live dir.objects number
+        ≡ true
+        → explicit_part (sd_at (recomputed dir).objects number)
+        ≡ explicit_part (sd_at dir.objects number) }
 {}

@@ -9,7 +9,8 @@ ghost use Rattle.ad_dir_model.specs.Soundness.{IsSound};
 
 /// Where nothing is pending in a sound directory, each descriptor is the one that is recomputed from the root.
 pub fn an_empty_queue_means_recomputed_from_the_root()
-    ensures { (dir : Directory) (number : ℕ) → IsSound dir → dir.pending ≡ [] → is_live dir.objects number ≡ true
+    ensures { (dir : Directory) (number : ℕ) → IsSound dir → dir.pending ≡ []
+        → is_live dir.objects number ≡ true
         → sd_at dir.objects number ≡ scratch dir number }
 {}
 
@@ -30,6 +31,7 @@ pub fn the_work_is_bounded()
 
 /// There is one number of steps after which, and not before, nothing is pending; and it is at most the work.
 pub fn the_queue_empties_once()
-    ensures within { (dir : Directory) → IsSound dir → (n : ℕ) × (n ≤ work dir) × EmptiesAfter n dir }
+    ensures within { (dir : Directory) → IsSound dir → (n : ℕ) × (n ≤ work dir)
+        × EmptiesAfter n dir }
     ensures once { (dir : Directory) (n m : ℕ) → EmptiesAfter n dir → EmptiesAfter m dir → n ≡ m }
 {}

@@ -8,5 +8,6 @@ ghost use Rattle.ad_dir_model.specs.Soundness.{IsSound};
 
 /// In a sound directory each object is found by its name.
 pub fn an_object_is_found_by_its_name()
-    ensures { (dir : Model) (number : ℕ) → IsSound dir → is_live dir.objects number ≡ true → found dir (rdns_of dir number) ≡ Some number }
+    ensures { (dir : Model) (number : ℕ) → IsSound dir → is_live dir.objects number ≡ true
+        → found dir (rdns_of dir number) ≡ Some number }
 {}

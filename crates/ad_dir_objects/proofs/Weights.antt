@@ -1,5 +1,6 @@
 -- What is left of a weight, item by item.
-use Rattle.std.proofs.Common.{◌≡◌, ◌∙◌, ℕ, suc, ◌+◌, ◌-◌, ◌<◌, ◌≤◌, true, false, Some, None, inl, inr, List, ◌∷◌, length, map, get_or, drop, drop-cons, add-one, refl, sym, ap, arith}
+use Rattle.std.proofs.Common.{◌≡◌, ◌∙◌, ℕ, suc, ◌+◌, ◌-◌, ◌<◌, ◌≤◌, true, false, Some, None, inl, inr, List, ◌∷◌}
+use Rattle.std.proofs.Common.{length, map, get_or, drop, drop-cons, add-one, refl, sym, ap, arith}
 use Rattle.std.specs.Prelude.{nat_le}
 use Rattle.std.proofs.lemmas.Bool.{cases_Bool, leb-true, leb-false, le-leb, false_from_ne_true}
 use Rattle.std.proofs.lemmas.List.{drop_all}
@@ -9,7 +10,8 @@ use Rattle.ad_schema.specs.declared.line.SchemaRecord.{SchemaRecord}
 use Rattle.ad_dir_objects.specs.declared.object.Stored.{Stored as StoredIn}
 use Rattle.ad_dir_objects.specs.declared.object.Object.{Object as ObjectIn}
 use Rattle.ad_dir_objects.specs.Seen.{stored_seen, held_seen, object_seen, objects_of}
-use Rattle.ad_dir_model.specs.Weight.{stored_weight, values_weight, held_weight, all_held_weight, object_weight, objects_weight}
+use Rattle.ad_dir_model.specs.Weight.{stored_weight, values_weight, held_weight, all_held_weight, object_weight}
+use Rattle.ad_dir_model.specs.Weight.{objects_weight}
 use Rattle.ad_dir_objects.specs.Left.{left_of}
 
 -- a list from an item on
@@ -60,32 +62,41 @@ nothing left =
     rw all (ap (λ (n : ℕ). Some n) same)
 
 pub values_next : (values : List StoredIn) (i : ℕ) (one : StoredIn) → i < length values → get_or values i one ≡ one
-    → values_weight (map stored_seen (drop i values)) ≡ stored_weight (stored_seen one) + values_weight (map stored_seen (drop (i + 1) values))
+    → values_weight (map stored_seen (drop i values)) ≡ stored_weight (stored_seen one)
+    + values_weight (map stored_seen (drop (i + 1) values))
 unfolding values_weight
-values_next values i one lt is = ap (λ (vs : List StoredIn). values_weight (map stored_seen vs)) (cut values i one lt is)
+values_next values i one lt is = ap (λ (vs : List StoredIn). values_weight (map stored_seen vs))
+    (cut values i one lt is)
 
-pub values_end : (values : List StoredIn) (i : ℕ) → length values ≤ i → values_weight (map stored_seen (drop i values)) ≡ 0
+pub values_end : (values : List StoredIn) (i : ℕ) → length values ≤ i
+    → values_weight (map stored_seen (drop i values)) ≡ 0
 unfolding values_weight
 values_end values i le = ap (λ (vs : List StoredIn). values_weight (map stored_seen vs)) (drop_all i values le)
 
 pub all_held_next : (schema : List SchemaRecord) (values : List (AttrId × List StoredIn)) (i : ℕ)
     (one : AttrId × List StoredIn) → i < length values → get_or values i one ≡ one
-    → all_held_weight schema (map held_seen (drop i values)) ≡ held_weight schema (held_seen one) + all_held_weight schema (map held_seen (drop (i + 1) values))
+    → all_held_weight schema (map held_seen (drop i values)) ≡ held_weight schema (held_seen one)
+    + all_held_weight schema (map held_seen (drop (i + 1) values))
 unfolding all_held_weight
-all_held_next schema values i one lt is = ap (λ (vs : List (AttrId × List StoredIn)). all_held_weight schema (map held_seen vs)) (cut values i one lt is)
+all_held_next schema values i one lt is = ap
+    (λ (vs : List (AttrId × List StoredIn)). all_held_weight schema (map held_seen vs)) (cut values i one lt is)
 
 pub all_held_end : (schema : List SchemaRecord) (values : List (AttrId × List StoredIn)) (i : ℕ) → length values ≤ i
     → all_held_weight schema (map held_seen (drop i values)) ≡ 0
 unfolding all_held_weight
-all_held_end schema values i le = ap (λ (vs : List (AttrId × List StoredIn)). all_held_weight schema (map held_seen vs)) (drop_all i values le)
+all_held_end schema values i le = ap (λ (vs : List (AttrId × List StoredIn)). all_held_weight schema
+    (map held_seen vs)) (drop_all i values le)
 
-pub objects_next : (schema : List SchemaRecord) (objects : List (ObjectIn × Sd)) (i : ℕ) (one : ObjectIn × Sd) → i < length objects → get_or objects i one ≡ one
+pub objects_next : (schema : List SchemaRecord) (objects : List (ObjectIn × Sd)) (i : ℕ) (one : ObjectIn × Sd) → i
+    < length objects → get_or objects i one ≡ one
     → objects_weight schema (objects_of (drop i objects))
     ≡ object_weight schema (object_seen one.0 one.1) + objects_weight schema (objects_of (drop (i + 1) objects))
 unfolding objects_weight
-objects_next schema objects i one lt is = ap (λ (os : List (ObjectIn × Sd)). objects_weight schema (objects_of os)) (cut objects i one lt is)
+objects_next schema objects i one lt is = ap (λ (os : List (ObjectIn × Sd)). objects_weight schema (objects_of os))
+    (cut objects i one lt is)
 
 pub objects_end : (schema : List SchemaRecord) (objects : List (ObjectIn × Sd)) (i : ℕ) → length objects ≤ i
     → objects_weight schema (objects_of (drop i objects)) ≡ 0
 unfolding objects_weight
-objects_end schema objects i le = ap (λ (os : List (ObjectIn × Sd)). objects_weight schema (objects_of os)) (drop_all i objects le)
+objects_end schema objects i le = ap (λ (os : List (ObjectIn × Sd)). objects_weight schema (objects_of os))
+    (drop_all i objects le)

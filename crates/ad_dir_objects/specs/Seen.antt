@@ -21,7 +21,15 @@ held_seen held = record { attr = held.0.0; values = map stored_seen held.1 }
 
 -- the object with this descriptor
 abbrev pub object_seen : ObjectIn → Sd → Object
-object_seen o sd = record { number = o.number; parent = o.parent; class = o.class.0; name = o.name; values = map held_seen o.values; sd = sd }
+object_seen o sd = record {
+  number = o.number;
+  parent = o.parent;
+  class = o.class.0;
+  name = o.name;
+  values
+      = map held_seen o.values;
+  sd = sd;
+}
 
 -- objects with their descriptors
 abbrev pub objects_of : List (ObjectIn × Sd) → List Object

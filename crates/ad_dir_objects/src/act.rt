@@ -40,7 +40,8 @@ pub enum Act {
     },
 }
 
-/// One change of an attribute: 0 adds the values, 1 deletes them, or all where there are none, 2 replaces all by them.
+/// One change of an attribute: 0 adds the values, 1 deletes them, or all where there are none, 2 replaces all by
+/// them.
 #[derive(Drop)]
 pub struct ActItem {
     pub op: u8,

@@ -18,7 +18,8 @@ pub struct Meta {
 /// One change of a directory.
 #[derive(Drop)]
 pub enum Edit {
-    /// The object, in the place of the one that has its number if there is one, and the normal bytes of its descriptor.
+    /// The object, in the place of the one that has its number if there is one, and the normal bytes of its
+    /// descriptor.
     PutObject(Object, Vec<u8>),
     /// The object of this number goes.
     RemoveObject(u32),

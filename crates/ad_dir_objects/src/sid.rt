@@ -74,7 +74,8 @@ pub fn stored_of(values: &[(AttrId, Few<Stored>)], attr: AttrId) -> &[Stored]
 
 /// The first stored value of an attribute, where it is no link.
 pub fn first_of(values: &[(AttrId, Few<Stored>)], attr: AttrId) -> Option<&Value>
-    ensures { option_copied result ≡ first_plain (stored_in (map held_seen values.entry.now) attr.0) }
+    ensures { option_copied result ≡ first_plain
+        (stored_in (map held_seen values.entry.now) attr.0) }
 {
     first_plain(stored_of(values, attr))
 }

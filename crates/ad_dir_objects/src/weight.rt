@@ -4,7 +4,8 @@ ghost use Rattle.std.specs.Prelude.{◌≡◌, ◌&&◌, map, codes, nat_le};
 ghost use Rattle.ad_dir_objects.specs.Seen.{stored_seen, held_seen, object_seen, objects_of};
 ghost use Rattle.ad_dir_model.specs.Attributes.{is_named};
 ghost use Rattle.ad_dir_model.specs.Limits.{max_weight};
-ghost use Rattle.ad_dir_model.specs.Weight.{stored_weight, values_weight, is_only_one, held_weight, all_held_weight, object_weight, objects_weight};
+ghost use Rattle.ad_dir_model.specs.Weight.{stored_weight, values_weight, is_only_one, held_weight, all_held_weight};
+ghost use Rattle.ad_dir_model.specs.Weight.{object_weight, objects_weight};
 ghost use Rattle.ad_dir_objects.specs.Left.{left_of};
 ghost use Rattle.ad_sd.specs.declared.parts.Sd.{Sd as SdValue};
 
@@ -72,7 +73,8 @@ fn is_only_one(values: &[Stored]) -> bool
 // Whether it is an adminCount whose one value is 1. The values are looked at first, since to look a name up takes
 // longer.
 fn counts_nothing(schema: &Schema, attr: AttrId, values: &[Stored]) -> bool
-    ensures { result ≡ (is_named schema.now (codes "adminCount") attr.0 && is_only_one (map stored_seen values.now)) }
+    ensures { result ≡ (is_named schema.now (codes "adminCount") attr.0
+        && is_only_one (map stored_seen values.now)) }
 {
     if !is_only_one(values) {
         return false;
@@ -108,7 +110,8 @@ fn after_all_held(schema: &Schema, left: usize, values: &[(AttrId, Few<Stored>)]
 /// What is left when the weight of the object is taken from so much, where it is enough.
 #[tactic(auto, unfolding(ad_dir_model::specs::Weight::object_weight))]
 pub fn after_object(schema: &Schema, left: usize, object: &Object) -> Option<usize>
-    ensures { (sd : SdValue) → result ≡ left_of left (object_weight schema.now (object_seen object.now sd)) }
+    ensures { (sd : SdValue) → result
+        ≡ left_of left (object_weight schema.now (object_seen object.now sd)) }
 {
     let Some(less) = spend(left, 24) else {
         return None;

@@ -1,5 +1,6 @@
 -- How many different numbers a list has.
-use Rattle.std.proofs.Common.{◌≡◌, ℕ, ◌+◌, Bool, true, false, List, [], ◌∷◌, length, refl, sym, subst, ap, ◌∙◌, if◌then◌else◌, arith, inl, inr, eqb}
+use Rattle.std.proofs.Common.{◌≡◌, ℕ, ◌+◌, Bool, true, false, List, [], ◌∷◌, length, refl, sym, subst, ap, ◌∙◌}
+use Rattle.std.proofs.Common.{if◌then◌else◌, arith, inl, inr, eqb}
 use Rattle.std.proofs.lemmas.Bool.{cases_Bool, eqb-true, eqb-false, eq-eqb, ne_eqb}
 
 abbrev pub among : ℕ → List ℕ → Bool
@@ -70,7 +71,8 @@ still_once n (m ∷ ms) once =
 -- a list in which each number stands once, and that has the same numbers
 pub as_many : (ns ids : List ℕ) → Once ids → ((k : ℕ) → among k ids ≡ among k ns) → length ids ≡ counts ns
 as_many [] [] once same = refl
-as_many [] (i ∷ ids) once same = let one : among i (i ∷ ids) ≡ false = same i in let bad : true ≡ false = rw (eq-eqb i i refl) at one in absurd cc
+as_many [] (i ∷ ids) once same = let one : among i (i ∷ ids) ≡ false = same i in let bad : true ≡ false
+    = rw (eq-eqb i i refl) at one in absurd cc
 as_many (n ∷ ns) ids once same =
     elim (cases_Bool (among n ns)) [
       | inl again ↦ let rest = as_many ns ids once (λ k. same k ∙ without_it k again) in rw again (omega (arith, rest))
@@ -93,7 +95,8 @@ as_many (n ∷ ns) ids once same =
     left : (k : ℕ) → among n ns ≡ false → among k (without n ids) ≡ among k ns
     left k last =
         elim (cases_Bool (eqb n k)) [
-          | inl same_ ↦ subst (λ (j : ℕ). among j (without n ids) ≡ among j ns) (eqb-true n k same_) (not_among n ids once ∙ sym last)
+          | inl same_ ↦ subst (λ (j : ℕ). among j (without n ids) ≡ among j ns) (eqb-true n k same_)
+              (not_among n ids once ∙ sym last)
           | inr other ↦
               let step : among k (n ∷ ns) ≡ among k ns = rw other refl in
               others_among n k ids (eqb-false n k other) ∙ same k ∙ step

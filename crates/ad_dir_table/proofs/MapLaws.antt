@@ -21,14 +21,17 @@ if_ok (Err e) f p = tt
 -- names that are told alike are the same
 pub same_name : (a b : ChildName) → same_child a b ≡ true → a ≡ b
 same_name a b is =
-    let parent : a.parent ≡ b.parent = (unsigned_Decides a.parent b.parent).0 (first_so (nat_eq a.parent b.parent) (bytes_eq a.folded b.folded) is) in
-    let name : a.folded ≡ b.folded = (bytes_decides a.folded b.folded).0 (second_so (nat_eq a.parent b.parent) (bytes_eq a.folded b.folded) is) in
+    let parent : a.parent ≡ b.parent = (unsigned_Decides a.parent b.parent).0
+    (first_so (nat_eq a.parent b.parent) (bytes_eq a.folded b.folded) is) in
+    let name : a.folded ≡ b.folded = (bytes_decides a.folded b.folded).0
+    (second_so (nat_eq a.parent b.parent) (bytes_eq a.folded b.folded) is) in
     λ i. record { parent = parent i; folded = name i }
 
 pub name_told : (a b : ChildName) → (a ≡ b) ⊎ (a ≡ b → ⊥)
 name_told a b = elim (cases_Bool (same_child a b)) [
   | inl is ↦ inl (same_name a b is)
-  | inr not ↦ inr (λ (e : a ≡ b). both_ways (same_child a b) not (subst (λ (n : ChildName). same_child a n ≡ true) e (same_child_laws.refl a)))
+  | inr not ↦ inr (λ (e : a ≡ b). both_ways (same_child a b) not
+      (subst (λ (n : ChildName). same_child a n ≡ true) e (same_child_laws.refl a)))
 ]
 
 -- and so are identifiers
@@ -50,11 +53,13 @@ names_apart a b apart key is = elim (cases_Bool (is_key b key)) [
 ]
 
 -- what stands at other names stays
-pub other_names : (name : ChildName) (old new : List (NameKey × ℕ)) → KeepsOthers same_key (is_key name) old new → (v : ChildName) → (name ≡ v → ⊥) → name_at new v ≡ name_at old v
+pub other_names : (name : ChildName) (old new : List (NameKey × ℕ)) → KeepsOthers same_key (is_key name) old new
+    → (v : ChildName) → (name ≡ v → ⊥) → name_at new v ≡ name_at old v
 unfolding KeepsOthers
 other_names name old new keeps v apart = keeps (is_key v) (name_test v) (names_apart name v apart)
 
-pub name_put : (to : Option NameKey) (key : NameKey) (number : ℕ) (old new : List (NameKey × ℕ)) → to ≡ Some key → name_at new (key_name key) ≡ Some number → KeepsOthers same_key (is_key (key_name key)) old new
+pub name_put : (to : Option NameKey) (key : NameKey) (number : ℕ) (old new : List (NameKey × ℕ)) → to ≡ Some key
+    → name_at new (key_name key) ≡ Some number → KeepsOthers same_key (is_key (key_name key)) old new
     → Puts (option_map key_name to) number (name_at old) (name_at new)
 name_put to key number old new is at keeps =
     subst (λ (t : Option NameKey). Puts (option_map key_name t) number (name_at old) (name_at new)) (sym is) (record {
@@ -62,7 +67,8 @@ name_put to key number old new is at keeps =
       others = λ v apart. other_names (key_name key) old new keeps v (λ e. apart (ap Some e));
     })
 
-pub name_taken : (name : ChildName) (old new : List (NameKey × ℕ)) → name_at new name ≡ None → KeepsOthers same_key (is_key name) old new → Takes (Some name) (name_at old) (name_at new)
+pub name_taken : (name : ChildName) (old new : List (NameKey × ℕ)) → name_at new name ≡ None
+    → KeepsOthers same_key (is_key name) old new → Takes (Some name) (name_at old) (name_at new)
 name_taken name old new at keeps = record {
   here = λ v e. subst (λ (n : ChildName). name_at new n ≡ None) (same_Some name v e) at;
   others = λ v apart. other_names name old new keeps v (λ e. apart (ap Some e));

@@ -1,5 +1,6 @@
 -- The next number of all.
-use Rattle.std.proofs.Common.{◌≡◌, ℕ, Bool, true, false, eqb, ◌&&◌, if◌then◌else◌, List, [], ◌∷◌, Option, Some, None, refl, sym, ap, ◌∙◌, arith}
+use Rattle.std.proofs.Common.{◌≡◌, ℕ, Bool, true, false, eqb, ◌&&◌, if◌then◌else◌, List, [], ◌∷◌, Option, Some, None}
+use Rattle.std.proofs.Common.{refl, sym, ap, ◌∙◌, arith}
 use Rattle.std.specs.Prelude.{find, filter, not, nat_lt, option_map}
 use Rattle.std.specs.Ordering.{nat_cmp, is_lt}
 use Rattle.std.specs.declared.cmp.Ordering.{Ordering}
@@ -29,7 +30,9 @@ lt_test a q = by_case (compared a q)
     by_case (greater h) = ap (λ (o : Ordering). is_lt o && not false) h.is ∙ sym h.below
 
 heads : (live : List Extent) (entries : List (ℕ × Kept)) (above : ℕ) → AreKeyed entries
-    → head (filter (λ (e : ℕ × Kept). range_contains nat_cmp (Excluded above) Unbounded e.0) entries) ≡ option_map (λ (o : Object). o.number) (find (λ (o : Object). nat_lt above o.number) (objects_kept live entries))
+    → head (filter (λ (e : ℕ × Kept). range_contains nat_cmp (Excluded above) Unbounded e.0) entries)
+    ≡ option_map (λ (o : Object). o.number)
+    (find (λ (o : Object). nat_lt above o.number) (objects_kept live entries))
 unfolding head
 heads live [] above keyed = refl
 heads live (entry ∷ entries) above keyed =
@@ -39,15 +42,23 @@ heads live (entry ∷ entries) above keyed =
     behind : List (ℕ × Kept)
     behind = filter (λ (e : ℕ × Kept). range_contains nat_cmp (Excluded above) Unbounded e.0) entries
 
-    by_test : (t : Bool) → head behind ≡ option_map (λ (o : Object). o.number) (find (λ (o : Object). nat_lt above o.number) (objects_kept live entries))
-        → head (if t then entry ∷ behind else behind) ≡ option_map (λ (o : Object). o.number) (if t then Some (object_kept live entry.1) else find (λ (o : Object). nat_lt above o.number) (objects_kept live entries))
+    by_test : (t : Bool) → head behind ≡ option_map (λ (o : Object). o.number)
+        (find (λ (o : Object). nat_lt above o.number) (objects_kept live entries))
+        → head (if t then entry ∷ behind else behind) ≡ option_map (λ (o : Object). o.number)
+        (if t then Some (object_kept live entry.1) else find (λ (o : Object). nat_lt above o.number)
+        (objects_kept live entries))
     by_test true rest = ap Some keyed.0
     by_test false rest = rest
 
-pub above_is : (live : List Extent) (entries r rest : List (ℕ × Kept)) (above n : ℕ) (kept : Kept) → AreKeyed entries → r ≡ entries_between nat_cmp (Excluded above) Unbounded entries → r ≡ (n, kept) ∷ rest → Some n ≡ next_number (objects_kept live entries) above
+pub above_is : (live : List Extent) (entries r rest : List (ℕ × Kept)) (above n : ℕ) (kept : Kept) → AreKeyed entries
+    → r ≡ entries_between nat_cmp (Excluded above) Unbounded entries → r ≡ (n, kept) ∷ rest → Some n
+    ≡ next_number (objects_kept live entries) above
 unfolding head next_number
-above_is live entries r rest above n kept keyed between is = sym (ap head is) ∙ ap head between ∙ heads live entries above keyed
+above_is live entries r rest above n kept keyed between is = sym (ap head is) ∙ ap head between
+    ∙ heads live entries above keyed
 
-pub above_none : (live : List Extent) (entries r : List (ℕ × Kept)) (above : ℕ) → AreKeyed entries → r ≡ entries_between nat_cmp (Excluded above) Unbounded entries → r ≡ [] → None ≡ next_number (objects_kept live entries) above
+pub above_none : (live : List Extent) (entries r : List (ℕ × Kept)) (above : ℕ) → AreKeyed entries → r
+    ≡ entries_between nat_cmp (Excluded above) Unbounded entries → r ≡ [] → None
+    ≡ next_number (objects_kept live entries) above
 unfolding head next_number
 above_none live entries r above keyed between is = sym (ap head is) ∙ ap head between ∙ heads live entries above keyed

@@ -65,7 +65,8 @@ unfoldable pub count_of : ℕ → List (ℕ × Kept) → ℕ
 count_of id [] = 0
 count_of id (entry ∷ entries) = (if entry.1.id.0 == id then 1 else 0) + count_of id entries
 
--- Each object stands at its number, and names an id whose bytes are normal. Each id has as many sharers as objects name it.
+-- Each object stands at its number, and names an id whose bytes are normal. Each id has as many sharers as objects
+-- name it.
 pub record IsKept (parts : Parts) : Type 0 where
   pub keyed : AreKeyed parts.kept.entries
   pub ordered : IsOrdered nat_cmp parts.kept

@@ -40,10 +40,12 @@ abbrev pub parent_of : Object → Option ℕ
 parent_of o = Some o.parent
 
 -- how the keys of an object's number change where it is put
-pub record AreChanges (schema : List SchemaRecord) (objects : List Object) (o : Object) (changes : Changes) : Type 0 where
-  pub names : IsChange (was name_of objects o.number) (name_of o) (option_map key_name changes.names.to) (option_map key_name changes.names.from)
-  pub sids : IsChange (was (sid_in schema) objects o.number) (sid_in schema o) changes.sids.to changes.sids.from
-  pub parents : IsChange (was parent_of objects o.number) (parent_of o) changes.parents.to changes.parents.from
+pub record AreChanges (schema : List SchemaRecord) (objects : List Object) (o : Object) (changes : Changes) : Type 0
+  where
+    pub names : IsChange (was name_of objects o.number) (name_of o) (option_map key_name changes.names.to)
+        (option_map key_name changes.names.from)
+    pub sids : IsChange (was (sid_in schema) objects o.number) (sid_in schema o) changes.sids.to changes.sids.from
+    pub parents : IsChange (was parent_of objects o.number) (parent_of o) changes.parents.to changes.parents.from
 
 -- room for one name, one identifier and one child of the parent, if there is one
 pub record HasRoom (parent : Option ℕ) (index : Index) : Type 0 where
@@ -61,7 +63,8 @@ pub record AreEdited (changes : Changes) (number : ℕ) (old new : Index) : Type
   pub names : Edits (option_map key_name changes.names.to) (option_map key_name changes.names.from) number
       (name_at old.names.entries) (name_at new.names.entries)
   pub sids : Edits changes.sids.to changes.sids.from number (sid_at old.sids.entries) (sid_at new.sids.entries)
-  pub children : Moves changes.parents.to changes.parents.from number (listed old.children.entries) (listed new.children.entries)
+  pub children : Moves changes.parents.to changes.parents.from number (listed old.children.entries)
+      (listed new.children.entries)
 
 -- ---- a removal
 

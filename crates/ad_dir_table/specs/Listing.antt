@@ -12,7 +12,8 @@ next_number objects above = option_map (λ o. o.number) (find (λ o. nat_lt abov
 -- how many different descriptors there are: each counts at the last object that has it
 unfoldable pub descriptor_count : List Object → ℕ
 descriptor_count [] = 0
-descriptor_count (o ∷ others) = (if list_any (λ other. same_sd o.sd other.sd) others then 0 else 1) + descriptor_count others
+descriptor_count (o ∷ others) = (if list_any (λ other. same_sd o.sd other.sd) others then 0 else 1)
+    + descriptor_count others
 
 -- how many objects have the descriptor
 unfoldable pub holders : Sd → List Object → ℕ

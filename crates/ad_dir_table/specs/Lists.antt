@@ -1,5 +1,6 @@
 -- The numbers of children by their parents, in rising lists.
-use Rattle.std.specs.Prelude.{◌≡◌, ℕ, ◌<◌, ◌==◌, nat_eq, nat_lt, not, if◌then◌else◌, Option, Some, List, [], ◌∷◌, filter, vec_len, IsSomeAnd}
+use Rattle.std.specs.Prelude.{◌≡◌, ℕ, ◌<◌, ◌==◌, nat_eq, nat_lt, not, if◌then◌else◌, Option, Some, List, [], ◌∷◌}
+use Rattle.std.specs.Prelude.{filter, vec_len, IsSomeAnd}
 use Rattle.std.specs.Option.{option_map_or}
 use Rattle.std.specs.Map.{lookup}
 use Rattle.std.specs.Global.{Vec}
@@ -34,7 +35,8 @@ ListsRise entries = (parent : ℕ) → RiseFrom 0 (listed entries parent)
 
 -- a number more may stand under the parent, if there is one, without more memory
 abbrev pub HasPlace : Option ℕ → List (ℕ × Vec ℕ) → Type 0
-HasPlace to entries = (parent : ℕ) → to ≡ Some parent → IsSomeAnd (lookup (nat_eq parent) entries) (λ (v : Vec ℕ). vec_len v < vec_capacity v)
+HasPlace to entries = (parent : ℕ) → to ≡ Some parent → IsSomeAnd (lookup (nat_eq parent) entries)
+    (λ (v : Vec ℕ). vec_len v < vec_capacity v)
 
 -- the number doesn't stand under the parent, if there is one
 abbrev pub IsNew : Option ℕ → ℕ → List (ℕ × Vec ℕ) → Type 0
@@ -46,10 +48,12 @@ ListSame old new = (parent : ℕ) → new parent ≡ old parent
 
 -- the number stands under the parent, if there is one, or doesn't any more
 abbrev pub Adds : Option ℕ → ℕ → (ℕ → List ℕ) → (ℕ → List ℕ) → Type 0
-Adds to number old new = (p : ℕ) → new p ≡ option_map_or (λ parent. if parent == p then put_number number (old p) else old p) to (old p)
+Adds to number old new = (p : ℕ) → new p ≡ option_map_or (λ parent. if parent == p then put_number number (old p)
+    else old p) to (old p)
 
 abbrev pub Drops : Option ℕ → ℕ → (ℕ → List ℕ) → (ℕ → List ℕ) → Type 0
-Drops from number old new = (p : ℕ) → new p ≡ option_map_or (λ parent. if parent == p then without_number number (old p) else old p) from (old p)
+Drops from number old new = (p : ℕ) → new p
+    ≡ option_map_or (λ parent. if parent == p then without_number number (old p) else old p) from (old p)
 
 pub record Moves (to from : Option ℕ) (number : ℕ) (old new : ℕ → List ℕ) : Type 0 where
   pub mid : ℕ → List ℕ

@@ -34,19 +34,24 @@ abbrev pub name_at : List (NameKey × ℕ) → ChildName → Option ℕ
 name_at entries name = lookup (is_key name) entries
 
 pub same_child_laws : IsEquivalence same_child
-same_child_laws = and_equiv (on_equiv (λ (n : ChildName). n.parent) nat_eq_equiv) (on_equiv (λ (n : ChildName). n.folded) nat_list_eq_equiv)
+same_child_laws = and_equiv (on_equiv (λ (n : ChildName). n.parent) nat_eq_equiv)
+    (on_equiv (λ (n : ChildName). n.folded) nat_list_eq_equiv)
 
 pub same_key_laws : IsEquivalence same_key
 same_key_laws = on_equiv key_name same_child_laws
 
 -- names that are the same have one hash
-same_hash : (a b : ChildName) → same_child a b ≡ true → fed.u64 (name_hash a.parent a.folded) ≡ fed.u64 (name_hash b.parent b.folded)
+same_hash : (a b : ChildName) → same_child a b ≡ true → fed.u64 (name_hash a.parent a.folded)
+    ≡ fed.u64 (name_hash b.parent b.folded)
 same_hash a b is =
-    let parent : a.parent ≡ b.parent = (unsigned_Decides a.parent b.parent).0 (first_so (nat_eq a.parent b.parent) (bytes_eq a.folded b.folded) is) in
-    let name : a.folded ≡ b.folded = (bytes_decides a.folded b.folded).0 (second_so (nat_eq a.parent b.parent) (bytes_eq a.folded b.folded) is) in
+    let parent : a.parent ≡ b.parent = (unsigned_Decides a.parent b.parent).0
+    (first_so (nat_eq a.parent b.parent) (bytes_eq a.folded b.folded) is) in
+    let name : a.folded ≡ b.folded = (bytes_decides a.folded b.folded).0
+    (second_so (nat_eq a.parent b.parent) (bytes_eq a.folded b.folded) is) in
     ap (λ (p : ℕ). fed.u64 (name_hash p a.folded)) parent ∙ ap (λ (f : List ℕ). fed.u64 (name_hash b.parent f)) name
 
-pub same_key_hash : (a b : NameKey) → IsTrue (same_key a b) → fed.u64 (name_hash a.parent a.folded.items) ≡ fed.u64 (name_hash b.parent b.folded.items)
+pub same_key_hash : (a b : NameKey) → IsTrue (same_key a b) → fed.u64 (name_hash a.parent a.folded.items)
+    ≡ fed.u64 (name_hash b.parent b.folded.items)
 same_key_hash a b is = same_hash (key_name a) (key_name b) is
 
 -- ---- a name that isn't folded
@@ -60,9 +65,12 @@ is_asked asked key = is_key (asked_name asked) key
 pub same_asked_hash : (a b : Asked) → IsTrue (nat_eq a.parent b.parent && bytes_eq a.name.now b.name.now)
     → fed.u64 (name_hash a.parent (folded a.name.now)) ≡ fed.u64 (name_hash b.parent (folded b.name.now))
 same_asked_hash a b is =
-    let parent : a.parent ≡ b.parent = (unsigned_Decides a.parent b.parent).0 (first_so (nat_eq a.parent b.parent) (bytes_eq a.name.now b.name.now) is) in
-    let name : a.name.now ≡ b.name.now = (bytes_decides a.name.now b.name.now).0 (second_so (nat_eq a.parent b.parent) (bytes_eq a.name.now b.name.now) is) in
-    ap (λ (p : ℕ). fed.u64 (name_hash p (folded a.name.now))) parent ∙ ap (λ (n : List ℕ). fed.u64 (name_hash b.parent (folded n))) name
+    let parent : a.parent ≡ b.parent = (unsigned_Decides a.parent b.parent).0
+    (first_so (nat_eq a.parent b.parent) (bytes_eq a.name.now b.name.now) is) in
+    let name : a.name.now ≡ b.name.now = (bytes_decides a.name.now b.name.now).0
+    (second_so (nat_eq a.parent b.parent) (bytes_eq a.name.now b.name.now) is) in
+    ap (λ (p : ℕ). fed.u64 (name_hash p (folded a.name.now))) parent
+    ∙ ap (λ (n : List ℕ). fed.u64 (name_hash b.parent (folded n))) name
 
 pub asked_hash : (asked : Asked) (key : NameKey) → IsTrue (is_asked asked key)
     → fed.u64 (name_hash asked.parent (folded asked.name.now)) ≡ fed.u64 (name_hash key.parent key.folded.items)

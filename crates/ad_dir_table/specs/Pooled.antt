@@ -14,9 +14,10 @@ pub record IsShared (objects : List Object) (extent : Extent) : Type 0 where
   pub normal : SpellsNormal sd extent.bytes
   pub sharers : extent.sharers ≡ holders sd objects
 
--- Each live id is that of a descriptor which as many objects have as share it. The descriptor of each object has an id. There
--- are as many live ids as different descriptors.
+-- Each live id is that of a descriptor which as many objects have as share it. The descriptor of each object has an
+-- id. There are as many live ids as different descriptors.
 pub record IsPoolOf (objects : List Object) (pool : Pool) : Type 0 where
   pub shared : (id : ℕ) (extent : Extent) → extent_of pool.live id ≡ Some extent → IsShared objects extent
-  pub own : (number : ℕ) (o : Object) → object_of objects number ≡ Some o → is_some (with_bytes pool.live (normal_bytes o.sd)) ≡ true
+  pub own : (number : ℕ) (o : Object) → object_of objects number ≡ Some o
+      → is_some (with_bytes pool.live (normal_bytes o.sd)) ≡ true
   pub count : length pool.live ≡ descriptor_count objects

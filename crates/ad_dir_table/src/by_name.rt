@@ -28,7 +28,8 @@ pub type Names = IndexMap<NameKey, u32>;
 // The key of an object.
 fn key_of(alloc: Global, object: &Object) -> Result<NameKey, AllocError>
     requires { IsUtf8 object.now.name }
-    ensures { IfOk result (λ key. (sd : SdValue) → Some (key_name key) ≡ name_of (object_seen object.now sd)) }
+    ensures { IfOk result (λ key. (sd : SdValue) → Some (key_name key)
+        ≡ name_of (object_seen object.now sd)) }
 {
     Ok(NameKey {
         parent: object.parent,
@@ -40,7 +41,8 @@ fn key_of(alloc: Global, object: &Object) -> Result<NameKey, AllocError>
 fn has_name_of(old: &Object, new: &Object) -> bool
     requires old { IsUtf8 old.now.name }
     requires new { IsUtf8 new.now.name }
-    ensures { (sd other : SdValue) → IsTrue result ↔ (name_of (object_seen old.now sd) ≡ name_of (object_seen new.now other)) }
+    ensures { (sd other : SdValue) → IsTrue result
+        ↔ (name_of (object_seen old.now sd) ≡ name_of (object_seen new.now other)) }
 {
     old.parent == new.parent && same_value(old.name.as_slice(), new.name.as_slice())
 }
@@ -48,7 +50,8 @@ fn has_name_of(old: &Object, new: &Object) -> bool
 fn renamed(alloc: Global, old: &Object, new: &Object) -> Result<Change<NameKey>, AllocError>
     requires old { IsUtf8 old.now.name }
     requires new { IsUtf8 new.now.name }
-    ensures { IfOk result (λ change. (sd other : SdValue) → IsChange (name_of (object_seen old.now sd)) (name_of (object_seen new.now other))
+    ensures { IfOk result (λ change. (sd other : SdValue)
+        → IsChange (name_of (object_seen old.now sd)) (name_of (object_seen new.now other))
         (option_map key_name change.to) (option_map key_name change.from)) }
 {
     if has_name_of(old, new) {
@@ -71,8 +74,10 @@ pub(crate) fn name_change(
 ) -> Result<Change<NameKey>, AllocError>
     requires named { AreNamed (objects_in objects.now.entries) }
     requires named_too { IsUtf8 object.now.name }
-    ensures { IfOk result (λ change. (sd : SdValue) → IsChange (was name_of (objects_in objects.now.entries) object.now.number)
-        (name_of (object_seen object.now sd)) (option_map key_name change.to) (option_map key_name change.from)) }
+    ensures { IfOk result (λ change. (sd : SdValue)
+        → IsChange (was name_of (objects_in objects.now.entries) object.now.number)
+        (name_of (object_seen object.now sd)) (option_map key_name change.to)
+        (option_map key_name change.from)) }
 {
     match objects.object(object.number) {
         Some(old) => renamed(alloc, old, object),
@@ -86,7 +91,8 @@ pub(crate) fn name_change(
 /// Puts a number under a key, if there is one, where there is room.
 pub(crate) fn put_name(names: &mut Names, to: Option<NameKey>, number: u32)
     requires { 0 < spare names.old }
-    ensures { Puts (option_map key_name to) number (name_at names.old.entries) (name_at names.new.entries) }
+    ensures { Puts (option_map key_name to) number (name_at names.old.entries)
+        (name_at names.new.entries) }
 {
     if let Some(key) = to {
         match names.insert(key, number) {
@@ -98,7 +104,8 @@ pub(crate) fn put_name(names: &mut Names, to: Option<NameKey>, number: u32)
 
 /// Takes out what stands under a key, if there is one.
 pub(crate) fn take_name(names: &mut Names, from: Option<NameKey>)
-    ensures { Takes (option_map key_name from) (name_at names.old.entries) (name_at names.new.entries) }
+    ensures { Takes (option_map key_name from) (name_at names.old.entries)
+        (name_at names.new.entries) }
 {
     if let Some(key) = from {
         let _was = names.swap_remove(&key);
@@ -108,7 +115,8 @@ pub(crate) fn take_name(names: &mut Names, from: Option<NameKey>)
 /// Takes out what stands under the name of an object. It takes no memory.
 pub(crate) fn take_name_of(names: &mut Names, object: &Object)
     requires { IsUtf8 object.now.name }
-    ensures { (sd : SdValue) → Takes (name_of (object_seen object.now sd)) (name_at names.old.entries) (name_at names.new.entries) }
+    ensures { (sd : SdValue) → Takes (name_of (object_seen object.now sd))
+        (name_at names.old.entries) (name_at names.new.entries) }
 {
     match str::from_utf8(object.name.as_slice()) {
         Ok(name) => {
@@ -124,7 +132,8 @@ pub(crate) fn take_name_of(names: &mut Names, object: &Object)
 /// The number that stands under a parent and a naming value that isn't folded. It takes no memory.
 pub fn with_name(names: &Names, parent: u32, name: &[u8]) -> Option<u32>
     requires { IsUtf8 name.now }
-    ensures { result ≡ name_at names.now.entries (record { parent = parent; folded = folded name.now }) }
+    ensures { result ≡ name_at names.now.entries
+        (record { parent = parent; folded = folded name.now }) }
 {
     match str::from_utf8(name) {
         Ok(name) => names.get(Asked { parent, name }).copied(),

@@ -7,7 +7,8 @@ ghost use Rattle.ad_sd.specs.declared.parts.Sd.{Sd as SdValue};
 ghost use Rattle.ad_dir_objects.specs.Seen.{object_seen};
 ghost use Rattle.ad_dir_table.specs.Entry.{objects_in};
 ghost use Rattle.ad_dir_table.specs.KeyChanges.{IsChange};
-ghost use Rattle.ad_dir_table.specs.Lists.{listed, ListsRise, ListSame, HasPlace, Adds, Drops, RiseFrom, put_number, without_number};
+ghost use Rattle.ad_dir_table.specs.Lists.{listed, ListsRise, ListSame, HasPlace, Adds, Drops, RiseFrom, put_number};
+ghost use Rattle.ad_dir_table.specs.Lists.{without_number};
 ghost use Rattle.ad_dir_table.specs.Indexed.{was, parent_of};
 
 use crate::Objects;
@@ -82,7 +83,8 @@ fn moved(a: u32, b: u32) -> Change<u32>
 
 /// How the parent of an object's number changes where it is put.
 pub(crate) fn parent_change(objects: &Objects, object: &Object) -> Change<u32>
-    ensures { (sd : SdValue) → IsChange (was parent_of (objects_in objects.now.entries) object.now.number)
+    ensures { (sd : SdValue) → IsChange
+        (was parent_of (objects_in objects.now.entries) object.now.number)
         (parent_of (object_seen object.now sd)) result.to result.from }
 {
     match objects.object(object.number) {
@@ -142,7 +144,8 @@ pub(crate) fn add_child(children: &mut Children, to: Option<u32>, number: u32)
 // Takes a number out under a parent.
 fn take_child(children: &mut Children, parent: u32, number: u32)
     requires { ListsRise children.old.entries }
-    ensures { Drops (Some parent) number (listed children.old.entries) (listed children.new.entries) }
+    ensures { Drops (Some parent) number (listed children.old.entries)
+        (listed children.new.entries) }
 {
     if let Some(numbers) = children.get_mut(&parent) {
         take_number(numbers, number);

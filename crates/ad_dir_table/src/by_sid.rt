@@ -52,7 +52,8 @@ fn changed(old: Option<&Sid>, new: Option<&Sid>) -> Change<Sid>
 /// How the identifier of an object's number changes where it is put.
 pub(crate) fn sid_change(schema: &Schema, objects: &Objects, object: &Object) -> Change<Sid>
     requires { HaveTheirSids schema.now objects.now.entries }
-    ensures { (sd : SdValue) → IsChange (was (sid_in schema.now) (objects_in objects.now.entries) object.now.number)
+    ensures { (sd : SdValue) → IsChange
+        (was (sid_in schema.now) (objects_in objects.now.entries) object.now.number)
         (sid_in schema.now (object_seen object.now sd)) result.to result.from }
 {
     let old = objects.sid(object.number);

@@ -11,7 +11,8 @@ use ucd_case::full_folding;
 
 // What stands behind the character, where the bytes begin with it.
 fn past_char(bytes: &[u8], character: char) -> Option<&[u8]>
-    ensures { (more : List ℕ) → bytes_eq (encode_utf8 character ++ more) bytes.now ≡ option_map_or (λ rest. bytes_eq more rest.now) result false }
+    ensures { (more : List ℕ) → bytes_eq (encode_utf8 character ++ more) bytes.now
+        ≡ option_map_or (λ rest. bytes_eq more rest.now) result false }
 {
     let mut place = [0; 4];
     bytes.strip_prefix(character.encode_utf8(&mut place).as_bytes())

@@ -52,7 +52,9 @@ pub fn changes_of(
     requires sids { HaveTheirSids schema.now objects.now.entries }
     requires named { AreNamed (objects_in objects.now.entries) }
     requires named_too { IsUtf8 object.now.name }
-    ensures { IfOk result (λ changes. (sd : SdValue) → AreChanges schema.now (objects_in objects.now.entries) (object_seen object.now sd) changes) }
+    ensures { IfOk result (λ changes. (sd : SdValue)
+        → AreChanges schema.now (objects_in objects.now.entries) (object_seen object.now sd)
+        changes) }
 {
     Ok(Changes {
         names: name_change(alloc, objects, object)?,
@@ -112,7 +114,8 @@ pub fn edit(index: &mut Index, changes: Changes, number: u32)
 pub fn take_out(index: &mut Index, object: &Object, sid: Option<&Sid>)
     requires named { IsUtf8 object.now.name }
     requires rise { ListsRise index.old.children.entries }
-    ensures { (sd : SdValue) → AreRemoved (object_seen object.now sd) (option_copied sid.entry) index.old index.new }
+    ensures { (sd : SdValue) → AreRemoved (object_seen object.now sd) (option_copied sid.entry)
+        index.old index.new }
 {
     take_name_of(&mut index.names, object);
     take_sid(&mut index.sids, sid);

@@ -13,7 +13,8 @@ ghost use Rattle.ad_dir_model.specs.Objects.{object_of, numbers};
 ghost use Rattle.ad_dir_objects.specs.Seen.{object_seen};
 ghost use Rattle.ad_dir_table.specs.Entry.{HasItsSid};
 ghost use Rattle.ad_dir_table.specs.Listing.{next_number};
-ghost use Rattle.ad_dir_table.specs.Fields.{AllKept, AreKeyed, HasNormal, entry_kept, kept_sid, object_kept, objects_kept};
+ghost use Rattle.ad_dir_table.specs.Fields.{AllKept, AreKeyed, HasNormal, entry_kept, kept_sid, object_kept};
+ghost use Rattle.ad_dir_table.specs.Fields.{objects_kept};
 
 use crate::shelf::Shelf;
 use ad_dir_objects::{Object, object_sid};
@@ -78,9 +79,12 @@ pub(crate) fn kept_of(objects: &BTreeMap<u32, Shelf>, number: u32) -> Option<&Ke
     requires { AreKeyed objects.now.entries }
     ensures at { option_copied result ≡ lookup (is_at (nat_cmp number)) objects.now.entries }
     ensures found { (live : List Extent)
-        → option_map (λ kept. object_kept live kept.now) result ≡ object_of (objects_kept live objects.now.entries) number }
-    ensures normal { (live : List Extent) → AllKept (HasNormal live) objects.now.entries → IfSome result (λ kept. HasNormal live kept.now) }
-    ensures sid { (schema : List SchemaRecord) (live : List Extent) → AllKept (λ kept. HasItsSid schema (entry_kept live kept)) objects.now.entries
+        → option_map (λ kept. object_kept live kept.now) result
+        ≡ object_of (objects_kept live objects.now.entries) number }
+    ensures normal { (live : List Extent) → AllKept (HasNormal live) objects.now.entries
+        → IfSome result (λ kept. HasNormal live kept.now) }
+    ensures sid { (schema : List SchemaRecord) (live : List Extent)
+        → AllKept (λ kept. HasItsSid schema (entry_kept live kept)) objects.now.entries
         → IfSome result (λ kept. HasItsSid schema (entry_kept live kept.now)) }
 {
     kept_in(objects.get(&number))
@@ -89,7 +93,8 @@ pub(crate) fn kept_of(objects: &BTreeMap<u32, Shelf>, number: u32) -> Option<&Ke
 /// The least number above one.
 pub(crate) fn next_number(objects: &BTreeMap<u32, Shelf>, above: u32) -> Option<u32>
     requires { AreKeyed objects.now.entries }
-    ensures { (live : List Extent) → result ≡ next_number (objects_kept live objects.now.entries) above }
+    ensures { (live : List Extent) → result ≡ next_number (objects_kept live objects.now.entries)
+        above }
 {
     match objects
         .range((Bound::Excluded(above), Bound::Unbounded))
@@ -102,7 +107,8 @@ pub(crate) fn next_number(objects: &BTreeMap<u32, Shelf>, above: u32) -> Option<
 
 /// The numbers, rising.
 pub(crate) fn numbers(alloc: Global, objects: &BTreeMap<u32, Shelf>) -> Result<Vec<u32>, AllocError>
-    ensures { (live : List Extent) → IfOk result (λ all. all.items ≡ numbers (objects_kept live objects.now.entries)) }
+    ensures { (live : List Extent) → IfOk result
+        (λ all. all.items ≡ numbers (objects_kept live objects.now.entries)) }
 {
     let mut all = Vec::new(alloc);
     for kept in objects.values() {
@@ -120,15 +126,18 @@ fn id_of(was: Option<Shelf>) -> Option<SdId>
     }
 }
 
-/// Puts an object in the place of the one that has its number, or else where its number belongs. Answers the id that the
-/// one before has named.
+/// Puts an object in the place of the one that has its number, or else where its number belongs. Answers the id that
+/// the one before has named.
 pub(crate) fn put(
     alloc: Global,
     objects: &mut BTreeMap<u32, Shelf>,
     kept: Kept,
 ) -> Result<Option<SdId>, AllocError>
-    ensures entries { OnOk result (objects.new.entries ≡ insert_entry nat_cmp objects.old.entries kept.object.number kept) }
-    ensures was { IfOk result (λ was. was ≡ option_map (λ k. k.id) (lookup (is_at (nat_cmp kept.object.number)) objects.old.entries)) }
+    ensures entries { OnOk result (objects.new.entries ≡ insert_entry nat_cmp objects.old.entries
+        kept.object.number kept) }
+    ensures was { IfOk result (λ was. was
+        ≡ option_map (λ k. k.id) (lookup (is_at (nat_cmp kept.object.number))
+        objects.old.entries)) }
     ensures err { OnErr result (objects.new.entries ≡ objects.old.entries) }
     ensures ordered { IsOrdered nat_cmp objects.old → IsOrdered nat_cmp objects.new }
 {
@@ -142,8 +151,10 @@ pub(crate) fn put(
 
 /// Takes the object of a number out. Answers the id that it has named.
 pub(crate) fn take(objects: &mut BTreeMap<u32, Shelf>, number: u32) -> Option<SdId>
-    ensures entries { objects.new.entries ≡ remove_entry (is_at (nat_cmp number)) objects.old.entries }
-    ensures was { result ≡ option_map (λ k. k.id) (lookup (is_at (nat_cmp number)) objects.old.entries) }
+    ensures entries { objects.new.entries ≡ remove_entry (is_at (nat_cmp number))
+        objects.old.entries }
+    ensures was { result ≡ option_map (λ k. k.id)
+        (lookup (is_at (nat_cmp number)) objects.old.entries) }
     ensures ordered { IsOrdered nat_cmp objects.new }
 {
     id_of(objects.remove(&number))

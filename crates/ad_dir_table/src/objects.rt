@@ -1,6 +1,7 @@
 //! The objects by number with their descriptors in one pool.
 
-ghost use Rattle.std.specs.Prelude.{◌≡◌, ◌↔◌, ◌<◌, ◌-◌, ◌^◌, true, is_some, [], length, OnOk, OnErr, IfOk, IsTrue, option_map, List};
+ghost use Rattle.std.specs.Prelude.{◌≡◌, ◌↔◌, ◌<◌, ◌-◌, ◌^◌, true, is_some, [], length, OnOk, OnErr, IfOk, IsTrue};
+ghost use Rattle.std.specs.Prelude.{option_map, List};
 ghost use Rattle.std.specs.Option.{option_copied, option_and_then, IfSome};
 ghost use Rattle.ad_schema.specs.declared.line.SchemaRecord.{SchemaRecord};
 ghost use Rattle.ad_sd.specs.Seen.{seen};
@@ -61,7 +62,8 @@ impl Objects {
 
     /// The object of a number, and none exactly where there is none of it. It takes no memory.
     pub fn object(&self, number: u32) -> Option<&Object>
-        ensures { option_map (λ object. object_seen object.now (sd_at (objects_in self.now.entries) number)) result
+        ensures { option_map (λ object.
+            object_seen object.now (sd_at (objects_in self.now.entries) number)) result
             ≡ object_of (objects_in self.now.entries) number }
     {
         parts::object(&self.parts, number)
@@ -70,25 +72,29 @@ impl Objects {
     /// The identifier that the object of a number has. It takes no memory.
     pub fn sid(&self, number: u32) -> Option<&Sid>
         ensures { (schema : List SchemaRecord) → HaveTheirSids schema self.now.entries
-            → option_copied result ≡ option_and_then (sid_in schema) (object_of (objects_in self.now.entries) number) }
+            → option_copied result ≡ option_and_then (sid_in schema)
+            (object_of (objects_in self.now.entries) number) }
     {
         parts::sid(&self.parts, number)
     }
 
-    /// The descriptor of an object, and none exactly where there is none of the number. It takes no memory, and looks at no
-    /// byte.
+    /// The descriptor of an object, and none exactly where there is none of the number. It takes no memory, and looks
+    /// at no byte.
     pub fn sd(&self, number: u32) -> Option<SdView<'_>>
-        ensures { option_map seen result ≡ option_map (λ object. object.sd) (object_of (objects_in self.now.entries) number) }
+        ensures { option_map seen result ≡ option_map (λ object. object.sd)
+            (object_of (objects_in self.now.entries) number) }
     {
         parts::sd(&self.parts, number)
     }
 
-    /// The id of the descriptor of an object in the pool, and none exactly where there is none of the number. It takes no
-    /// memory.
+    /// The id of the descriptor of an object in the pool, and none exactly where there is none of the number. It
+    /// takes no memory.
     pub fn sd_id(&self, number: u32) -> Option<SdId>
         ensures some { is_some result ≡ is_live (objects_in self.now.entries) number }
         ensures live { IfSome result (λ id. is_held self.now.pool.live id.0 ≡ true) }
-        ensures bytes { IfSome result (λ id. SpellsNormal (sd_at (objects_in self.now.entries) number) (bytes_at self.now.pool.live id.0)) }
+        ensures bytes { IfSome result
+            (λ id. SpellsNormal (sd_at (objects_in self.now.entries) number)
+            (bytes_at self.now.pool.live id.0)) }
     {
         parts::id(&self.parts, number)
     }
@@ -97,12 +103,14 @@ impl Objects {
     pub fn same_descriptor(&self, a: u32, b: u32) -> bool
         requires a { is_live (objects_in self.now.entries) a ≡ true }
         requires b { is_live (objects_in self.now.entries) b ≡ true }
-        ensures { IsTrue result ↔ (sd_at (objects_in self.now.entries) a ≡ sd_at (objects_in self.now.entries) b) }
+        ensures { IsTrue result ↔ (sd_at (objects_in self.now.entries) a
+            ≡ sd_at (objects_in self.now.entries) b) }
     {
         parts::is_same(&self.parts, a, b)
     }
 
-    /// The pool of the descriptors: as many ids as there are different ones, each with as many sharers as objects have it.
+    /// The pool of the descriptors: as many ids as there are different ones, each with as many sharers as objects
+    /// have it.
     pub fn pool(&self) -> &SdPool
         ensures pool { result.now ≡ self.now.pool }
         ensures of { IsPoolOf (objects_in self.now.entries) self.now.pool }
@@ -129,8 +137,9 @@ impl Objects {
         kept::numbers(alloc, &self.parts.kept)
     }
 
-    /// Puts an object with the normal bytes of its descriptor in the place of the one that has its number, or else where its
-    /// number belongs. There are fewer than 2^32 - 1 objects. The new bytes are put before the old ones are given back.
+    /// Puts an object with the normal bytes of its descriptor in the place of the one that has its number, or else
+    /// where its number belongs. There are fewer than 2^32 - 1 objects. The new bytes are put before the old ones are
+    /// given back.
     ///
     /// # Errors
     ///
@@ -138,17 +147,21 @@ impl Objects {
     pub fn put(&mut self, schema: &Schema, object: Object, bytes: &[u8]) -> Result<(), AllocError>
         requires few { length self.old.entries < 2 ^ 32 - 1 }
         requires normal { SpellsNormal (sd_in bytes.now) bytes.now }
-        ensures ok { OnOk result (objects_in self.new.entries ≡ put (object_seen object (sd_in bytes.now)) (objects_in self.old.entries)) }
+        ensures ok { OnOk result (objects_in self.new.entries
+            ≡ put (object_seen object (sd_in bytes.now)) (objects_in self.old.entries)) }
         ensures err { OnErr result (self.new.entries ≡ self.old.entries) }
-        ensures sids { HaveTheirSids schema.now self.old.entries → HaveTheirSids schema.now self.new.entries }
+        ensures sids { HaveTheirSids schema.now self.old.entries → HaveTheirSids schema.now
+            self.new.entries }
     {
         parts::put(&mut self.parts, schema, object, bytes)
     }
 
     /// Takes the object of a number out. It takes no memory.
     pub fn remove(&mut self, number: u32)
-        ensures removed { objects_in self.new.entries ≡ removed number (objects_in self.old.entries) }
-        ensures sids { (schema : List SchemaRecord) → HaveTheirSids schema self.old.entries → HaveTheirSids schema self.new.entries }
+        ensures removed { objects_in self.new.entries
+            ≡ removed number (objects_in self.old.entries) }
+        ensures sids { (schema : List SchemaRecord) → HaveTheirSids schema self.old.entries
+            → HaveTheirSids schema self.new.entries }
     {
         parts::remove(&mut self.parts, number);
     }

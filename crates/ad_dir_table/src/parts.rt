@@ -1,6 +1,7 @@
 //! The objects and the pool together.
 
-ghost use Rattle.std.specs.Prelude.{◌≡◌, ◌↔◌, ◌<◌, ◌-◌, ◌^◌, true, is_some, [], length, OnOk, OnErr, IfOk, IsTrue, option_map, List};
+ghost use Rattle.std.specs.Prelude.{◌≡◌, ◌↔◌, ◌<◌, ◌-◌, ◌^◌, true, is_some, [], length, OnOk, OnErr, IfOk, IsTrue};
+ghost use Rattle.std.specs.Prelude.{option_map, List};
 ghost use Rattle.std.specs.Option.{option_copied, option_and_then, IfSome};
 ghost use Rattle.ad_schema.specs.declared.line.SchemaRecord.{SchemaRecord};
 ghost use Rattle.ad_sd.specs.Seen.{seen};
@@ -51,7 +52,8 @@ pub(crate) fn empty(alloc: Global) -> Parts
 /// The object of a number.
 pub(crate) fn object(parts: &Parts, number: u32) -> Option<&Object>
     requires { IsKept parts.now }
-    ensures { option_map (λ object. object_seen object.now (sd_at (objects_in (entries_of parts.now)) number)) result
+    ensures { option_map (λ object.
+        object_seen object.now (sd_at (objects_in (entries_of parts.now)) number)) result
         ≡ object_of (objects_in (entries_of parts.now)) number }
 {
     match kept_of(&parts.kept, number) {
@@ -64,7 +66,8 @@ pub(crate) fn object(parts: &Parts, number: u32) -> Option<&Object>
 pub(crate) fn sid(parts: &Parts, number: u32) -> Option<&Sid>
     requires { IsKept parts.now }
     ensures { (schema : List SchemaRecord) → HaveTheirSids schema (entries_of parts.now)
-        → option_copied result ≡ option_and_then (sid_in schema) (object_of (objects_in (entries_of parts.now)) number) }
+        → option_copied result ≡ option_and_then (sid_in schema)
+        (object_of (objects_in (entries_of parts.now)) number) }
 {
     match kept_of(&parts.kept, number) {
         Some(kept) => kept::sid_of(kept),
@@ -77,7 +80,9 @@ pub(crate) fn id(parts: &Parts, number: u32) -> Option<SdId>
     requires { IsKept parts.now }
     ensures some { is_some result ≡ Objects.is_live (objects_in (entries_of parts.now)) number }
     ensures live { IfSome result (λ id. is_live parts.now.pool.live id.0 ≡ true) }
-    ensures bytes { IfSome result (λ id. SpellsNormal (sd_at (objects_in (entries_of parts.now)) number) (bytes_at parts.now.pool.live id.0)) }
+    ensures bytes { IfSome result (λ id.
+        SpellsNormal (sd_at (objects_in (entries_of parts.now)) number)
+        (bytes_at parts.now.pool.live id.0)) }
 {
     match kept_of(&parts.kept, number) {
         Some(kept) => Some(kept.id),
@@ -88,7 +93,8 @@ pub(crate) fn id(parts: &Parts, number: u32) -> Option<SdId>
 /// The descriptor of an object.
 pub(crate) fn sd(parts: &Parts, number: u32) -> Option<SdView<'_>>
     requires { IsKept parts.now }
-    ensures { option_map seen result ≡ option_map (λ object. object.sd) (object_of (objects_in (entries_of parts.now)) number) }
+    ensures { option_map seen result ≡ option_map (λ object. object.sd)
+        (object_of (objects_in (entries_of parts.now)) number) }
 {
     match id(parts, number) {
         Some(id) => Some(SdView::of_normal(pooled::bytes_at(&parts.pool, id))),
@@ -101,7 +107,8 @@ pub(crate) fn is_same(parts: &Parts, a: u32, b: u32) -> bool
     requires kept { IsKept parts.now }
     requires a { Objects.is_live (objects_in (entries_of parts.now)) a ≡ true }
     requires b { Objects.is_live (objects_in (entries_of parts.now)) b ≡ true }
-    ensures { IsTrue result ↔ (sd_at (objects_in (entries_of parts.now)) a ≡ sd_at (objects_in (entries_of parts.now)) b) }
+    ensures { IsTrue result ↔ (sd_at (objects_in (entries_of parts.now)) a
+        ≡ sd_at (objects_in (entries_of parts.now)) b) }
 {
     parts.pool.is_one();
     match (id(parts, a), id(parts, b)) {
@@ -118,8 +125,8 @@ pub(crate) fn is_pooled(parts: &Parts)
     parts.pool.is_one();
 }
 
-/// Puts an object with the normal bytes of its descriptor in the place of the one that has its number, or else where its
-/// number belongs.
+/// Puts an object with the normal bytes of its descriptor in the place of the one that has its number, or else where
+/// its number belongs.
 ///
 /// # Errors
 ///
@@ -134,9 +141,11 @@ pub(crate) fn put(
     requires few { length (entries_of parts.old) < 2 ^ 32 - 1 }
     requires normal { SpellsNormal (sd_in bytes.now) bytes.now }
     ensures kept { IsKept parts.new }
-    ensures ok { OnOk result (objects_in (entries_of parts.new) ≡ put (object_seen object (sd_in bytes.now)) (objects_in (entries_of parts.old))) }
+    ensures ok { OnOk result (objects_in (entries_of parts.new)
+        ≡ put (object_seen object (sd_in bytes.now)) (objects_in (entries_of parts.old))) }
     ensures err { OnErr result (entries_of parts.new ≡ entries_of parts.old) }
-    ensures sids { HaveTheirSids schema.now (entries_of parts.old) → HaveTheirSids schema.now (entries_of parts.new) }
+    ensures sids { HaveTheirSids schema.now (entries_of parts.old) → HaveTheirSids schema.now
+        (entries_of parts.new) }
 {
     parts.pool.is_one();
     let id = pooled::put(&mut parts.pool, bytes)?;
@@ -156,8 +165,10 @@ pub(crate) fn put(
 pub(crate) fn remove(parts: &mut Parts, number: u32)
     requires kept { IsKept parts.old }
     ensures kept { IsKept parts.new }
-    ensures removed { objects_in (entries_of parts.new) ≡ removed number (objects_in (entries_of parts.old)) }
-    ensures sids { (schema : List SchemaRecord) → HaveTheirSids schema (entries_of parts.old) → HaveTheirSids schema (entries_of parts.new) }
+    ensures removed { objects_in (entries_of parts.new)
+        ≡ removed number (objects_in (entries_of parts.old)) }
+    ensures sids { (schema : List SchemaRecord) → HaveTheirSids schema (entries_of parts.old)
+        → HaveTheirSids schema (entries_of parts.new) }
 {
     let was = kept::take(&mut parts.kept, number);
     pooled::give_back_if(&mut parts.pool, was);

@@ -22,7 +22,8 @@ pub(crate) fn bytes_at(pool: &SdPool, id: SdId) -> &[u8]
 ///
 /// Out of memory. The pool stays as it was.
 pub(crate) fn put(pool: &mut SdPool, bytes: &[u8]) -> Result<SdId, AllocError>
-    requires few { IfSome (with_bytes pool.old.live bytes.now) (λ extent. extent.sharers < 2 ^ 32 - 1) }
+    requires few { IfSome (with_bytes pool.old.live bytes.now)
+        (λ extent. extent.sharers < 2 ^ 32 - 1) }
     requires free { length pool.old.live < 2 ^ 32 - 1 }
     ensures ok { IfOk result (λ id. IsAdded pool.old.live pool.new.live id.0 bytes.now) }
     ensures err { OnErr result (pool.new ≡ pool.old) }

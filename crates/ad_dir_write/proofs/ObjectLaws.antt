@@ -32,12 +32,15 @@ classes_guids schema = infos_guids _ _ _ 0 _
 
 get_guid : (infos : List ClassInfo) (class : ℕ) (info : ClassInfo) → slice_get infos class ≡ Some info
     → slice_get (map (λ (i : ClassInfo). i.guid) infos) class ≡ Some info.guid
-get_guid infos class info is = slice_get-map (λ (i : ClassInfo). i.guid) infos class ∙ ap (option_map (λ (i : ClassInfo). i.guid)) is
+get_guid infos class info is = slice_get-map (λ (i : ClassInfo). i.guid) infos class
+    ∙ ap (option_map (λ (i : ClassInfo). i.guid)) is
 
-pub guid_is : (schema : List SchemaRecord) (class : ℕ) (info : ClassInfo) → slice_get (classes_of schema) class ≡ Some info → info.guid ≡ guid_at schema class
+pub guid_is : (schema : List SchemaRecord) (class : ℕ) (info : ClassInfo) → slice_get (classes_of schema) class
+    ≡ Some info → info.guid ≡ guid_at schema class
 unfolding guid_at
 guid_is schema class info is =
-    sym (ap (λ (o : Option Guid). unwrap_or o no_guid) (ap (λ (gs : List Guid). slice_get gs class) (sym (classes_guids schema))
+    sym (ap (λ (o : Option Guid). unwrap_or o no_guid)
+    (ap (λ (gs : List Guid). slice_get gs class) (sym (classes_guids schema))
     ∙ get_guid (classes_of schema) class info is))
 
 -- normal bytes are equal where descriptors are

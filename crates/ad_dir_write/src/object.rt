@@ -18,7 +18,8 @@ use ad_sd::SdView;
 /// A live object.
 pub fn live_object(dir: &Dir, number: u32) -> &Object
     requires { is_live dir.now.objects number ≡ true }
-    ensures { object_seen result.now (sd_at dir.now.objects number) ≡ object_at dir.now.objects number }
+    ensures { object_seen result.now (sd_at dir.now.objects number) ≡ object_at dir.now.objects
+        number }
 {
     match dir.object(number) {
         Some(object) => object,
@@ -48,7 +49,8 @@ pub fn guid_of(schema: &Schema, class: ClassId) -> Guid
 /// Whether these normal bytes are those of another descriptor than a live object has.
 pub fn is_another(dir: &Dir, number: u32, bytes: &[u8]) -> bool
     requires { is_live dir.now.objects number ≡ true }
-    ensures { (sd : SdValue) → SpellsNormal sd bytes.now → result ≡ not (same_sd (sd_at dir.now.objects number) sd) }
+    ensures { (sd : SdValue) → SpellsNormal sd bytes.now → result
+        ≡ not (same_sd (sd_at dir.now.objects number) sd) }
 {
     live_sd(dir, number).as_bytes() != bytes
 }

@@ -1,5 +1,6 @@
 -- Which byte may follow within a value.
-use Rattle.std.proofs.Common.{Bool, nat_le, nat_lt, eqb, ◌≡◌, ◌⊎◌, inl, inr, ℕ, suc, ◌+◌, ◌-◌, ◌*◌, ◌<◌, ◌≤◌, true, false, Option, Some, None, is_some, List, length, refl, sym, ap, subst, ◌∙◌, arith}
+use Rattle.std.proofs.Common.{Bool, nat_le, nat_lt, eqb, ◌≡◌, ◌⊎◌, inl, inr, ℕ, suc, ◌+◌, ◌-◌, ◌*◌, ◌<◌, ◌≤◌, true}
+use Rattle.std.proofs.Common.{false, Option, Some, None, is_some, List, length, refl, sym, ap, subst, ◌∙◌, arith}
 use Rattle.std.specs.Prelude.{◌&&◌, ◌||◌}
 use Rattle.std.proofs.lemmas.Bool.{cases_lt, and_parts, or_parts}
 use Rattle.std.proofs.lemmas.Bool.Decides.{nat_tests}
@@ -7,7 +8,8 @@ use Rattle.std.proofs.lemmas.Option.{same_Some}
 use Rattle.ad_dn.specs.declared.utf8_state.Utf8State.{Utf8State}
 use Rattle.ad_dn.specs.Utf8State.{due, nothing_due, size, least_after, most_after, begun, continued, due_after}
 use Rattle.ad_dn.proofs.Told.{if_some, if_none}
-use Rattle.ad_dn.proofs.Utf8.{Fills, Lead, one, two, three, four, no_lead, lead, size_1, size_2, size_3, size_4, least_is, most_is, begun_is, at_first, at_later, continued_is, enough_follow}
+use Rattle.ad_dn.proofs.Utf8.{Fills, Lead, one, two, three, four, no_lead, lead, size_1, size_2, size_3, size_4}
+use Rattle.ad_dn.proofs.Utf8.{least_is, most_is, begun_is, at_first, at_later, continued_is, enough_follow}
 
 -- what is due is what some first byte, or a later one, leaves due
 pub record IsDue (d : Utf8State) : Type 0 where
@@ -27,7 +29,8 @@ pub record Began (used b : ℕ) (d : Utf8State) : Type 0 where
 
 pub began : (used b : ℕ) (d : Utf8State) → begun used b ≡ Some d → Began used b d
 began used b d e =
-    let p = if_none (eqb (size b) 0 || nat_lt 1024 (used + size b)) (Some (due (size b - 1) (least_after b) (most_after b))) d e in
+    let p = if_none (eqb (size b) 0 || nat_lt 1024 (used + size b))
+    (Some (due (size b - 1) (least_after b) (most_after b))) d e in
     let q = or_parts (eqb (size b) 0) (nat_lt 1024 (used + size b)) p.0 in
     let not_0 : eqb (size b) 0 ≡ false = q.0 in
     let within : nat_lt 1024 (used + size b) ≡ false = q.1 in
@@ -39,7 +42,8 @@ began used b d e =
     below : (n : ℕ) → nat_lt 1024 n ≡ false → n ≤ 1024
     below n h = grind (arith, nat_tests)
 
-pub went_on : (d e : Utf8State) (b : ℕ) → continued d b ≡ Some e → (d.low ≤ b) × (b ≤ d.high) × (due (d.more - 1) 128 191 ≡ e)
+pub went_on : (d e : Utf8State) (b : ℕ) → continued d b ≡ Some e → (d.low ≤ b) × (b ≤ d.high)
+    × (due (d.more - 1) 128 191 ≡ e)
 went_on d e b is =
     let p = if_some (nat_le d.low b && nat_le b d.high) (Some (due (d.more - 1) 128 191)) e is in
     let q = and_parts (nat_le d.low b) (nat_le b d.high) p.0 in
@@ -80,7 +84,8 @@ due_kept used b d e h is = elim (cases_lt 0 d.more) [
 ]
 
 -- where it stands at all, it stands where all that is due has room
-pub room_for : (used b : ℕ) (d e : Utf8State) (bytes : List ℕ) → due_after 0 d b ≡ Some e → Fills (Some e) bytes → used + 1 + length bytes ≤ 1024 → due_after used d b ≡ Some e
+pub room_for : (used b : ℕ) (d e : Utf8State) (bytes : List ℕ) → due_after 0 d b ≡ Some e → Fills (Some e) bytes
+    → used + 1 + length bytes ≤ 1024 → due_after used d b ≡ Some e
 room_for used b d e bytes is f room = elim (cases_lt 0 d.more) [
   | inr over ↦
       let p = began 0 b e (sym (at_first 0 b d (omega arith)) ∙ is) in
@@ -102,13 +107,15 @@ anywhere used b d e is = elim (cases_lt 0 d.more) [
   | inl some ↦ at_later 0 b d some ∙ sym (at_later used b d some) ∙ is
 ]
 
-pub next_of : (o : Option Utf8State) (bytes : List ℕ) → Fills o bytes → (e : Utf8State) × (o ≡ Some e) × Fills (Some e) bytes
+pub next_of : (o : Option Utf8State) (bytes : List ℕ) → Fills o bytes → (e : Utf8State) × (o ≡ Some e)
+    × Fills (Some e) bytes
 next_of None bytes f = absurd f
 next_of (Some e) bytes f = (e, refl, f)
 
 -- ---- two hexadecimal digits
 
-stands : (used b k : ℕ) (d : Utf8State) → d.more ≡ 0 → size b ≡ suc k → used + suc k ≤ 1024 → is_some (due_after used d b) ≡ true
+stands : (used b k : ℕ) (d : Utf8State) → d.more ≡ 0 → size b ≡ suc k → used + suc k ≤ 1024
+    → is_some (due_after used d b) ≡ true
 stands used b k d none is room = ap is_some (at_first used b d none ∙ begun_is used b k is room)
 
 or_first : (x y : Bool) → x ≡ true → (x || y) ≡ true
@@ -119,20 +126,26 @@ or_second true y e = refl
 or_second false y e = e
 
 -- Where one of the 16 bytes with this first digit may stand, the least or the greatest of them may.
-first_digit : (used high low : ℕ) (d e : Utf8State) → d.more ≡ 0 → low < 16 → due_after used d (16 * high + low) ≡ Some e → Lead (16 * high + low) → (is_some (due_after used d (16 * high)) || is_some (due_after used d (16 * high + 15))) ≡ true
+first_digit : (used high low : ℕ) (d e : Utf8State) → d.more ≡ 0 → low < 16 → due_after used d (16 * high + low)
+    ≡ Some e → Lead (16 * high + low) → (is_some (due_after used d (16 * high))
+    || is_some (due_after used d (16 * high + 15))) ≡ true
 first_digit used high low d e none small is l =
     let p = began used (16 * high + low) e (sym (at_first used (16 * high + low) d none) ∙ is) in
     let room : used + size (16 * high + low) ≤ 1024 = p.room in
     let some : 1 ≤ size (16 * high + low) = p.some in
     elim l [
       | one h k ↦ or_first _ _ (stands used (16 * high) 0 d none (size_1 (16 * high) (omega arith)) (omega (arith, k)))
-      | two h k ↦ or_second _ _ (stands used (16 * high + 15) 1 d none (size_2 (16 * high + 15) (omega arith) (omega arith)) (omega (arith, k)))
-      | three h k ↦ or_second _ _ (stands used (16 * high + 15) 2 d none (size_3 (16 * high + 15) (omega arith) (omega arith)) (omega (arith, k)))
-      | four h k ↦ or_first _ _ (stands used (16 * high) 3 d none (size_4 (16 * high) (omega arith) (omega arith)) (omega (arith, k)))
+      | two h k ↦ or_second _ _ (stands used (16 * high + 15) 1 d none
+          (size_2 (16 * high + 15) (omega arith) (omega arith)) (omega (arith, k)))
+      | three h k ↦ or_second _ _ (stands used (16 * high + 15) 2 d none
+          (size_3 (16 * high + 15) (omega arith) (omega arith)) (omega (arith, k)))
+      | four h k ↦ or_first _ _ (stands used (16 * high) 3 d none (size_4 (16 * high) (omega arith) (omega arith))
+          (omega (arith, k)))
       | no_lead k ↦ absurd (omega (arith, k, some))
     ]
 
-pub digit_may_stand : (used high low : ℕ) (d e : Utf8State) → IsDue d → low < 16 → due_after used d (16 * high + low) ≡ Some e → (is_some (due_after used d (16 * high)) || is_some (due_after used d (16 * high + 15))) ≡ true
+pub digit_may_stand : (used high low : ℕ) (d e : Utf8State) → IsDue d → low < 16 → due_after used d (16 * high + low)
+    ≡ Some e → (is_some (due_after used d (16 * high)) || is_some (due_after used d (16 * high + 15))) ≡ true
 digit_may_stand used high low d e h small is = elim (cases_lt 0 d.more) [
   | inr over ↦ first_digit used high low d e (omega arith) small is (lead (16 * high + low))
   | inl some ↦

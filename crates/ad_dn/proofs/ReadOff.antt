@@ -11,7 +11,8 @@ use Rattle.ad_dn.proofs.Ends.{reads_names}
 
 pub dn_read : (text : List ℕ) (dn : Dn) → dn_of text ≡ Some dn → SpellsDn dn text
 unfolding dn_of
-dn_read text dn e = option_and_then_some finished_name (run step (Some start) text) dn e (λ last steps whole. reads_names.found last text dn steps whole)
+dn_read text dn e = option_and_then_some finished_name (run step (Some start) text) dn e
+    (λ last steps whole. reads_names.found last text dn steps whole)
 
 pub dn_again : (text : List ℕ) (dn : Dn) → SpellsDn dn text → dn_of text ≡ Some dn
 unfolding dn_of

@@ -1,5 +1,6 @@
 -- What a text encodes is a name, and what is written of a name is one of its texts.
-use Rattle.std.proofs.Common.{Bool, eqb, ◌≡◌, ◌⊎◌, inl, inr, ℕ, ◌-◌, ◌<◌, ◌≤◌, true, false, if◌then◌else◌, List, [], ◌∷◌, ◌++◌, map, refl, sym, ap, subst, ◌∙◌, append_assoc, arith, lt-ltb, le-ltb}
+use Rattle.std.proofs.Common.{Bool, eqb, ◌≡◌, ◌⊎◌, inl, inr, ℕ, ◌-◌, ◌<◌, ◌≤◌, true, false, if◌then◌else◌, List, []}
+use Rattle.std.proofs.Common.{◌∷◌, ◌++◌, map, refl, sym, ap, subst, ◌∙◌, append_assoc, arith, lt-ltb, le-ltb}
 use Rattle.std.specs.Prelude.{◌&&◌, ◌||◌, not}
 use Rattle.std.specs.List.{AllByRecursion, list_all}
 use Rattle.std.specs.Char.{to_ascii_uppercase}
@@ -10,13 +11,17 @@ use Rattle.std.proofs.lemmas.List.{append-nil}
 use Rattle.ad_dn.specs.declared.rdn.Rdn.{Rdn}
 use Rattle.ad_dn.specs.AttributeType.{is_letter, is_type_byte, is_type, IsType}
 use Rattle.ad_dn.specs.Value.{IsAttributeType, IsValue, IsRdn, AreRdns}
-use Rattle.ad_dn.specs.Grammar.{is_reserved, is_special, Piece, plain, marked, pair, piece_byte, IsPiece, may_be_first, may_be_last, EndsWell, SpellsValue, SpellsAttributeType, SpellsRdn, SpellsOthers, SpellsRdns}
-use Rattle.ad_dn.specs.Text.{piece_of, first_piece, last_piece, later_pieces, pieces_of, value_text, rdn_text, others_text, rdns_text}
+use Rattle.ad_dn.specs.Grammar.{is_reserved, is_special, Piece, plain, marked, pair, piece_byte, IsPiece}
+use Rattle.ad_dn.specs.Grammar.{may_be_first, may_be_last, EndsWell, SpellsValue, SpellsAttributeType, SpellsRdn}
+use Rattle.ad_dn.specs.Grammar.{SpellsOthers, SpellsRdns}
+use Rattle.ad_dn.specs.Text.{piece_of, first_piece, last_piece, later_pieces, pieces_of, value_text, rdn_text}
+use Rattle.ad_dn.specs.Text.{others_text, rdns_text}
 
 -- ---- what is encoded is a name
 
 -- an upper-case letter of a lower-case one, and no change of another byte
-upper_cases : (b : ℕ) → ((97 ≤ b) × (b ≤ 122) × (to_ascii_uppercase b ≡ b - 32)) ⊎ (((b < 97) ⊎ (122 < b)) × (to_ascii_uppercase b ≡ b))
+upper_cases : (b : ℕ) → ((97 ≤ b) × (b ≤ 122) × (to_ascii_uppercase b ≡ b - 32))
+    ⊎ (((b < 97) ⊎ (122 < b)) × (to_ascii_uppercase b ≡ b))
 upper_cases b = elim (cases_lt b 97) [
   | inl low ↦ inr (inl low, rw (lt-ltb b 97 low) refl)
   | inr high ↦ elim (cases_lt b 123) [
@@ -53,32 +58,38 @@ upper_byte b e = elim (upper_cases b) [
 
 all_twice : (bytes : List ℕ) → str_to_ascii_uppercase (str_to_ascii_uppercase bytes) ≡ str_to_ascii_uppercase bytes
 all_twice [] = refl
-all_twice (b ∷ bytes) = ap (λ (x : ℕ). x ∷ str_to_ascii_uppercase (str_to_ascii_uppercase bytes)) (upper_twice b) ∙ ap (λ (l : List ℕ). to_ascii_uppercase b ∷ l) (all_twice bytes)
+all_twice (b ∷ bytes) = ap (λ (x : ℕ). x ∷ str_to_ascii_uppercase (str_to_ascii_uppercase bytes)) (upper_twice b)
+    ∙ ap (λ (l : List ℕ). to_ascii_uppercase b ∷ l) (all_twice bytes)
 
 both : (x y : Bool) → x ≡ true → y ≡ true → (x && y) ≡ true
 both x y e f = ap (λ t. t && y) e ∙ f
 
-all_upper : (bytes : List ℕ) → list_all is_type_byte bytes ≡ true → list_all is_type_byte (str_to_ascii_uppercase bytes) ≡ true
+all_upper : (bytes : List ℕ) → list_all is_type_byte bytes ≡ true
+    → list_all is_type_byte (str_to_ascii_uppercase bytes) ≡ true
 all_upper [] e = refl
 all_upper (b ∷ bytes) e =
     let p = and_parts (is_type_byte b) (list_all is_type_byte bytes) e in
-    both (is_type_byte (to_ascii_uppercase b)) (list_all is_type_byte (str_to_ascii_uppercase bytes)) (upper_byte b p.0) (all_upper bytes p.1)
+    both (is_type_byte (to_ascii_uppercase b)) (list_all is_type_byte (str_to_ascii_uppercase bytes))
+    (upper_byte b p.0) (all_upper bytes p.1)
 
 type_upper : (text : List ℕ) → is_type text ≡ true → is_type (str_to_ascii_uppercase text) ≡ true
 type_upper [] e = e
 type_upper (b ∷ bytes) e =
     let p = and_parts (is_letter b) (list_all is_type_byte bytes) e in
-    both (is_letter (to_ascii_uppercase b)) (list_all is_type_byte (str_to_ascii_uppercase bytes)) (upper_letter b p.0) (all_upper bytes p.1)
+    both (is_letter (to_ascii_uppercase b)) (list_all is_type_byte (str_to_ascii_uppercase bytes))
+    (upper_letter b p.0) (all_upper bytes p.1)
 
 kind_is : (kind text : List ℕ) → SpellsAttributeType kind text → IsAttributeType kind
-kind_is kind text s = subst IsAttributeType (sym s.upper) (record { form = type_upper text s.is_type; upper = all_twice text })
+kind_is kind text s = subst IsAttributeType (sym s.upper)
+    (record { form = type_upper text s.is_type; upper = all_twice text })
 
 rdn_is : (rdn : Rdn) (text : List ℕ) → SpellsRdn rdn text → IsRdn rdn
 rdn_is rdn text s = record { kind = kind_is rdn.kind s.kind s.spells_type; value = s.spells_value.is_value }
 
 others_are : (rdns : List Rdn) (text : List ℕ) → SpellsOthers rdns text → AreRdns rdns
 others_are [] text s = tt
-others_are (rdn ∷ rdns) text s = let j = s.is_others in (rdn_is rdn j.first j.is_first, others_are rdns j.rest j.is_rest)
+others_are (rdn ∷ rdns) text s = let j = s.is_others
+    in (rdn_is rdn j.first j.is_first, others_are rdns j.rest j.is_rest)
 
 pub spelled_are : (rdns : List Rdn) (text : List ℕ) → SpellsRdns rdns text → AreRdns rdns
 spelled_are [] text s = tt
@@ -93,7 +104,8 @@ record Piecewise (b : ℕ) (p : Piece) : Type 0 where
   first : eqb b 32 ≡ false → eqb b 35 ≡ false → may_be_first p ≡ true
   last : eqb b 32 ≡ false → may_be_last p ≡ true
 
-if_piece : (b : ℕ) (t : Bool) (p q : Piece) → (t ≡ true → Piecewise b p) → (t ≡ false → Piecewise b q) → Piecewise b (if t then p else q)
+if_piece : (b : ℕ) (t : Bool) (p q : Piece) → (t ≡ true → Piecewise b p) → (t ≡ false → Piecewise b q)
+    → Piecewise b (if t then p else q)
 if_piece b true p q f g = f refl
 if_piece b false p q f g = g refl
 
@@ -128,7 +140,8 @@ record IsFirst (b : ℕ) (p : Piece) : Type 0 where
   first : may_be_first p ≡ true
   last : may_be_last p ≡ true
 
-if_first : (b : ℕ) (t : Bool) (p q : Piece) → (t ≡ true → IsFirst b p) → (t ≡ false → IsFirst b q) → IsFirst b (if t then p else q)
+if_first : (b : ℕ) (t : Bool) (p q : Piece) → (t ≡ true → IsFirst b p) → (t ≡ false → IsFirst b q)
+    → IsFirst b (if t then p else q)
 if_first b true p q f g = f refl
 if_first b false p q f g = g refl
 
@@ -151,7 +164,8 @@ record IsLast (b : ℕ) (p : Piece) : Type 0 where
   byte : b ≡ piece_byte p
   last : may_be_last p ≡ true
 
-if_last : (b : ℕ) (t : Bool) (p q : Piece) → (t ≡ true → IsLast b p) → (t ≡ false → IsLast b q) → IsLast b (if t then p else q)
+if_last : (b : ℕ) (t : Bool) (p q : Piece) → (t ≡ true → IsLast b p) → (t ≡ false → IsLast b q)
+    → IsLast b (if t then p else q)
 if_last b true p q f g = f refl
 if_last b false p q f g = g refl
 
@@ -168,11 +182,13 @@ later_are (b ∷ c ∷ bytes) = ((piece_of_is b).is, later_are (c ∷ bytes))
 later_bytes : (bytes : List ℕ) → bytes ≡ map piece_byte (later_pieces bytes)
 later_bytes [] = refl
 later_bytes (b ∷ []) = ap (λ (x : ℕ). x ∷ []) (last_is b).byte
-later_bytes (b ∷ c ∷ bytes) = ap (λ (x : ℕ). x ∷ c ∷ bytes) (piece_of_is b).byte ∙ ap (λ (l : List ℕ). piece_byte (piece_of b) ∷ l) (later_bytes (c ∷ bytes))
+later_bytes (b ∷ c ∷ bytes) = ap (λ (x : ℕ). x ∷ c ∷ bytes) (piece_of_is b).byte
+    ∙ ap (λ (l : List ℕ). piece_byte (piece_of b) ∷ l) (later_bytes (c ∷ bytes))
 
 pub value_pieces : (value : List ℕ) → value ≡ map piece_byte (pieces_of value)
 value_pieces [] = refl
-value_pieces (b ∷ bytes) = ap (λ (x : ℕ). x ∷ bytes) (first_is b).byte ∙ ap (λ (l : List ℕ). piece_byte (first_piece b) ∷ l) (later_bytes bytes)
+value_pieces (b ∷ bytes) = ap (λ (x : ℕ). x ∷ bytes) (first_is b).byte
+    ∙ ap (λ (l : List ℕ). piece_byte (first_piece b) ∷ l) (later_bytes bytes)
 
 later_end : (p : Piece) (b : ℕ) (bytes : List ℕ) → EndsWell (p ∷ later_pieces (b ∷ bytes))
 later_end p b [] = (last_is b).last
@@ -203,7 +219,8 @@ rdn_spelled rdn r = record {
   after = 0;
   value = value_text rdn.value;
   spells_value = value_spelled rdn.value r.value;
-  parts = ap (λ (k : List ℕ). k ++ 61 ∷ value_text rdn.value) (sym (append-nil rdn.kind)) ∙ sym (append_assoc (rdn.kind ++ []) (61 ∷ []) (value_text rdn.value));
+  parts = ap (λ (k : List ℕ). k ++ 61 ∷ value_text rdn.value) (sym (append-nil rdn.kind))
+      ∙ sym (append_assoc (rdn.kind ++ []) (61 ∷ []) (value_text rdn.value));
 }
 
 others_spelled : (rdns : List Rdn) → AreRdns rdns → SpellsOthers rdns (others_text rdns)
@@ -212,7 +229,14 @@ others_spelled (rdn ∷ rdns) all = record {
   before = 0;
   after = 0;
   others = rdn_text rdn ++ others_text rdns;
-  is_others = record { first = rdn_text rdn; is_first = rdn_spelled rdn all.0; rest = others_text rdns; is_rest = others_spelled rdns all.1; parts = refl };
+  is_others = record {
+    first = rdn_text rdn;
+    is_first = rdn_spelled rdn all.0;
+    rest = others_text rdns;
+    is_rest
+        = others_spelled rdns all.1;
+    parts = refl;
+  };
   parts = refl;
 }
 
@@ -220,10 +244,22 @@ others_spelled (rdn ∷ rdns) all = record {
 pub rdns_spelled : (rdns : List Rdn) → AreRdns rdns → SpellsRdns rdns (rdns_text rdns)
 unfolding rdns_text
 rdns_spelled [] all = refl
-rdns_spelled (rdn ∷ rdns) all = record { first = rdn_text rdn; is_first = rdn_spelled rdn all.0; rest = others_text rdns; is_rest = others_spelled rdns all.1; parts = refl }
+rdns_spelled (rdn ∷ rdns) all = record {
+  first = rdn_text rdn;
+  is_first = rdn_spelled rdn all.0;
+  rest
+      = others_text rdns;
+  is_rest = others_spelled rdns all.1;
+  parts = refl;
+}
 
 -- ---- parts that are made
 
 -- a type in either case, and a value
-pub made_is : (kind value : List ℕ) → IsType kind → IsValue value → IsRdn (record { kind = str_to_ascii_uppercase kind; value = value })
-made_is kind value t v = record { kind = kind_is (str_to_ascii_uppercase kind) kind (record { is_type = t; upper = refl }); value = v }
+pub made_is : (kind value : List ℕ) → IsType kind → IsValue value
+    → IsRdn (record { kind = str_to_ascii_uppercase kind; value = value })
+made_is kind value t v = record {
+  kind = kind_is (str_to_ascii_uppercase kind) kind
+      (record { is_type = t; upper = refl });
+  value = v;
+}

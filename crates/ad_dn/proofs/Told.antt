@@ -1,20 +1,24 @@
 -- What the tests of a step tell.
-use Rattle.std.proofs.Common.{Bool, eqb, ◌≡◌, ◌⊎◌, inl, inr, ℕ, ◌<◌, true, false, if◌then◌else◌, Option, Some, None, refl, arith}
+use Rattle.std.proofs.Common.{Bool, eqb, ◌≡◌, ◌⊎◌, inl, inr, ℕ, ◌<◌, true, false, if◌then◌else◌, Option, Some, None}
+use Rattle.std.proofs.Common.{refl, arith}
 use Rattle.std.specs.Prelude.{◌||◌, not}
 use Rattle.std.proofs.lemmas.Bool.{or_parts, and_parts, not-true}
 use Rattle.std.proofs.lemmas.Bool.Decides.{nat_tests}
 use Rattle.uuid.specs.Text.{is_hex_digit, value_of}
 use Rattle.ad_dn.specs.Grammar.{is_reserved, is_special, plain, is_piece}
 
-pub if_some : {A : Type 0} (t : Bool) (x : Option A) (u : A) → (if t then x else None) ≡ Some u → (t ≡ true) × (x ≡ Some u)
+pub if_some : {A : Type 0} (t : Bool) (x : Option A) (u : A) → (if t then x else None) ≡ Some u → (t ≡ true)
+    × (x ≡ Some u)
 if_some true x u e = (refl, e)
 if_some false x u e = absurd cc
 
-pub if_none : {A : Type 0} (t : Bool) (x : Option A) (u : A) → (if t then None else x) ≡ Some u → (t ≡ false) × (x ≡ Some u)
+pub if_none : {A : Type 0} (t : Bool) (x : Option A) (u : A) → (if t then None else x) ≡ Some u → (t ≡ false)
+    × (x ≡ Some u)
 if_none true x u e = absurd cc
 if_none false x u e = (refl, e)
 
-pub if_either : {A : Type 0} (t : Bool) (x y : Option A) (u : A) → (if t then x else y) ≡ Some u → ((t ≡ true) × (x ≡ Some u)) ⊎ ((t ≡ false) × (y ≡ Some u))
+pub if_either : {A : Type 0} (t : Bool) (x y : Option A) (u : A) → (if t then x else y) ≡ Some u
+    → ((t ≡ true) × (x ≡ Some u)) ⊎ ((t ≡ false) × (y ≡ Some u))
 if_either true x y u e = inl (refl, e)
 if_either false x y u e = inr (refl, e)
 

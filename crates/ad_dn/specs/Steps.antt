@@ -7,7 +7,8 @@ use Rattle.ad_dn.specs.declared.rdn.Rdn.{Rdn}
 use Rattle.ad_dn.specs.declared.utf8_state.Utf8State.{Utf8State}
 use Rattle.ad_dn.specs.declared.steps.State.{State}
 use Rattle.ad_dn.specs.declared.steps.ParserPhase.{ParserPhase}
-use Rattle.ad_dn.specs.declared.steps.ParserPhase.TheVariants.{Nothing, Comma, Kind, KindEnd, Equals, Value, Mark, Digit}
+use Rattle.ad_dn.specs.declared.steps.ParserPhase.TheVariants.{Nothing, Comma, Kind, KindEnd, Equals, Value, Mark}
+use Rattle.ad_dn.specs.declared.steps.ParserPhase.TheVariants.{Digit}
 use Rattle.ad_dn.specs.declared.fault.DnFault.{DnFault}
 use Rattle.ad_dn.specs.declared.fault.DnFault.TheVariants.{Bad, Memory}
 use Rattle.ad_dn.specs.AttributeType.{is_letter, is_type_byte}
@@ -16,7 +17,15 @@ use Rattle.ad_dn.specs.Grammar.{is_reserved, is_special}
 use Rattle.ad_dn.specs.Utf8State.{nothing_due, due_after}
 
 abbrev pub state : ParserPhase → List Rdn → List ℕ → List ℕ → ℕ → Utf8State → State
-state phase rdns kind value kept due = record { phase = phase; rdns = rdns; kind = kind; value = value; kept = kept; due = due }
+state phase rdns kind value kept due = record {
+  phase = phase;
+  rdns = rdns;
+  kind = kind;
+  value = value;
+  kept
+      = kept;
+  due = due;
+}
 
 abbrev pub start : State
 start = state Nothing [] [] [] 0 nothing_due
@@ -88,13 +97,15 @@ value_step s b =
 -- After a first digit one of 16 bytes may stand, and if any, the least or the greatest of them.
 abbrev pub digit_step : State → ℕ → Option State
 digit_step s high =
-    if may_stand s (16 * value_of high) || may_stand s (16 * value_of high + 15) then Some (moved (Digit high) s) else None
+    if may_stand s (16 * value_of high) || may_stand s (16 * value_of high + 15) then Some (moved (Digit high) s)
+    else None
 
 abbrev pub mark_next : State → ℕ → Option State
 mark_next s b = if is_special b then byte_step s b else if is_hex_digit b then digit_step s b else None
 
 abbrev pub second_step : State → ℕ → ℕ → Option State
-second_step s high b = if is_hex_digit high && is_hex_digit b then byte_step s (16 * value_of high + value_of b) else None
+second_step s high b = if is_hex_digit high && is_hex_digit b then byte_step s (16 * value_of high + value_of b)
+    else None
 
 abbrev pub first_step : State → ℕ → Option State
 first_step s b = if is_letter b then Some (with_letter s b) else None
@@ -122,7 +133,8 @@ abbrev pub step : State → ℕ → Option State
 step s b = step_from s.phase s b
 
 abbrev pub finished_value : State → Option (List Rdn)
-finished_value s = if (s.due.more == 0) && (s.kept == length s.value) then Some (s.rdns ++ record { kind = s.kind; value = s.value } ∷ []) else None
+finished_value s = if (s.due.more == 0) && (s.kept == length s.value)
+    then Some (s.rdns ++ record { kind = s.kind; value = s.value } ∷ []) else None
 
 -- the parts of the name, where its text may end here
 abbrev pub finished_from : ParserPhase → State → Option (List Rdn)

@@ -28,7 +28,8 @@ most_after b = if b == 237 then 159 else if b == 244 then 143 else 191
 
 -- A character begins after so many bytes of a value, and has all its bytes within 1,024.
 abbrev pub begun : ℕ → ℕ → Option Utf8State
-begun used b = if (size b == 0) || nat_lt 1024 (used + size b) then None else Some (due (size b - 1) (least_after b) (most_after b))
+begun used b = if (size b == 0) || nat_lt 1024 (used + size b) then None
+    else Some (due (size b - 1) (least_after b) (most_after b))
 
 abbrev pub continued : Utf8State → ℕ → Option Utf8State
 continued d b = if nat_le d.low b && nat_le b d.high then Some (due (d.more - 1) 128 191) else None

@@ -58,8 +58,8 @@ pub fn same_value(a: &[u8], b: &[u8]) -> bool
     default_caseless_match_str(text_of(a), text_of(b))
 }
 
-/// Whether two parts are the same: types without regard to ASCII case, and values after full case folding. It takes no
-/// memory.
+/// Whether two parts are the same: types without regard to ASCII case, and values after full case folding. It takes
+/// no memory.
 pub fn same_rdn(a: &Rdn, b: &Rdn) -> bool
     requires a { IsRdn a.now }
     requires b { IsRdn b.now }

@@ -24,12 +24,14 @@ pub fn a_spelled_name_has_its_form()
     ensures { (dn : Name) (text : List ℕ) → SpellsDn dn text → AreRdns dn.rdns }
 {}
 
-/// The name that a text encodes, as a function: it gives that name where there is one, and nothing where there is none.
+/// The name that a text encodes, as a function: it gives that name where there is one, and nothing where there is
+/// none.
 pub fn what_a_text_spells()
     ensures { (dn : Name) (text : List ℕ) → (dn_of text ≡ Some dn) ↔ SpellsDn dn text }
 {}
 
 /// Names have one key exactly where they are the same.
 pub fn names_of_one_key()
-    ensures { (a b : Name) → AreRdns a.rdns → AreRdns b.rdns → (name_key a ≡ name_key b) ↔ IsSameDn a b }
+    ensures { (a b : Name) → AreRdns a.rdns → AreRdns b.rdns → (name_key a ≡ name_key b)
+        ↔ IsSameDn a b }
 {}

@@ -38,7 +38,8 @@ impl Rdn {
     pub fn new(alloc: Global, kind: &[u8], value: &[u8]) -> Result<Rdn, AllocError>
         requires kind { IsType kind.now }
         requires value { IsValue value.now }
-        ensures made { IfOk result (λ rdn. rdn ≡ record { kind = str_to_ascii_uppercase kind.now; value = value.now }) }
+        ensures made { IfOk result (λ rdn. rdn
+            ≡ record { kind = str_to_ascii_uppercase kind.now; value = value.now }) }
         ensures rdn { IfOk result IsRdn }
     {
         let kind = upper(alloc, kind)?;

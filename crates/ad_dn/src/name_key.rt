@@ -50,7 +50,8 @@ fn are_bare(bytes: &[u8]) -> bool
 // Makes the letters of ASCII from there on small ones.
 fn lower_from(key: &mut Vec<u8>, start: usize)
     requires { start ≤ length key.old.items }
-    ensures { key.new.items ≡ take start key.old.items ++ map to_ascii_lowercase (drop start key.old.items) }
+    ensures { key.new.items ≡ take start key.old.items ++ map to_ascii_lowercase
+        (drop start key.old.items) }
 {
     key.as_mut_slice()[start..].make_ascii_lowercase();
 }

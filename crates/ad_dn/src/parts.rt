@@ -2,7 +2,8 @@
 
 ghost use Rattle.std.specs.Prelude.{◌≡◌, ◌≤◌, ◌<◌, true, length, take, IfOk, IfSome, IsTrue, slice_index};
 ghost use Rattle.std.specs.List.{list_all};
-ghost use Rattle.ad_dn.specs.Parts.{is_ordinary, HasOrdinaryEnds, BeginsOrdinary, begins_part, IsReady, Passes, Advances};
+ghost use Rattle.ad_dn.specs.Parts.{is_ordinary, HasOrdinaryEnds, BeginsOrdinary, begins_part, IsReady, Passes};
+ghost use Rattle.ad_dn.specs.Parts.{Advances};
 
 use crate::attribute_type::{is_type, is_type_byte};
 use crate::steps::{State, is_reserved};
@@ -68,7 +69,8 @@ fn begins_with_comma(text: &[u8]) -> bool
 
 // The part that the text begins with, if its value is encoded by its own bytes.
 fn ordinary_part(text: &[u8]) -> Option<Part<'_>>
-    ensures { IfSome result (λ part. BeginsOrdinary part.kind.now part.value.now part.comma text.now) }
+    ensures { IfSome result (λ part. BeginsOrdinary part.kind.now part.value.now part.comma
+        text.now) }
 {
     let (kind, rest) = text.split_at(kind_len(text));
     let (equals, rest) = rest.split_first()?;
@@ -84,8 +86,8 @@ fn ordinary_part(text: &[u8]) -> Option<Part<'_>>
 }
 
 impl State {
-    // Reads such a part where one may begin, with the comma after it, and answers how many bytes these are, or 0 where
-    // none does.
+    // Reads such a part where one may begin, with the comma after it, and answers how many bytes these are, or 0
+    // where none does.
     fn part(&mut self, alloc: Global, text: &[u8]) -> Result<usize, AllocError>
         requires { IsReady self.old }
         ensures { IfOk result (λ n. Passes n self.old text.now self.new) }

@@ -46,9 +46,11 @@ pub fn read(alloc: Global, text: &[u8]) -> Result<Dn, DnFault>
     // What is read is encoded by the text.
     ensures found { IfOk result (λ dn. SpellsDn dn text.now) }
     // Whatever is encoded so is read, unless memory ran out.
-    ensures only { (dn : Name) → SpellsDn dn text.now → GivesUnless is_memory (λ dn. dn) result (Ok dn) }
+    ensures only { (dn : Name) → SpellsDn dn text.now → GivesUnless is_memory (λ dn. dn) result
+        (Ok dn) }
     // The same as a function of the text, for definitions that compute.
-    ensures value { MatchResult result (λ dn. dn_of text.now ≡ Some dn) (λ fault. is_memory fault ≡ false → dn_of text.now ≡ None) }
+    ensures value { MatchResult result (λ dn. dn_of text.now ≡ Some dn)
+        (λ fault. is_memory fault ≡ false → dn_of text.now ≡ None) }
     // Where the text goes wrong.
     ensures fault { IfErr result (λ fault. IsFault fault text.now) }
 {

@@ -1,9 +1,11 @@
 //! Reading the text of a name, a byte a step.
 
-ghost use Rattle.std.specs.Prelude.{◌≡◌, ◌++◌, ◌∷◌, [], ◌+◌, ◌*◌, ◌==◌, ◌||◌, ◌&&◌, ◌<◌, true, option_map, length, take, if◌then◌else◌, IfOk, OnOk, Some, None};
+ghost use Rattle.std.specs.Prelude.{◌≡◌, ◌++◌, ◌∷◌, [], ◌+◌, ◌*◌, ◌==◌, ◌||◌, ◌&&◌, ◌<◌, true, option_map, length};
+ghost use Rattle.std.specs.Prelude.{take, if◌then◌else◌, IfOk, OnOk, Some, None};
 ghost use Rattle.uuid.specs.Text.{is_hex_digit, value_of};
 ghost use Rattle.ad_dn.specs.Grammar.{is_reserved, is_special};
-ghost use Rattle.ad_dn.specs.Steps.{Moves, start, moved, with_letter, with_blank, with_rdn, with_part, with_next, may_stand, byte_step};
+ghost use Rattle.ad_dn.specs.Steps.{Moves, start, moved, with_letter, with_blank, with_rdn, with_part, with_next};
+ghost use Rattle.ad_dn.specs.Steps.{may_stand, byte_step};
 ghost use Rattle.ad_dn.specs.Steps.{plain_step, mark_step, mark_next, second_step, first_step, comma_step};
 ghost use Rattle.ad_dn.specs.Steps.{kind_end_step, equals_step, kind_step, value_step, digit_step, step};
 ghost use Rattle.ad_dn.specs.Parts.{begins_part};
@@ -107,7 +109,8 @@ fn is_special(byte: u8) -> bool
 
 // The byte that two hexadecimal digits say.
 fn hex_pair(high: u8, low: u8) -> Option<u8>
-    ensures { result ≡ (if is_hex_digit high && is_hex_digit low then Some (16 * value_of high + value_of low) else None) }
+    ensures { result ≡ (if is_hex_digit high && is_hex_digit low
+        then Some (16 * value_of high + value_of low) else None) }
 {
     let high = hex_value(high)?;
     let low = hex_value(low)?;
@@ -137,7 +140,8 @@ impl State {
 
     // A whole part, up to the end of its value.
     pub fn take(&mut self, alloc: Global, kind: &[u8], value: &[u8]) -> Result<(), AllocError>
-        ensures { OnOk result (self.new ≡ with_part self.old (str_to_ascii_uppercase kind.now) value.now) }
+        ensures { OnOk result (self.new ≡ with_part self.old (str_to_ascii_uppercase kind.now)
+            value.now) }
     {
         self.kind = upper(alloc, kind)?;
         self.value = Bytes::from_slice(alloc, value)?;
@@ -149,7 +153,8 @@ impl State {
 
     // A whole part and the comma after it.
     pub fn put(&mut self, alloc: Global, kind: &[u8], value: &[u8]) -> Result<(), AllocError>
-        ensures { OnOk result (self.new ≡ with_next self.old (str_to_ascii_uppercase kind.now) value.now) }
+        ensures { OnOk result (self.new ≡ with_next self.old (str_to_ascii_uppercase kind.now)
+            value.now) }
     {
         let kind = upper(alloc, kind)?;
         let value = Bytes::from_slice(alloc, value)?;

@@ -4,7 +4,8 @@ ghost use Rattle.std.specs.Prelude.{◌≡◌, ◌++◌, ◌∷◌, [], map, OnO
 ghost use Rattle.std.specs.List.{flat_map};
 ghost use Rattle.std.specs.Str.{IsUtf8};
 ghost use Rattle.ad_dn.specs.Grammar.{SpellsDn, piece_text};
-ghost use Rattle.ad_dn.specs.Text.{piece_of, first_piece, last_piece, later_pieces, value_text, rdn_text, others_text, rdns_text, dn_text};
+ghost use Rattle.ad_dn.specs.Text.{piece_of, first_piece, last_piece, later_pieces, value_text, rdn_text};
+ghost use Rattle.ad_dn.specs.Text.{others_text, rdns_text, dn_text};
 
 use crate::rdn::{Dn, Rdn};
 use crate::steps::is_reserved;
@@ -43,7 +44,8 @@ fn push_last(text: &mut Vec<u8>, byte: u8) -> Result<(), AllocError>
 }
 
 fn push_bytes(text: &mut Vec<u8>, bytes: &[u8]) -> Result<(), AllocError>
-    ensures { OnOk result (text.new.items ≡ text.old.items ++ flat_map (λ b. piece_text (piece_of b)) bytes.now) }
+    ensures { OnOk result (text.new.items ≡ text.old.items
+        ++ flat_map (λ b. piece_text (piece_of b)) bytes.now) }
 {
     for byte in bytes {
         push_byte(text, *byte)?;
@@ -53,7 +55,8 @@ fn push_bytes(text: &mut Vec<u8>, bytes: &[u8]) -> Result<(), AllocError>
 
 // The bytes after the first.
 fn push_later(text: &mut Vec<u8>, bytes: &[u8]) -> Result<(), AllocError>
-    ensures { OnOk result (text.new.items ≡ text.old.items ++ flat_map piece_text (later_pieces bytes.now)) }
+    ensures { OnOk result (text.new.items ≡ text.old.items
+        ++ flat_map piece_text (later_pieces bytes.now)) }
 {
     match bytes.split_last() {
         None => Ok(()),

@@ -9,8 +9,10 @@ use Rattle.ad_dsacls.specs.Puts.{Puts}
 use Rattle.ad_dsacls.specs.Words.{schema_name, type_name, type_text}
 
 -- a piece, and then the others
-pub then : {before mid after piece others : List ℕ} → Puts before mid piece → Puts mid after others → Puts before after (piece ++ others)
-then {before} {mid} {after} {piece} {others} p q = record { is = q.is ∙ ap (λ (x : List ℕ). x ++ others) p.is ∙ append_assoc before piece others }
+pub then : {before mid after piece others : List ℕ} → Puts before mid piece → Puts mid after others
+    → Puts before after (piece ++ others)
+then {before} {mid} {after} {piece} {others} p q
+    = record { is = q.is ∙ ap (λ (x : List ℕ). x ++ others) p.is ∙ append_assoc before piece others }
 
 -- the piece that it is
 pub called : {before after piece other : List ℕ} → piece ≡ other → Puts before after piece → Puts before after other
@@ -30,10 +32,12 @@ onward (Err e) mid after last before all f p = tt
 pub named : (schema : List SchemaRecord) (guid : Option Guid) (g : Guid) (name : List ℕ)
     → guid ≡ Some g → Some name ≡ schema_name schema g → name ≡ type_text schema guid
 unfolding type_name
-named schema guid g name is found = ap (λ (o : Option (List ℕ)). unwrap_or o (guid_text g)) found ∙ ap (λ (o : Option Guid). type_text schema o) (sym is)
+named schema guid g name is found = ap (λ (o : Option (List ℕ)). unwrap_or o (guid_text g)) found
+    ∙ ap (λ (o : Option Guid). type_text schema o) (sym is)
 
 pub unnamed : (schema : List SchemaRecord) (guid : Option Guid) (g : Guid) (text : List ℕ)
     → guid ≡ Some g → None ≡ schema_name schema g → text ≡ guid_text g → text ≡ type_text schema guid
 unfolding type_name
 unnamed schema guid g text is found of_guid =
-    of_guid ∙ ap (λ (o : Option (List ℕ)). unwrap_or o (guid_text g)) found ∙ ap (λ (o : Option Guid). type_text schema o) (sym is)
+    of_guid ∙ ap (λ (o : Option (List ℕ)). unwrap_or o (guid_text g)) found
+    ∙ ap (λ (o : Option Guid). type_text schema o) (sym is)

@@ -1,5 +1,6 @@
 -- The codes of a mask are those of the rights that are granted.
-use Rattle.std.proofs.Common.{◌≡◌, ℕ, ◌<◌, ◌^◌, Bool, ◌&&◌, List, [], ◌∷◌, ◌++◌, codes, refl, ap, ◌∙◌, if◌then◌else◌, lit<}
+use Rattle.std.proofs.Common.{◌≡◌, ℕ, ◌<◌, ◌^◌, Bool, ◌&&◌, List, [], ◌∷◌, ◌++◌, codes, refl, ap, ◌∙◌, if◌then◌else◌}
+use Rattle.std.proofs.Common.{lit<}
 use Rattle.ad_acl.specs.Entry.{says}
 use Rattle.ad_acl.specs.Mask.{has_bit, mapped_has, control_access, self_write}
 use Rattle.ad_acl.proofs.MaskLaws.{masked}
@@ -16,7 +17,8 @@ abbrev all_rights : List ℕ
 all_rights = 0 ∷ 1 ∷ 2 ∷ 3 ∷ 4 ∷ 5 ∷ 6 ∷ 7 ∷ 8 ∷ 16 ∷ 17 ∷ 18 ∷ 19 ∷ 28 ∷ 29 ∷ 30 ∷ 31 ∷ []
 
 module _ (mask : ℕ) (g : ℕ → Bool) (bits : (bit : ℕ) → bit < 32 → has_bit mask bit ≡ g bit) where
-  one : (bit : ℕ) (letters : List ℕ) → bit < 32 → (if says mask (2 ^ bit) then letters else []) ≡ (if g bit then letters else [])
+  one : (bit : ℕ) (letters : List ℕ) → bit < 32 → (if says mask (2 ^ bit) then letters else [])
+      ≡ (if g bit then letters else [])
   one bit letters lt = ap (λ (b : Bool). if b then letters else []) (masked mask bit ∙ bits bit lt)
 
   codes_by : codes_text right_codes mask ≡ granted_codes g all_rights
@@ -42,7 +44,8 @@ module _ (grants : ℕ → Bool) (mask : ℕ) where
   unfolding granted_codes has_bit
   set_codes is = codes_by mask (λ bit. mapped_has 0x30 bit && grants bit) is.bits
 
-  pub extended_codes : IsMask 0x100 grants mask → codes_text right_codes mask ≡ granted_codes grants (control_access ∷ [])
+  pub extended_codes : IsMask 0x100 grants mask → codes_text right_codes mask
+      ≡ granted_codes grants (control_access ∷ [])
   unfolding granted_codes has_bit
   extended_codes is = codes_by mask (λ bit. mapped_has 0x100 bit && grants bit) is.bits
 

@@ -1,11 +1,13 @@
 -- What a token may do at an object, line by line. A code stands in a line exactly where its right is granted.
-use Rattle.std.specs.Prelude.{ℕ, zero, suc, ◌^◌, Bool, false, not, ◌&&◌, ◌==◌, if◌then◌else◌, List, [], ◌∷◌, ◌++◌, codes, length, filter, slice_get}
+use Rattle.std.specs.Prelude.{ℕ, zero, suc, ◌^◌, Bool, false, not, ◌&&◌, ◌==◌, if◌then◌else◌, List, [], ◌∷◌, ◌++◌}
+use Rattle.std.specs.Prelude.{codes, length, filter, slice_get}
 use Rattle.std.specs.List.{flat_map, list_any}
 use Rattle.std.specs.Option.{option_map_or}
 use Rattle.ad_ids.specs.declared.guid.Guid.{Guid}
 use Rattle.ad_ids.specs.Guid.{same_guid}
 use Rattle.ad_ids.specs.declared.token.Token.{Token}
-use Rattle.ad_acl.specs.Mask.{create_child, delete_child, list_children, self_write, read_property, write_property, delete_tree}
+use Rattle.ad_acl.specs.Mask.{create_child, delete_child, list_children, self_write, read_property, write_property}
+use Rattle.ad_acl.specs.Mask.{delete_tree}
 use Rattle.ad_acl.specs.Mask.{list_object, control_access, delete_object, read_control, write_dac, write_owner}
 use Rattle.ad_sddl.specs.Words.{right_codes}
 use Rattle.ad_sddl.specs.Canonical.{codes_text}
@@ -39,7 +41,8 @@ granted_codes grants rights = flat_map (λ bit. if grants bit then code_of bit e
 -- what is asked for of an object, of an attribute, of a property set, and of the children of a class
 abbrev pub object_rights : List ℕ
 object_rights =
-    create_child ∷ delete_child ∷ list_children ∷ self_write ∷ read_property ∷ write_property ∷ delete_tree ∷ list_object ∷ control_access
+    create_child ∷ delete_child ∷ list_children ∷ self_write ∷ read_property ∷ write_property ∷ delete_tree
+    ∷ list_object ∷ control_access
     ∷ delete_object ∷ read_control ∷ write_dac ∷ write_owner ∷ []
 
 abbrev pub attribute_rights : List ℕ
@@ -90,7 +93,8 @@ set_attrs schema class set = filter (is_of_set schema set) (allowed_attrs schema
 
 -- the path of a class and a set
 abbrev pub set_path : List SchemaRecord → ClassId → Guid → List Guid
-set_path schema class set = option_map_or (λ (c : ClassInfo). c.guid ∷ set ∷ []) (slice_get (classes_of schema) class.0) []
+set_path schema class set = option_map_or (λ (c : ClassInfo). c.guid ∷ set ∷ [])
+    (slice_get (classes_of schema) class.0) []
 
 -- A right on a set is judged at the node of the set, the second one in the tree of these attributes, and where
 -- there are none on the path of the class and the set.
@@ -101,14 +105,17 @@ set_grants dir token number class set (id ∷ ids) bit =
 
 abbrev pub set_line : Directory → Token → ℕ → ClassId → RightInfo → List ℕ
 set_line dir token number class r =
-    line_of (label_of (codes "set ") r.name) (granted_codes (set_grants dir token number class r.guid (set_attrs dir.schema class.0 r.guid)) set_rights)
+    line_of (label_of (codes "set ") r.name)
+    (granted_codes (set_grants dir token number class r.guid (set_attrs dir.schema class.0 r.guid)) set_rights)
 
 -- an extended right and a validated write are judged on their own path
 abbrev pub extended_line : Directory → Token → ℕ → RightInfo → List ℕ
-extended_line dir token number r = line_of (label_of (codes "right ") r.name) (granted_codes (is_granted dir token number (r.guid ∷ [])) (control_access ∷ []))
+extended_line dir token number r = line_of (label_of (codes "right ") r.name)
+    (granted_codes (is_granted dir token number (r.guid ∷ [])) (control_access ∷ []))
 
 abbrev pub validated_line : Directory → Token → ℕ → RightInfo → List ℕ
-validated_line dir token number r = line_of (label_of (codes "validated ") r.name) (granted_codes (is_granted dir token number (r.guid ∷ [])) (self_write ∷ []))
+validated_line dir token number r = line_of (label_of (codes "validated ") r.name)
+    (granted_codes (is_granted dir token number (r.guid ∷ [])) (self_write ∷ []))
 
 -- by what the right is: a property set, an extended right or a validated write
 unfoldable pub kind_line : Directory → Token → ℕ → ClassId → RightInfo → List ℕ
@@ -123,19 +130,22 @@ abbrev pub applies : List SchemaRecord → ℕ → List Guid → Bool
 applies schema class guids = list_any (is_a schema class) guids
 
 unfoldable pub right_line : Directory → Token → ℕ → ClassId → RightInfo → List ℕ
-right_line dir token number class r = if applies dir.schema class.0 r.applies then kind_line dir token number class r else []
+right_line dir token number class r = if applies dir.schema class.0 r.applies then kind_line dir token number class r
+    else []
 
 -- ---- children
 
 -- a structural class is neither abstract (2) nor auxiliary (3)
 abbrev pub is_child_class : List SchemaRecord → ℕ → ℕ → ClassInfo → Bool
-is_child_class schema class place info = not (info.category == 2) && not (info.category == 3) && is_under schema place class
+is_child_class schema class place info = not (info.category == 2) && not (info.category == 3)
+    && is_under schema place class
 
 -- a structural class whose objects may stand below, on the path of that class
 unfoldable pub child_line : Directory → Token → ℕ → ClassId → ℕ → List ℕ
 child_line dir token number class place = option_map_or
     (λ (info : ClassInfo). if is_child_class dir.schema class.0 place info
-    then line_of (label_of (codes "child ") info.name) (granted_codes (is_granted dir token number (info.guid ∷ [])) child_rights) else [])
+    then line_of (label_of (codes "child ") info.name)
+    (granted_codes (is_granted dir token number (info.guid ∷ [])) child_rights) else [])
     (slice_get (classes_of dir.schema) place) []
 
 -- those of the first n classes

@@ -28,7 +28,8 @@ protection_text protected = if protected then codes " protected" else codes " in
 
 -- whether the list is protected, and its entries
 abbrev pub list_lines : List SchemaRecord → List ℕ → AceList → List ℕ
-list_lines schema label list = labelled label (protection_text list.protected) ++ flat_map (entry_line schema) list.entries
+list_lines schema label list = labelled label (protection_text list.protected) ++ flat_map (entry_line schema)
+    list.entries
 
 -- the name, owner, group, DACL and SACL
 unfoldable pub lines_of : List SchemaRecord → List ℕ → Sd → List ℕ

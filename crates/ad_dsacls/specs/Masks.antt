@@ -12,4 +12,5 @@ use Rattle.ad_dsacls.specs.Effective.{line_of, label_of}
 -- the line of an attribute whose rights the mask has
 unfoldable pub masked_line : List SchemaRecord → AttrId → ℕ → List ℕ
 masked_line schema id mask =
-    option_map_or (λ (info : AttrInfo). line_of (label_of (codes "attribute ") info.name) (codes_text right_codes mask)) (slice_get (attrs_of schema) id.0) []
+    option_map_or (λ (info : AttrInfo). line_of (label_of (codes "attribute ") info.name)
+    (codes_text right_codes mask)) (slice_get (attrs_of schema) id.0) []

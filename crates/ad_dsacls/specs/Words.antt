@@ -1,5 +1,6 @@
 -- The words of a line: codes, types, and what represents nothing.
-use Rattle.std.specs.Prelude.{ℕ, not, ◌==◌, if◌then◌else◌, Option, None, Some, List, [], ◌∷◌, ◌++◌, codes, filter, unwrap_or}
+use Rattle.std.specs.Prelude.{ℕ, not, ◌==◌, if◌then◌else◌, Option, None, Some, List, [], ◌∷◌, ◌++◌, codes, filter}
+use Rattle.std.specs.Prelude.{unwrap_or}
 use Rattle.std.specs.Option.{option_or}
 use Rattle.ad_ids.specs.declared.guid.Guid.{Guid}
 use Rattle.ad_ids.specs.Guid.{same_guid}
@@ -62,7 +63,8 @@ right_name (r ∷ rights) guid = if same_guid r.guid guid then Some r.name else 
 
 -- that of a class, else of an attribute, else of a right
 abbrev pub schema_name : List SchemaRecord → Guid → Option (List ℕ)
-schema_name schema guid = option_or (class_name (classes_of schema) guid) (option_or (attr_name (attrs_of schema) guid) (right_name (rights_of schema) guid))
+schema_name schema guid = option_or (class_name (classes_of schema) guid)
+    (option_or (attr_name (attrs_of schema) guid) (right_name (rights_of schema) guid))
 
 -- that name, else the GUID
 unfoldable pub type_name : List SchemaRecord → Guid → List ℕ

@@ -41,7 +41,8 @@ pub(crate) fn mask_on(dir: &Dir, token: &Token, number: u32, path: &Path, want: 
 // ---- attributes of a class
 
 fn push_if(attrs: &mut Vec<AttrId>, wanted: bool, attr: AttrId) -> Result<(), AllocError>
-    ensures { OnOk result (attrs.new.items ≡ attrs.old.items ++ (if wanted then attr ∷ [] else [])) }
+    ensures { OnOk result (attrs.new.items ≡ attrs.old.items
+        ++ (if wanted then attr ∷ [] else [])) }
 {
     if wanted {
         attrs.push(attr)?;
@@ -98,7 +99,8 @@ fn node_mask(
     requires attrs { All (λ attr. attr.0 < length (attrs_of dir.now.schema)) attrs.now }
     requires some { 0 < length attrs.now }
     ensures { IfOk result (λ mask. IsMask 48
-        (node_granted (sd_at dir.now.objects number) token.now (self_sid dir.now number) (tree_of dir.now.schema class attrs.now) 1) mask) }
+        (node_granted (sd_at dir.now.objects number) token.now (self_sid dir.now number)
+        (tree_of dir.now.schema class attrs.now) 1) mask) }
 {
     attributes_are_leaves();
     let masks = tree_masks(alloc, dir, token, number, class, attrs, SET_RIGHTS)?;
@@ -118,7 +120,8 @@ pub(crate) fn set_mask(
     requires live { is_live dir.now.objects number ≡ true }
     requires class { class.0 < length (classes_of dir.now.schema) }
     requires attrs { All (λ attr. attr.0 < length (attrs_of dir.now.schema)) attrs.now }
-    ensures { IfOk result (λ mask. IsMask 48 (set_grants dir.now token.now number class set attrs.now) mask) }
+    ensures { IfOk result (λ mask. IsMask 48
+        (set_grants dir.now token.now number class set attrs.now) mask) }
 {
     if attrs.is_empty() {
         let path = set_path(dir, class, set);

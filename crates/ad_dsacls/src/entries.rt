@@ -53,7 +53,8 @@ fn put_entries(
     schema: &Schema,
     entries: &[Ace],
 ) -> Result<(), AllocError>
-    ensures { OnOk result (Puts out.old.items out.new.items (flat_map (entry_line schema.now) entries.now)) }
+    ensures { OnOk result (Puts out.old.items out.new.items
+        (flat_map (entry_line schema.now) entries.now)) }
 {
     for ace in entries {
         put_entry(alloc, out, schema, ace)?;
@@ -78,14 +79,16 @@ fn put_list(
     label: &[u8],
     list: &AceList,
 ) -> Result<(), AllocError>
-    ensures { OnOk result (Puts out.old.items out.new.items (list_lines schema.now label.now list.now)) }
+    ensures { OnOk result (Puts out.old.items out.new.items
+        (list_lines schema.now label.now list.now)) }
 {
     put_labelled(out, label, protection_text(list.protected))?;
     put_entries(alloc, out, schema, list.entries.as_slice())
 }
 
 fn put_sid_line(alloc: Global, out: &mut Vec<u8>, label: &[u8], sid: &Sid) -> Result<(), AllocError>
-    ensures { OnOk result (Puts out.old.items out.new.items (labelled label.now (sid_text sid.now))) }
+    ensures { OnOk result (Puts out.old.items out.new.items
+        (labelled label.now (sid_text sid.now))) }
 {
     put_labelled(out, label, sid.text(alloc)?.as_bytes())
 }

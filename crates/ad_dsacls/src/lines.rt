@@ -29,7 +29,8 @@ fn put_label(out: &mut Vec<u8>, kind: &[u8], name: &[u8]) -> Result<(), AllocErr
 }
 
 fn put_named_if(out: &mut Vec<u8>, kind: &[u8], name: &[u8], codes: &[u8]) -> Result<(), AllocError>
-    ensures { OnOk result (Puts out.old.items out.new.items (line_of (label_of kind.now name.now) codes.now)) }
+    ensures { OnOk result (Puts out.old.items out.new.items
+        (line_of (label_of kind.now name.now) codes.now)) }
 {
     match codes {
         [] => Ok(()),
@@ -48,7 +49,8 @@ pub(crate) fn put_mask(
     label: &[u8],
     mask: u32,
 ) -> Result<(), AllocError>
-    ensures { OnOk result (Puts out.old.items out.new.items (line_of label.now (codes_text right_codes mask))) }
+    ensures { OnOk result (Puts out.old.items out.new.items
+        (line_of label.now (codes_text right_codes mask))) }
 {
     put_if(out, label, codes_of(alloc, mask)?.as_slice())
 }
@@ -61,7 +63,8 @@ pub(crate) fn put_named(
     name: &[u8],
     mask: u32,
 ) -> Result<(), AllocError>
-    ensures { OnOk result (Puts out.old.items out.new.items (line_of (label_of kind.now name.now) (codes_text right_codes mask))) }
+    ensures { OnOk result (Puts out.old.items out.new.items
+        (line_of (label_of kind.now name.now) (codes_text right_codes mask))) }
 {
     put_named_if(out, kind, name, codes_of(alloc, mask)?.as_slice())
 }

@@ -7,8 +7,10 @@ ghost use Rattle.ad_schema.specs.Classes.{classes_of, is_a};
 ghost use Rattle.ad_dir_model.specs.Objects.{is_live};
 ghost use Rattle.ad_access_dir.specs.Allowed.{allowed_attrs};
 ghost use Rattle.ad_dsacls.specs.Puts.{Puts};
-ghost use Rattle.ad_dsacls.specs.Effective.{object_line, attribute_line, set_line, extended_line, validated_line, kind_line};
-ghost use Rattle.ad_dsacls.specs.Effective.{applies, right_line, is_child_class, child_line, child_lines, effective_of, effective_text};
+ghost use Rattle.ad_dsacls.specs.Effective.{object_line, attribute_line, set_line, extended_line, validated_line};
+ghost use Rattle.ad_dsacls.specs.Effective.{kind_line};
+ghost use Rattle.ad_dsacls.specs.Effective.{applies, right_line, is_child_class, child_line, child_lines};
+ghost use Rattle.ad_dsacls.specs.Effective.{effective_of, effective_text};
 ghost use Rattle.ad_dsacls.specs.Masks.{masked_line};
 
 use crate::asking::{attrs_of_set, mask_on, set_mask};
@@ -43,7 +45,8 @@ fn put_object_line(
     number: u32,
 ) -> Result<(), AllocError>
     requires { is_live dir.now.objects number ≡ true }
-    ensures { OnOk result (Puts out.old.items out.new.items (object_line dir.now token.now number)) }
+    ensures { OnOk result (Puts out.old.items out.new.items
+        (object_line dir.now token.now number)) }
 {
     let mask = mask_on(dir, token, number, &Path::empty(), OBJECT_RIGHTS);
     put_mask(alloc, out, b"object ", mask)
@@ -78,7 +81,8 @@ fn put_attr_lines(
     requires live { is_live dir.now.objects number ≡ true }
     requires class { class.0 < length (classes_of dir.now.schema) }
     requires allowed { attrs.now ≡ allowed_attrs dir.now.schema class.0 }
-    ensures { OnOk result (Puts out.old.items out.new.items (flat_map (attribute_line dir.now token.now number class) attrs.now)) }
+    ensures { OnOk result (Puts out.old.items out.new.items
+        (flat_map (attribute_line dir.now token.now number class) attrs.now)) }
 {
     let masks = attr_masks(alloc, dir, token, number, class, attrs, ATTRIBUTE_RIGHTS)?;
     let masks = masks.as_slice();
@@ -104,7 +108,8 @@ fn put_set_line(
     requires live { is_live dir.now.objects number ≡ true }
     requires class { class.0 < length (classes_of dir.now.schema) }
     requires allowed { attrs.now ≡ allowed_attrs dir.now.schema class.0 }
-    ensures { OnOk result (Puts out.old.items out.new.items (set_line dir.now token.now number class right.now)) }
+    ensures { OnOk result (Puts out.old.items out.new.items
+        (set_line dir.now token.now number class right.now)) }
 {
     let own = attrs_of_set(alloc, dir, attrs, right.guid)?;
     let mask = set_mask(alloc, dir, token, number, class, right.guid, own.as_slice())?;
@@ -120,7 +125,8 @@ fn put_extended_line(
     right: &RightInfo,
 ) -> Result<(), AllocError>
     requires { is_live dir.now.objects number ≡ true }
-    ensures { OnOk result (Puts out.old.items out.new.items (extended_line dir.now token.now number right.now)) }
+    ensures { OnOk result (Puts out.old.items out.new.items
+        (extended_line dir.now token.now number right.now)) }
 {
     let mask = mask_on(dir, token, number, &Path::one(right.guid), EXTENDED_RIGHT);
     put_named(alloc, out, b"right ", right.name.as_slice(), mask)
@@ -135,7 +141,8 @@ fn put_validated_line(
     right: &RightInfo,
 ) -> Result<(), AllocError>
     requires { is_live dir.now.objects number ≡ true }
-    ensures { OnOk result (Puts out.old.items out.new.items (validated_line dir.now token.now number right.now)) }
+    ensures { OnOk result (Puts out.old.items out.new.items
+        (validated_line dir.now token.now number right.now)) }
 {
     let mask = mask_on(dir, token, number, &Path::one(right.guid), VALIDATED_WRITE);
     put_named(alloc, out, b"validated ", right.name.as_slice(), mask)
@@ -156,7 +163,8 @@ fn put_kind_line(
     requires live { is_live dir.now.objects number ≡ true }
     requires class { class.0 < length (classes_of dir.now.schema) }
     requires allowed { attrs.now ≡ allowed_attrs dir.now.schema class.0 }
-    ensures { OnOk result (Puts out.old.items out.new.items (kind_line dir.now token.now number class right.now)) }
+    ensures { OnOk result (Puts out.old.items out.new.items
+        (kind_line dir.now token.now number class right.now)) }
 {
     if right.accesses == 48 {
         return put_set_line(alloc, out, dir, token, number, class, attrs, right);
@@ -196,7 +204,8 @@ fn put_right_line(
     requires live { is_live dir.now.objects number ≡ true }
     requires class { class.0 < length (classes_of dir.now.schema) }
     requires allowed { attrs.now ≡ allowed_attrs dir.now.schema class.0 }
-    ensures { OnOk result (Puts out.old.items out.new.items (right_line dir.now token.now number class right.now)) }
+    ensures { OnOk result (Puts out.old.items out.new.items
+        (right_line dir.now token.now number class right.now)) }
 {
     if !applies(dir.schema(), class, right.applies.as_slice()) {
         return Ok(());
@@ -217,7 +226,8 @@ fn put_right_lines(
     requires live { is_live dir.now.objects number ≡ true }
     requires class { class.0 < length (classes_of dir.now.schema) }
     requires allowed { attrs.now ≡ allowed_attrs dir.now.schema class.0 }
-    ensures { OnOk result (Puts out.old.items out.new.items (flat_map (right_line dir.now token.now number class) rights.now)) }
+    ensures { OnOk result (Puts out.old.items out.new.items
+        (flat_map (right_line dir.now token.now number class) rights.now)) }
 {
     for right in rights {
         put_right_line(alloc, out, dir, token, number, class, attrs, right)?;
@@ -244,7 +254,8 @@ fn put_child_line(
 ) -> Result<(), AllocError>
     requires live { is_live dir.now.objects number ≡ true }
     requires child { child.0 < length (classes_of dir.now.schema) }
-    ensures { OnOk result (Puts out.old.items out.new.items (child_line dir.now token.now number class child.0)) }
+    ensures { OnOk result (Puts out.old.items out.new.items
+        (child_line dir.now token.now number class child.0)) }
 {
     let info = dir.schema().class_info(child);
     if !is_child_class(dir.schema(), class, child, info) {
@@ -264,7 +275,8 @@ fn put_child_lines(
     class: ClassId,
 ) -> Result<(), AllocError>
     requires { is_live dir.now.objects number ≡ true }
-    ensures { OnOk result (Puts out.old.items out.new.items (child_lines dir.now token.now number class (length (classes_of dir.now.schema)))) }
+    ensures { OnOk result (Puts out.old.items out.new.items
+        (child_lines dir.now token.now number class (length (classes_of dir.now.schema)))) }
 {
     'each: for place in 0..class_count(dir) {
         put_child_line(alloc, out, dir, token, number, class, ClassId(place))?;
@@ -285,7 +297,8 @@ fn put_all(
 ) -> Result<(), AllocError>
     requires live { is_live dir.now.objects number ≡ true }
     requires class { class.0 < length (classes_of dir.now.schema) }
-    ensures { OnOk result (Puts out.old.items out.new.items (effective_of dir.now token.now number class)) }
+    ensures { OnOk result (Puts out.old.items out.new.items
+        (effective_of dir.now token.now number class)) }
 {
     let allowed = allowed_attrs(alloc, dir, class)?;
     let attrs = allowed.as_slice();

@@ -8,7 +8,8 @@ ghost use Rattle.ad_sddl.specs.Words.{right_codes};
 ghost use Rattle.ad_sddl.specs.Canonical.{codes_text, hex_text, rights_text};
 ghost use Rattle.ad_dsacls.specs.Puts.{Puts};
 ghost use Rattle.ad_dsacls.specs.Codes.{own_text};
-ghost use Rattle.ad_dsacls.specs.Words.{spaced, kind_text, flags_text, origin_text, class_name, attr_name, right_name, schema_name, type_text};
+ghost use Rattle.ad_dsacls.specs.Words.{spaced, kind_text, flags_text, origin_text, class_name, attr_name};
+ghost use Rattle.ad_dsacls.specs.Words.{right_name, schema_name, type_text};
 
 use crate::pieces::put_spaced;
 use ad_acl::{AceKind, INHERITED};
@@ -294,7 +295,8 @@ pub(crate) fn put_type(
     schema: &Schema,
     guid: &Option<Guid>,
 ) -> Result<(), AllocError>
-    ensures { OnOk result (Puts out.old.items out.new.items (spaced (type_text schema.now guid.now))) }
+    ensures { OnOk result (Puts out.old.items out.new.items
+        (spaced (type_text schema.now guid.now))) }
 {
     match guid {
         None => put_spaced(out, b"-"),

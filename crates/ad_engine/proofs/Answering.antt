@@ -1,5 +1,6 @@
 -- What the parts of serving a frame make of an engine, put together.
-use Rattle.std.proofs.Common.{◌≡◌, ◌∙◌, ℕ, ◌<◌, ◌≤◌, zero, suc, true, false, List, [], ◌∷◌, length, map, Option, Some, None, Result, Ok, Err}
+use Rattle.std.proofs.Common.{◌≡◌, ◌∙◌, ℕ, ◌<◌, ◌≤◌, zero, suc, true, false, List, [], ◌∷◌, length, map, Option, Some}
+use Rattle.std.proofs.Common.{None, Result, Ok, Err}
 use Rattle.std.proofs.Common.{refl, sym, ap, subst, arith}
 use Rattle.std.specs.Prelude.{nat_eq, unwrap_or, MatchOption}
 use Rattle.std.specs.Option.{IfSome}
@@ -41,7 +42,8 @@ err_same a b e = cc
 
 -- ---- an engine with the same directory and the same store
 
-held_as : (engine changed : Engine) (r : Option Images) → changed.dir ≡ engine.dir → changed.store ≡ engine.store → IfSome r (HoldsDir engine)
+held_as : (engine changed : Engine) (r : Option Images) → changed.dir ≡ engine.dir → changed.store ≡ engine.store
+    → IfSome r (HoldsDir engine)
     → IfSome r (HoldsDir changed)
 held_as engine changed None dir store held = tt
 held_as engine changed (Some images) dir store held = record {
@@ -50,7 +52,8 @@ held_as engine changed (Some images) dir store held = record {
   rows = subst (λ (d : Directory). AreRowsOf d held.table) (sym dir) held.rows;
 }
 
-pub stands_as : (engine changed : Engine) (reads : Option Images) (now : ℕ) (left : ℕ → Images → List ℕ → Type 0) → changed.dir ≡ engine.dir
+pub stands_as : (engine changed : Engine) (reads : Option Images) (now : ℕ) (left : ℕ → Images → List ℕ → Type 0)
+    → changed.dir ≡ engine.dir
     → changed.store ≡ engine.store → Stands engine reads now left → Stands changed reads now left
 stands_as engine changed reads now left dir store stands = record {
   sound = subst IsSound (sym dir) stands.sound;
@@ -68,17 +71,20 @@ lasts_still site dir x = by_told (site.reads x)
     by_told None = tt
     by_told (Some held) = λ all. all
 
-pub lasts_new : {S : Type 0} (site : Ghosts S) (before after : Directory) (x y : S) → LastsAs site after x y → LastsOn site before after x y
+pub lasts_new : {S : Type 0} (site : Ghosts S) (before after : Directory) (x y : S) → LastsAs site after x y
+    → LastsOn site before after x y
 lasts_new site before after x y lasts = by_told (site.reads x) lasts
   where
-    by_told : (r : Option Images) → IfSome r (λ held. AllLeave site after y) → IfSome r (λ held. AllLeave site before x → AllLeave site after y)
+    by_told : (r : Option Images) → IfSome r (λ held. AllLeave site after y)
+        → IfSome r (λ held. AllLeave site before x → AllLeave site after y)
     by_told None all = tt
     by_told (Some held) all = λ _. all
 
 -- ---- a call that failed
 
 -- before the site was touched
-pub failed_before : {S T : Type 0} (site : Ghosts S) (dir : Directory) (tokens : List (Option Token)) (engine changed : Engine) (x : S)
+pub failed_before : {S T : Type 0} (site : Ghosts S) (dir : Directory) (tokens : List (Option Token))
+    (engine changed : Engine) (x : S)
     (outcome : Result T EngineFault) (e : EngineFault)
     → ((t : ℕ) (images : Images) (out : List ℕ) → site.left x t images out → t ≤ site.now x)
     → changed.spent ≡ engine.spent → outcome ≡ Err e → e ≡ Memory → Keeps site dir tokens engine changed x x outcome
@@ -98,20 +104,25 @@ failed_before {S} {T} site dir tokens engine changed x outcome e until spent is 
     })
 
 -- as a part of it failed
-pub failed_part : {S T U : Type 0} (site : Ghosts S) (dir after : Directory) (left : List (Option Token)) (engine changed : Engine)
+pub failed_part : {S T U : Type 0} (site : Ghosts S) (dir after : Directory) (left : List (Option Token))
+    (engine changed : Engine)
     (x y : S) (fault e : EngineFault) (outcome : Result U EngineFault)
     → LeavesOldOrNew engine.dir dir (site.reads x) (site.now x) (site.now y) (site.left x) (site.left y) → dir ≡ after
-    → (after ≡ engine.dir → y ≡ x) → changed.spent ≡ engine.spent → (IsErrOf {T = T} (Err fault) Spent → ⊥) → TouchesSlots site x y
-    → (IsErrOf {T = T} (Err fault) Site → HasRisen (site.slot_faults x) (site.slot_faults y)) → outcome ≡ Err e → e ≡ fault
+    → (after ≡ engine.dir → y ≡ x) → changed.spent ≡ engine.spent → (IsErrOf {T = T} (Err fault) Spent → ⊥)
+    → TouchesSlots site x y
+    → (IsErrOf {T = T} (Err fault) Site → HasRisen (site.slot_faults x) (site.slot_faults y)) → outcome ≡ Err e → e
+    ≡ fault
     → Keeps site after left engine changed x y outcome
-failed_part {S} {T} {U} site dir after left engine changed x y fault e outcome moment same still spent never outside cause is e_is =
+failed_part {S} {T} {U} site dir after left engine changed x y fault e outcome moment same still spent never outside
+    cause is e_is =
     subst (Keeps site after left engine changed x y) (sym (is ∙ ap (λ (f : EngineFault). Err f) e_is)) (record {
       directory = tt;
       tokens_are = tt;
       stands = tt;
       every_crash = tt;
       any_moment = subst
-          (λ (d : Directory). LeavesOldOrNew engine.dir d (site.reads x) (site.now x) (site.now y) (site.left x) (site.left y)) same moment;
+          (λ (d : Directory). LeavesOldOrNew engine.dir d (site.reads x) (site.now x) (site.now y) (site.left x)
+          (site.left y)) same moment;
       untouched = still;
       bound = tt;
       unspent = spent;
@@ -122,33 +133,39 @@ failed_part {S} {T} {U} site dir after left engine changed x y fault e outcome m
 
 -- ---- a call that went on after a part of it
 
-pub kept_part : {S U : Type 0} (site : Ghosts S) (dir after : Directory) (left : List (Option Token)) (engine mid changed : Engine)
-    (x y : S) (b : U) → mid.dir ≡ dir → dir ≡ after → Stands mid (site.reads y) (site.now y) (site.left y) → LastsOn site engine.dir mid.dir x y
+pub kept_part : {S U : Type 0} (site : Ghosts S) (dir after : Directory) (left : List (Option Token))
+    (engine mid changed : Engine)
+    (x y : S) (b : U) → mid.dir ≡ dir → dir ≡ after → Stands mid (site.reads y) (site.now y) (site.left y)
+    → LastsOn site engine.dir mid.dir x y
     → LeavesOldOrNew engine.dir dir (site.reads x) (site.now x) (site.now y) (site.left x) (site.left y)
     → (after ≡ engine.dir → y ≡ x) → mid.spent ≡ engine.spent → TouchesSlots site x y
     → changed.dir ≡ mid.dir → changed.store ≡ mid.store → changed.spent ≡ mid.spent → changed.tokens ≡ left
     → ((after ≡ engine.dir → ⊥) → IsBounded mid.store (site.reads y))
     → Keeps site after left engine changed x y (Ok b)
-kept_part site dir after left engine mid changed x y b made same stands lasts moment still spent outside dir_is store_is spent_is tokens_is bound = record {
-  directory = dir_is ∙ made ∙ same;
-  tokens_are = tokens_is;
-  stands = stands_as mid changed (site.reads y) (site.now y) (site.left y) dir_is store_is stands;
-  every_crash = subst (λ (d : Directory). LastsOn site engine.dir d x y) (sym dir_is) lasts;
-  any_moment = subst
-      (λ (d : Directory). LeavesOldOrNew engine.dir d (site.reads x) (site.now x) (site.now y) (site.left x) (site.left y)) same moment;
-  untouched = still;
-  bound = λ some. subst (λ (s : Store). IsBounded s (site.reads y)) (sym store_is) (bound some);
-  unspent = spent_is ∙ spent;
-  faults = λ no. absurd cc;
-  outside = outside;
-  cause = λ no. absurd cc;
-}
+kept_part site dir after left engine mid changed x y b made same stands lasts moment still spent outside dir_is
+    store_is spent_is tokens_is bound = record {
+      directory = dir_is ∙ made ∙ same;
+      tokens_are = tokens_is;
+      stands = stands_as mid changed (site.reads y) (site.now y) (site.left y) dir_is store_is stands;
+      every_crash = subst (λ (d : Directory). LastsOn site engine.dir d x y) (sym dir_is) lasts;
+      any_moment = subst
+          (λ (d : Directory). LeavesOldOrNew engine.dir d (site.reads x) (site.now x) (site.now y) (site.left x)
+          (site.left y)) same moment;
+      untouched = still;
+      bound = λ some. subst (λ (s : Store). IsBounded s (site.reads y)) (sym store_is) (bound some);
+      unspent = spent_is ∙ spent;
+      faults = λ no. absurd cc;
+      outside = outside;
+      cause = λ no. absurd cc;
+    }
 
 -- the site wasn't touched, and the directory is as it was
-pub kept_still : {S T : Type 0} (site : Ghosts S) (dir : Directory) (tokens : List (Option Token)) (engine changed : Engine) (x : S) (a : T)
+pub kept_still : {S T : Type 0} (site : Ghosts S) (dir : Directory) (tokens : List (Option Token))
+    (engine changed : Engine) (x : S) (a : T)
     → ((t : ℕ) (images : Images) (out : List ℕ) → site.left x t images out → t ≤ site.now x)
     → Stands engine (site.reads x) (site.now x) (site.left x)
-    → engine.dir ≡ dir → changed.dir ≡ engine.dir → changed.store ≡ engine.store → changed.spent ≡ engine.spent → changed.tokens ≡ tokens
+    → engine.dir ≡ dir → changed.dir ≡ engine.dir → changed.store ≡ engine.store → changed.spent ≡ engine.spent
+    → changed.tokens ≡ tokens
     → Keeps site dir tokens engine changed x x (Ok a)
 kept_still site dir tokens engine changed x a until stands same dir_is store_is spent_is tokens_is = record {
   directory = dir_is ∙ same;
@@ -166,11 +183,14 @@ kept_still site dir tokens engine changed x a until stands same dir_is store_is 
 
 -- ---- edits that were made and noted
 
-pub rows_kept : (made edits : List Edit) (old new : Directory) (rows noted : List Row) → made ≡ edits → Makes (map edit_seen made) old new rows noted
+pub rows_kept : (made edits : List Edit) (old new : Directory) (rows noted : List Row) → made ≡ edits
+    → Makes (map edit_seen made) old new rows noted
     → AreRowsOfEdits [] rows → AreRowsOfEdits (map edit_seen edits) noted
-rows_kept made edits old new rows noted same makes none = subst (λ (es : List Edit). AreRowsOfEdits (map edit_seen es) noted) same (makes.rows_of [] none)
+rows_kept made edits old new rows noted same makes none
+    = subst (λ (es : List Edit). AreRowsOfEdits (map edit_seen es) noted) same (makes.rows_of [] none)
 
-pub dir_kept : (made edits : List Edit) (old new : Directory) (rows noted : List Row) → made ≡ edits → Makes (map edit_seen made) old new rows noted
+pub dir_kept : (made edits : List Edit) (old new : Directory) (rows noted : List Row) → made ≡ edits
+    → Makes (map edit_seen made) old new rows noted
     → made_by edits old ≡ new
 dir_kept made edits old new rows noted same makes = ap (λ (es : List Edit). made_by es old) (sym same) ∙ makes.made
 
@@ -187,62 +207,76 @@ is_empty (edit ∷ edits) none = absurd (omega (arith, eqb-true (length (edit �
 pub is_full : (edits : List Edit) → nat_eq (length edits) 0 ≡ false → edits ≡ [] → ⊥
 is_full edits some is = true≢false (sym (ap (λ (es : List Edit). nat_eq (length es) 0) is) ∙ some)
 
-pub may_keep : (dir : Directory) (change : Option Directory) (edits : List Edit) → IsSound dir → MatchOption change (edits ≡ []) (AreEditsTo dir edits)
+pub may_keep : (dir : Directory) (change : Option Directory) (edits : List Edit) → IsSound dir
+    → MatchOption change (edits ≡ []) (AreEditsTo dir edits)
     → MayKeep edits dir
 unfolding all_edited
-may_keep dir None edits sound is = subst (λ (es : List Edit). MayKeep es dir) (sym is) (record { may = tt; sound = sound })
+may_keep dir None edits sound is = subst (λ (es : List Edit). MayKeep es dir) (sym is)
+    (record { may = tt; sound = sound })
 may_keep dir (Some after) edits sound are = record { may = are.may; sound = subst IsSound (sym are.make) are.sound }
 
-pub makes_change : (dir : Directory) (change : Option Directory) (edits : List Edit) → MatchOption change (edits ≡ []) (AreEditsTo dir edits)
+pub makes_change : (dir : Directory) (change : Option Directory) (edits : List Edit) → MatchOption change (edits ≡ [])
+    (AreEditsTo dir edits)
     → made_by edits dir ≡ unwrap_or change dir
 makes_change dir None edits is = none_made edits dir is
 makes_change dir (Some after) edits are = are.make
 
-pub changes_none : (dir : Directory) (change : Option Directory) (edits : List Edit) → MatchOption change (edits ≡ []) (AreEditsTo dir edits)
+pub changes_none : (dir : Directory) (change : Option Directory) (edits : List Edit) → MatchOption change (edits ≡ [])
+    (AreEditsTo dir edits)
     → unwrap_or change dir ≡ dir → edits ≡ []
 changes_none dir None edits is none = is
 changes_none dir (Some after) edits are none = are.nothing none
 
 -- edits that lead elsewhere are some
-pub bound_kept : (edits : List Edit) (dir after : Directory) (P : Type 0) → made_by edits dir ≡ after → ((edits ≡ [] → ⊥) → P) → (after ≡ dir → ⊥) → P
+pub bound_kept : (edits : List Edit) (dir after : Directory) (P : Type 0) → made_by edits dir ≡ after
+    → ((edits ≡ [] → ⊥) → P) → (after ≡ dir → ⊥) → P
 bound_kept edits dir after P same bound some = bound (λ none. some (sym same ∙ none_made edits dir none))
 
 -- the same edits under another name
 pub same_edits : (dir : Directory) (change : Option Directory) (edits others : List Edit) → others ≡ edits
     → MatchOption change (edits ≡ []) (AreEditsTo dir edits) → MatchOption change (others ≡ []) (AreEditsTo dir others)
-same_edits dir change edits others same are = subst (λ (es : List Edit). MatchOption change (es ≡ []) (AreEditsTo dir es)) (sym same) are
+same_edits dir change edits others same are
+    = subst (λ (es : List Edit). MatchOption change (es ≡ []) (AreEditsTo dir es)) (sym same) are
 
 -- ---- a protection run
 
-pub run_edits_are : (dir : Directory) (decided : Decided) (edits : List Edit) → edits ≡ decided.edits → IsRun dir decided
+pub run_edits_are : (dir : Directory) (decided : Decided) (edits : List Edit) → edits ≡ decided.edits
+    → IsRun dir decided
     → AreEditsTo dir edits (protection_run dir).directory
-run_edits_are dir decided edits same run = subst (λ (es : List Edit). AreEditsTo dir es (protection_run dir).directory) (sym same) run.edits
+run_edits_are dir decided edits same run = subst
+    (λ (es : List Edit). AreEditsTo dir es (protection_run dir).directory) (sym same) run.edits
 
 pub may_run : (dir after : Directory) (edits : List Edit) → AreEditsTo dir edits after → MayKeep edits dir
 may_run dir after edits are = record { may = are.may; sound = subst IsSound (sym are.make) are.sound }
 
-pub run_changes_none : (dir : Directory) (decided : Decided) (edits : List Edit) → edits ≡ decided.edits → IsRun dir decided
+pub run_changes_none : (dir : Directory) (decided : Decided) (edits : List Edit) → edits ≡ decided.edits
+    → IsRun dir decided
     → (protection_run dir).directory ≡ dir → edits ≡ []
 run_changes_none dir decided edits same run none = (run_edits_are dir decided edits same run).nothing none
 
 -- ---- steps
 
 -- after steps each crash leaves the new directory, if each left the old one where none were made
-pub lasts_steps : {S : Type 0} (site : Ghosts S) (n : ℕ) (dir new : Directory) (x y : S) → new ≡ steps n dir → (n ≡ 0 → y ≡ x)
+pub lasts_steps : {S : Type 0} (site : Ghosts S) (n : ℕ) (dir new : Directory) (x y : S) → new ≡ steps n dir
+    → (n ≡ 0 → y ≡ x)
     → (0 < n → LastsAs site new x y) → LastsOn site dir new x y
 unfolding steps
 lasts_steps site zero dir new x y are still lasts =
-    subst (λ (d : Directory). LastsOn site dir d x y) (sym are) (subst (λ (z : _). LastsOn site dir dir x z) (sym (still refl)) (lasts_still site dir x))
+    subst (λ (d : Directory). LastsOn site dir d x y) (sym are)
+    (subst (λ (z : _). LastsOn site dir dir x z) (sym (still refl)) (lasts_still site dir x))
 lasts_steps site (suc n) dir new x y are still lasts = lasts_new site dir new x y (lasts (omega arith))
 
 -- steps that lead elsewhere are some
-pub bound_steps : (n : ℕ) (dir new after : Directory) (P : Type 0) → new ≡ steps n dir → new ≡ after → (0 < n → P) → (after ≡ dir → ⊥) → P
+pub bound_steps : (n : ℕ) (dir new after : Directory) (P : Type 0) → new ≡ steps n dir → new ≡ after → (0 < n → P)
+    → (after ≡ dir → ⊥) → P
 unfolding steps
 bound_steps zero dir new after P are same bound some = absurd (some (sym same ∙ are))
 bound_steps (suc n) dir new after P are same bound some = bound (omega arith)
 
 -- ---- the same answer
 
-pub served_as : {S T : Type 0} (site : Ghosts S) (a b : Answered) (engine changed : Engine) (x y : S) (outcome : Result T EngineFault) → a ≡ b
+pub served_as : {S T : Type 0} (site : Ghosts S) (a b : Answered) (engine changed : Engine) (x y : S)
+    (outcome : Result T EngineFault) → a ≡ b
     → Serves site a engine changed x y outcome → Serves site b engine changed x y outcome
-served_as site a b engine changed x y outcome same served = subst (λ (z : Answered). Serves site z engine changed x y outcome) same served
+served_as site a b engine changed x y outcome same served
+    = subst (λ (z : Answered). Serves site z engine changed x y outcome) same served

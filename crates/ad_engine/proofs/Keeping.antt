@@ -19,7 +19,8 @@ told_still P (Some x) (Some y) told p = subst P (sym told) p
 told_still P None (Some y) told p = absurd told
 told_still P (Some x) None told p = absurd told
 
-pub emit_stands_still : (engine : Engine) (r0 r1 : Option Images) (n0 n1 : ℕ) (l0 l1 : ℕ → Images → List ℕ → Type 0) (bytes : List ℕ)
+pub emit_stands_still : (engine : Engine) (r0 r1 : Option Images) (n0 n1 : ℕ) (l0 l1 : ℕ → Images → List ℕ → Type 0)
+    (bytes : List ℕ)
     → StandsIn engine r0 n0 l0 → StaysTold r0 r1 → n0 ≤ n1 → LeavesEmitted bytes n0 l0 l1 → StandsIn engine r1 n1 l1
 emit_stands_still engine r0 r1 n0 n1 l0 l1 bytes stands told later emits = λ unspent.
     let now = stands unspent in
@@ -33,8 +34,10 @@ emit_stands_still engine r0 r1 n0 n1 l0 l1 bytes stands told later emits = λ un
 -- ---- a sync
 
 -- after it each crash leaves the directory
-pub sync_crash : (engine : Engine) (r : Option Images) (now : ℕ) (left : ℕ → Images → List ℕ → Type 0) → IsSound engine.dir → IfSome r (HoldsDir engine)
-    → IfSome r (λ held. (table : Table) → HoldsTable engine.store held table → (images : Images) (out : List ℕ) → left now images out → HasTable images table)
+pub sync_crash : (engine : Engine) (r : Option Images) (now : ℕ) (left : ℕ → Images → List ℕ → Type 0)
+    → IsSound engine.dir → IfSome r (HoldsDir engine)
+    → IfSome r (λ held. (table : Table) → HoldsTable engine.store held table → (images : Images) (out : List ℕ)
+    → left now images out → HasTable images table)
     → IfSome r (λ held. (images : Images) (out : List ℕ) → left now images out → IsStoreOf images engine.dir)
 sync_crash engine None now left sound holds every = tt
 sync_crash engine (Some held) now left sound holds every = λ images out here.

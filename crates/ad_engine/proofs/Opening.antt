@@ -1,5 +1,6 @@
 -- Making and opening stores of directories, from what the store and its rows say.
-use Rattle.std.proofs.Common.{◌≡◌, ◌∙◌, ◌⊎◌, inl, inr, ℕ, ◌<◌, ◌≤◌, List, length, Option, Some, None, Result, Ok, Err, refl, sym, ap, subst, true, false, arith}
+use Rattle.std.proofs.Common.{◌≡◌, ◌∙◌, ◌⊎◌, inl, inr, ℕ, ◌<◌, ◌≤◌, List, length, Option, Some, None, Result, Ok, Err}
+use Rattle.std.proofs.Common.{refl, sym, ap, subst, true, false, arith}
 use Rattle.std.specs.Option.{IfSome}
 use Rattle.std.specs.Result.{IsErr, IsErrOf}
 use Rattle.site_io.specs.Counts.{HasRisen}
@@ -28,7 +29,8 @@ use Rattle.ad_rows.specs.declared.fault.RowsFault.TheVariants as rows
 use Rattle.ad_rows.proofs.Once.{one_table}
 use Rattle.ad_engine.specs.Faults.{IsCreating, IsOfCreate}
 use Rattle.ad_engine.specs.Standing.{HoldsDir, HoldsRows}
-use Rattle.ad_engine.specs.Opening.{Refuses, is_outside, IsOpenedAs, AnswersFor, IsNumber, directory_in, of_store, of_rows}
+use Rattle.ad_engine.specs.Opening.{Refuses, is_outside, IsOpenedAs, AnswersFor, IsNumber, directory_in, of_store}
+use Rattle.ad_engine.specs.Opening.{of_rows}
 use Rattle.ad_engine.specs.declared.fault.OpenFault.{OpenFault}
 use Rattle.ad_engine.specs.declared.fault.OpenFault.TheVariants.{Taken, Row, Memory}
 use Rattle.ad_engine.specs.declared.fault.OpenFault.TheVariants as opening
@@ -37,11 +39,13 @@ use Rattle.ad_engine.specs.declared.engine.Engine.{Engine}
 pub holds_has : (store : Store) (held : Images) (table : Table) → HoldsTable store held table → HasTable held table
 holds_has store held table holds = record {
   bodies = holds.bodies;
-  has = rests_has store.log.version store.log.live store.log.generation store.log.end store.log.other_open held holds.bodies holds.rests.rests;
+  has = rests_has store.log.version store.log.live store.log.generation store.log.end store.log.other_open held
+      holds.bodies holds.rests.rests;
   left = holds.left;
 }
 
-pub store_of : (dir : Directory) (images : Images) (table : Table) → AreRowsOf dir table → IsSound dir → HasTable images table → IsStoreOf images dir
+pub store_of : (dir : Directory) (images : Images) (table : Table) → AreRowsOf dir table → IsSound dir
+    → HasTable images table → IsStoreOf images dir
 store_of dir images table rows sound has = record { table = table; has = has; rows = rows; sound = sound }
 
 -- ---- what is told of a store, of its one answer
@@ -50,20 +54,26 @@ err_is : (T : Type 0) (fault other : StoreFault) → fault ≡ other → ◌≡�
 err_is T fault other is = ap (λ (f : StoreFault). Err f) is
 
 pub told_full : (T : Type 0) (r : Option Images) (fault : StoreFault)
-    → IfSome r (λ held. (table : Table) → HasTable held table → (IsErrOf {T = T} (Err fault) store.Empty → ⊥) × (IsErrOf {T = T} (Err fault) store.Broken → ⊥))
+    → IfSome r (λ held. (table : Table) → HasTable held table → (IsErrOf {T = T} (Err fault) store.Empty → ⊥)
+    × (IsErrOf {T = T} (Err fault) store.Broken → ⊥))
     → IfSome r (λ held. (table : Table) → HasTable held table → (fault ≡ store.Empty → ⊥) × (fault ≡ store.Broken → ⊥))
 told_full T None fault said = tt
-told_full T (Some held) fault said = λ table has.
-    (λ is. (said table has).0 (err_is T fault store.Empty is), λ is. (said table has).1 (err_is T fault store.Broken is))
+told_full T (Some held) fault said = λ table has. (
+  λ is. (said table has).0 (err_is T fault store.Empty is),
+  λ is.
+      (said table has).1 (err_is T fault store.Broken is),
+)
 
 pub told_none : (T : Type 0) (r : Option Images) (fault : StoreFault)
-    → IfSome r (λ held. IsEmptyStore held → IsErr {T = T} {E = StoreFault} (Err fault) × (IsErrOf {T = T} (Err fault) store.Broken → ⊥))
+    → IfSome r (λ held. IsEmptyStore held → IsErr {T = T} {E = StoreFault} (Err fault)
+    × (IsErrOf {T = T} (Err fault) store.Broken → ⊥))
     → IfSome r (λ held. IsEmptyStore held → fault ≡ store.Broken → ⊥)
 told_none T None fault said = tt
 told_none T (Some held) fault said = λ empty is. (said empty).1 (err_is T fault store.Broken is)
 
 pub told_not_empty : (T : Type 0) (x : T) (r : Option Images)
-    → IfSome r (λ held. IsEmptyStore held → IsErr {T = T} {E = StoreFault} (Ok x) × (IsErrOf {T = T} (Ok x) store.Broken → ⊥))
+    → IfSome r (λ held. IsEmptyStore held → IsErr {T = T} {E = StoreFault} (Ok x)
+    × (IsErrOf {T = T} (Ok x) store.Broken → ⊥))
     → IfSome r (λ held. IsEmptyStore held → ⊥)
 told_not_empty T x None said = tt
 told_not_empty T x (Some held) said = λ empty. let no = (said empty).0 in absurd cc
@@ -78,7 +88,8 @@ pub record StoreSays (held : Images) (fault : StoreFault) : Type 0 where
   pub none : IsEmptyStore held → fault ≡ store.Broken → ⊥
 
 -- the site failed, or memory ran out
-outside_answers : (held : Images) (fault : StoreFault) → is_outside (of_store fault) ≡ true → IsNumber (Err (of_store fault)) → AnswersFor held (Err (of_store fault))
+outside_answers : (held : Images) (fault : StoreFault) → is_outside (of_store fault) ≡ true
+    → IsNumber (Err (of_store fault)) → AnswersFor held (Err (of_store fault))
 outside_answers held fault is number = record {
   empty = λ _. outside;
   broken = λ _. outside;
@@ -89,7 +100,8 @@ outside_answers held fault is number = record {
     outside : {P : Type 0} → is_outside (of_store fault) ≡ false → P
     outside never = absurd (let clash : true ≡ false = sym is ∙ never in cc clash)
 
-refused_by : (held : Images) (fault : StoreFault) → (fault ≡ store.Taken → ⊥) → StoreSays held fault → AnswersFor held (Err (of_store fault))
+refused_by : (held : Images) (fault : StoreFault) → (fault ≡ store.Taken → ⊥) → StoreSays held fault
+    → AnswersFor held (Err (of_store fault))
 refused_by held store.Taken never says = absurd (never refl)
 refused_by held store.Empty never says = record {
   empty = λ _ _. refl;
@@ -107,7 +119,8 @@ refused_by held store.Spent never says = outside_answers held store.Spent refl t
 refused_by held store.Site never says = outside_answers held store.Site refl tt
 refused_by held store.Memory never says = outside_answers held store.Memory refl tt
 
-pub store_refused : (r : Option Images) (fault : StoreFault) (e : OpenFault) (result : Result Engine OpenFault) → result ≡ Err e → e ≡ of_store fault
+pub store_refused : (r : Option Images) (fault : StoreFault) (e : OpenFault) (result : Result Engine OpenFault)
+    → result ≡ Err e → e ≡ of_store fault
     → (fault ≡ store.Taken → ⊥)
     → (fault ≡ store.Empty → IfSome r IsEmptyStore) → (fault ≡ store.Broken → IfSome r IsBrokenTable)
     → IfSome r (λ held. (table : Table) → HasTable held table → (fault ≡ store.Empty → ⊥) × (fault ≡ store.Broken → ⊥))
@@ -120,17 +133,20 @@ store_refused (Some held) fault e result is made never empty broken full none =
 
 -- ---- the rows are those of no sound directory
 
-refuses_rows : (held : Images) (table : Table) (fault : RowsFault) → HasTable held table → IsRefusal table fault → is_outside (of_rows fault) ≡ false → Refuses held (of_rows fault)
+refuses_rows : (held : Images) (table : Table) (fault : RowsFault) → HasTable held table → IsRefusal table fault
+    → is_outside (of_rows fault) ≡ false → Refuses held (of_rows fault)
 refuses_rows held table (rows.Row kind number) has told inside = (table, has, told)
 refuses_rows held table (rows.Unsound number) has told inside = (table, has, told)
 refuses_rows held table rows.Memory has told inside = absurd cc
 
-pub rows_opened : (r : Option Images) (the_store : Store) (table : Table) (fault : RowsFault) (e : OpenFault) (result : Result Engine OpenFault)
+pub rows_opened : (r : Option Images) (the_store : Store) (table : Table) (fault : RowsFault) (e : OpenFault)
+    (result : Result Engine OpenFault)
     → result ≡ Err e → e ≡ of_rows fault → IsRefusal table fault
     → IfSome r (λ held. HoldsTable the_store held table) → IfSome r (λ held. IsOpenedAs held result)
 rows_opened None the_store table fault e result is made told holds = tt
 rows_opened (Some held) the_store table fault e result is made told holds =
-    subst (IsOpenedAs held) (ap (λ (f : OpenFault). Err f) (sym made) ∙ sym is) (refuses_rows held table fault (holds_has the_store held table holds) told)
+    subst (IsOpenedAs held) (ap (λ (f : OpenFault). Err f) (sym made) ∙ sym is)
+    (refuses_rows held table fault (holds_has the_store held table holds) told)
 
 -- what is said of rows is said of the slots
 pub record RowsSay (table : Table) (result : Result Engine OpenFault) : Type 0 where
@@ -138,7 +154,8 @@ pub record RowsSay (table : Table) (result : Result Engine OpenFault) : Type 0 w
   pub unsound : AreRight table → StandsForNone table → IsNumber result
 
 -- slots that have a table are neither empty nor broken, whatever is answered
-pub has_rows : (r : Option Images) (the_store : Store) (table : Table) (result : Result Engine OpenFault) → RowsSay table result
+pub has_rows : (r : Option Images) (the_store : Store) (table : Table) (result : Result Engine OpenFault)
+    → RowsSay table result
     → IfSome r (λ held. HoldsTable the_store held table) → IfSome r (λ held. IsEmptyStore held → ⊥)
     → IfSome r (λ held. AnswersFor held result)
 has_rows None the_store table result say holds full = tt
@@ -147,8 +164,10 @@ has_rows (Some held) the_store table result say holds full =
     record {
       empty = λ empty. absurd (full empty);
       broken = λ broken. absurd (broken.none table has);
-      row = λ other k n is least. say.row k n (subst (λ (t : Table). IsLeastBad t k n) (one_table held table other has is) least);
-      unsound = λ other is right never. say.unsound (subst AreRight (one_table held table other has is) right) (subst StandsForNone (one_table held table other has is) never);
+      row = λ other k n is least. say.row k n
+          (subst (λ (t : Table). IsLeastBad t k n) (one_table held table other has is) least);
+      unsound = λ other is right never. say.unsound (subst AreRight (one_table held table other has is) right)
+          (subst StandsForNone (one_table held table other has is) never);
     }
 
 -- the rows weren't read as a directory
@@ -156,46 +175,70 @@ abbrev told_rows : Result Directory RowsFault → Result Directory OpenFault
 told_rows (Ok dir) = Ok dir
 told_rows (Err fault) = Err (of_rows fault)
 
-pub rows_say : (table : Table) (fault : RowsFault) (e : OpenFault) (result : Result Engine OpenFault) → result ≡ Err e → e ≡ of_rows fault
-    → ((k n : ℕ) → IsLeastBad table k n → is_memory fault ≡ false → ◌≡◌ {A = Result Directory RowsFault} (Err (rows.Row k n)) (Err fault))
+pub rows_say : (table : Table) (fault : RowsFault) (e : OpenFault) (result : Result Engine OpenFault) → result ≡ Err e
+    → e ≡ of_rows fault
+    → ((k n : ℕ) → IsLeastBad table k n → is_memory fault ≡ false → ◌≡◌ {A = Result Directory RowsFault}
+    (Err (rows.Row k n)) (Err fault))
     → (AreRight table → StandsForNone table → IsUnsound (Err fault)) → RowsSay table result
 rows_say table fault e result is made row unsound =
     subst (RowsSay table) (ap (λ (f : OpenFault). Err f) (sym made) ∙ sym is) (by fault row unsound)
   where
-    by : (f : RowsFault) → ((k n : ℕ) → IsLeastBad table k n → is_memory f ≡ false → ◌≡◌ {A = Result Directory RowsFault} (Err (rows.Row k n)) (Err f))
+    by : (f : RowsFault) → ((k n : ℕ) → IsLeastBad table k n → is_memory f ≡ false
+        → ◌≡◌ {A = Result Directory RowsFault} (Err (rows.Row k n)) (Err f))
         → (AreRight table → StandsForNone table → IsUnsound (Err f)) → RowsSay table (Err (of_rows f))
-    by (rows.Row kt nt) row unsound = record { row = λ k n least _. ap told_rows (row k n least refl); unsound = unsound }
-    by (rows.Unsound m) row unsound = record { row = λ k n least _. ap told_rows (row k n least refl); unsound = unsound }
+    by (rows.Row kt nt) row unsound = record {
+      row = λ k n least _. ap told_rows (row k n least refl);
+      unsound
+          = unsound;
+    }
+    by (rows.Unsound m) row unsound = record {
+      row = λ k n least _. ap told_rows (row k n least refl);
+      unsound
+          = unsound;
+    }
     by rows.Memory row unsound = record { row = λ k n least never. absurd cc; unsound = unsound }
 
 -- they were
-rows_read : (table : Table) (dir : Directory) (engine : Engine) → ((k n : ℕ) → IsLeastBad table k n → ◌≡◌ {A = Result Directory RowsFault} (Err (rows.Row k n)) (Ok dir))
+rows_read : (table : Table) (dir : Directory) (engine : Engine)
+    → ((k n : ℕ) → IsLeastBad table k n → ◌≡◌ {A = Result Directory RowsFault} (Err (rows.Row k n)) (Ok dir))
     → (AreRight table → StandsForNone table → ⊥) → RowsSay table (Ok engine)
-rows_read table dir engine row unsound = record { row = λ k n least. absurd (let clash : ◌≡◌ {A = Result Directory RowsFault} (Err (rows.Row k n)) (Ok dir) = row k n least in cc clash); unsound = unsound }
+rows_read table dir engine row unsound = record {
+  row = λ k n least. absurd (let clash : ◌≡◌ {A = Result Directory RowsFault} (Err (rows.Row k n)) (Ok dir)
+      = row k n least in cc clash);
+  unsound = unsound;
+}
 
 pub has_read : (r : Option Images) (the_store : Store) (given : List StoredRow) (dir : Directory) (engine : Engine)
-    → ((k n : ℕ) → IsLeastBad (table_of given) k n → ◌≡◌ {A = Result Directory RowsFault} (Err (rows.Row k n)) (Ok dir)) → (AreRight (table_of given) → StandsForNone (table_of given) → ⊥)
-    → IfSome r (λ held. HoldsTable the_store held (table_of given)) → IfSome r (λ held. IsEmptyStore held → ⊥) → IfSome r (λ held. AnswersFor held (Ok engine))
-has_read r the_store given dir engine row unsound holds full = has_rows r the_store (table_of given) (Ok engine) (rows_read (table_of given) dir engine row unsound) holds full
+    → ((k n : ℕ) → IsLeastBad (table_of given) k n → ◌≡◌ {A = Result Directory RowsFault} (Err (rows.Row k n))
+    (Ok dir)) → (AreRight (table_of given) → StandsForNone (table_of given) → ⊥)
+    → IfSome r (λ held. HoldsTable the_store held (table_of given)) → IfSome r (λ held. IsEmptyStore held → ⊥)
+    → IfSome r (λ held. AnswersFor held (Ok engine))
+has_read r the_store given dir engine row unsound holds full = has_rows r the_store (table_of given) (Ok engine)
+    (rows_read (table_of given) dir engine row unsound) holds full
 
 -- ---- the store was opened
 
-pub opened : (r : Option Images) (the_store : Store) (table : Table) (dir : Directory) → IfSome r (λ held. HoldsTable the_store held table)
+pub opened : (r : Option Images) (the_store : Store) (table : Table) (dir : Directory)
+    → IfSome r (λ held. HoldsTable the_store held table)
     → AreRowsOf dir table → IsSound dir → IfSome r (λ held. IsStoreOf held dir)
 opened None the_store table dir holds rows sound = tt
-opened (Some held) the_store table dir holds rows sound = store_of dir held table rows sound (holds_has the_store held table holds)
+opened (Some held) the_store table dir holds rows sound = store_of dir held table rows sound
+    (holds_has the_store held table holds)
 
-pub holds_rows : (r : Option Images) (the_store : Store) (table : Table) (dir : Directory) → IfSome r (λ held. HoldsTable the_store held table)
+pub holds_rows : (r : Option Images) (the_store : Store) (table : Table) (dir : Directory)
+    → IfSome r (λ held. HoldsTable the_store held table)
     → AreRowsOf dir table → IfSome r (HoldsRows the_store dir)
 holds_rows None the_store table dir holds rows = tt
 holds_rows (Some held) the_store table dir holds rows = record { table = table; holds = holds; rows = rows }
 
-pub dir_held : (engine : Engine) (r : Option Images) → IfSome r (HoldsRows engine.store engine.dir) → IfSome r (HoldsDir engine)
+pub dir_held : (engine : Engine) (r : Option Images) → IfSome r (HoldsRows engine.store engine.dir)
+    → IfSome r (HoldsDir engine)
 dir_held engine None holds = tt
 dir_held engine (Some held) holds = record { table = holds.table; holds = holds.holds; rows = holds.rows }
 
 -- what is told of the slots after the opening
-pub holds_dir : (engine : Engine) (r0 r1 : Option Images) (table : Table) → StaysTold r0 r1 → IfSome r0 (λ held. HoldsTable engine.store held table)
+pub holds_dir : (engine : Engine) (r0 r1 : Option Images) (table : Table) → StaysTold r0 r1
+    → IfSome r0 (λ held. HoldsTable engine.store held table)
     → AreRowsOf engine.dir table → IfSome r1 (HoldsDir engine)
 holds_dir engine None None table same holds rows = tt
 holds_dir engine (Some x) (Some y) table same holds rows = record {
@@ -215,17 +258,20 @@ memory_opened None e result is memory = tt
 memory_opened (Some held) e result is memory =
     subst (IsOpenedAs held) (ap (λ (f : OpenFault). Err f) (sym memory) ∙ sym is) (λ no. absurd cc)
 
-pub memory_answers : (r : Option Images) (e : OpenFault) (result : Result Engine OpenFault) → result ≡ Err e → e ≡ Memory
+pub memory_answers : (r : Option Images) (e : OpenFault) (result : Result Engine OpenFault) → result ≡ Err e → e
+    ≡ Memory
     → IfSome r (λ held. AnswersFor held result)
 memory_answers None e result is memory = tt
 memory_answers (Some held) e result is memory =
-    subst (AnswersFor held) (ap (λ (f : OpenFault). Err f) (sym memory) ∙ sym is) (outside_answers held store.Memory refl tt)
+    subst (AnswersFor held) (ap (λ (f : OpenFault). Err f) (sym memory) ∙ sym is)
+    (outside_answers held store.Memory refl tt)
 
 told_same : (r : Option Images) → StaysTold r r
 told_same None = tt
 told_same (Some held) = refl
 
-pub looks_not : {S : Type 0} (site : Ghosts S) (x : S) → ((t : ℕ) (images : Images) (out : List ℕ) → site.left x t images out → t ≤ site.now x)
+pub looks_not : {S : Type 0} (site : Ghosts S) (x : S)
+    → ((t : ℕ) (images : Images) (out : List ℕ) → site.left x t images out → t ≤ site.now x)
     → OnlyLooks site x x
 looks_not site x until =
     let still = touches_not site x until in
@@ -247,18 +293,22 @@ open_same : (U : Type 0) (a b : OpenFault) → ◌≡◌ {A = Result U OpenFault
 open_same U a b e = cc
 
 -- a fault is the same one in an answer of another kind
-fault_as : (T U : Type 0) (a b : OpenFault) → ◌≡◌ {A = Result T OpenFault} (Err a) (Err b) → ◌≡◌ {A = Result U OpenFault} (Err a) (Err b)
+fault_as : (T U : Type 0) (a b : OpenFault) → ◌≡◌ {A = Result T OpenFault} (Err a) (Err b)
+    → ◌≡◌ {A = Result U OpenFault} (Err a) (Err b)
 fault_as T U a b e = ap (λ (fault : OpenFault). Err fault) (open_same T a b e)
 
-pub unwritten_as : (T U P : Type 0) (fault : OpenFault) → (IsErrOf {T = T} (Err fault) Taken ⊎ IsErrOf {T = T} (Err fault) Memory → P)
+pub unwritten_as : (T U P : Type 0) (fault : OpenFault)
+    → (IsErrOf {T = T} (Err fault) Taken ⊎ IsErrOf {T = T} (Err fault) Memory → P)
     → IsErrOf {T = U} (Err fault) Taken ⊎ IsErrOf {T = U} (Err fault) Memory → P
 unwritten_as T U P fault said may = said (known may)
   where
-    known : IsErrOf {T = U} (Err fault) Taken ⊎ IsErrOf {T = U} (Err fault) Memory → IsErrOf {T = T} (Err fault) Taken ⊎ IsErrOf {T = T} (Err fault) Memory
+    known : IsErrOf {T = U} (Err fault) Taken ⊎ IsErrOf {T = U} (Err fault) Memory → IsErrOf {T = T} (Err fault) Taken
+        ⊎ IsErrOf {T = T} (Err fault) Memory
     known (inl t) = inl (fault_as U T fault Taken t)
     known (inr m) = inr (fault_as U T fault Memory m)
 
-pub one_as : (T U P : Type 0) (fault kind : OpenFault) → (IsErrOf {T = T} (Err fault) kind → P) → IsErrOf {T = U} (Err fault) kind → P
+pub one_as : (T U P : Type 0) (fault kind : OpenFault) → (IsErrOf {T = T} (Err fault) kind → P)
+    → IsErrOf {T = U} (Err fault) kind → P
 one_as T U P fault kind said is = said (fault_as U T fault kind is)
 
 taken_of : (fault : StoreFault) → of_store fault ≡ Taken → fault ≡ store.Taken
@@ -285,7 +335,8 @@ of_create T store.Spent only = tt
 of_create T store.Site only = tt
 of_create T store.Memory only = tt
 
-site_of : (T : Type 0) (fault : StoreFault) → OnlyStoreTaken {T = T} (Err fault) → of_store fault ≡ opening.Site → fault ≡ store.Site
+site_of : (T : Type 0) (fault : StoreFault) → OnlyStoreTaken {T = T} (Err fault) → of_store fault ≡ opening.Site
+    → fault ≡ store.Site
 site_of T store.Taken only is = absurd cc
 site_of T store.Empty only is = absurd cc
 site_of T store.Broken only is = absurd cc
@@ -294,25 +345,35 @@ site_of T store.Site only is = refl
 site_of T store.Memory only is = absurd cc
 
 -- the store refused
-pub refused_creating : {S : Type 0} (T U : Type 0) (site : Ghosts S) (old new : S) (fault : StoreFault) (e : OpenFault) (result : Result U OpenFault) → result ≡ Err e → e ≡ of_store fault
-    → (IsErrOf {T = T} (Err fault) store.Taken → IfSome (site.reads old) (λ held. (0 < length held.a) ⊎ (0 < length held.b)))
-    → (IsErrOf {T = T} (Err fault) store.Taken ⊎ IsErrOf {T = T} (Err fault) store.Memory → StaysTold (site.reads old) (site.reads new) × LeavesSame (site.now old) (site.left old) (site.left new))
-    → OnlyStoreTaken {T = T} (Err fault) → TouchesSlots site old new → (IsErrOf {T = T} (Err fault) store.Site → HasRisen (site.slot_faults old) (site.slot_faults new)) → IsCreating site old new result
+pub refused_creating : {S : Type 0} (T U : Type 0) (site : Ghosts S) (old new : S) (fault : StoreFault)
+    (e : OpenFault) (result : Result U OpenFault) → result ≡ Err e → e ≡ of_store fault
+    → (IsErrOf {T = T} (Err fault) store.Taken → IfSome (site.reads old)
+    (λ held. (0 < length held.a) ⊎ (0 < length held.b)))
+    → (IsErrOf {T = T} (Err fault) store.Taken ⊎ IsErrOf {T = T} (Err fault) store.Memory → StaysTold (site.reads old)
+    (site.reads new) × LeavesSame (site.now old) (site.left old) (site.left new))
+    → OnlyStoreTaken {T = T} (Err fault) → TouchesSlots site old new
+    → (IsErrOf {T = T} (Err fault) store.Site → HasRisen (site.slot_faults old) (site.slot_faults new))
+    → IsCreating site old new result
 refused_creating T U site old new fault e result is e_is taken unwritten only outside cause =
-    subst (λ (r : Result U OpenFault). IsCreating site old new r) (sym (is ∙ ap (λ (f : OpenFault). Err f) e_is)) (record {
+    subst (λ (r : Result U OpenFault). IsCreating site old new r) (sym (is ∙ ap (λ (f : OpenFault). Err f) e_is))
+    (record {
       taken = λ t. taken (err_is T fault store.Taken (taken_of fault (open_same U (of_store fault) Taken t)));
       unwritten = λ may. unwritten (known may);
       faults = of_create T fault only;
       outside = outside;
-      cause = λ s. cause (err_is T fault store.Site (site_of T fault only (open_same U (of_store fault) opening.Site s)));
+      cause = λ s. cause (err_is T fault store.Site
+          (site_of T fault only (open_same U (of_store fault) opening.Site s)));
     })
   where
-    known : IsErrOf {T = U} (Err (of_store fault)) Taken ⊎ IsErrOf {T = U} (Err (of_store fault)) Memory → IsErrOf {T = T} (Err fault) store.Taken ⊎ IsErrOf {T = T} (Err fault) store.Memory
+    known : IsErrOf {T = U} (Err (of_store fault)) Taken ⊎ IsErrOf {T = U} (Err (of_store fault)) Memory
+        → IsErrOf {T = T} (Err fault) store.Taken ⊎ IsErrOf {T = T} (Err fault) store.Memory
     known (inl t) = inl (err_is T fault store.Taken (taken_of fault (open_same U (of_store fault) Taken t)))
     known (inr m) = inr (err_is T fault store.Memory (memory_of fault (open_same U (of_store fault) Memory m)))
 
 -- memory ran out before the site was touched
-pub memory_creating : {S : Type 0} (U : Type 0) (site : Ghosts S) (x : S) → ((t : ℕ) (images : Images) (out : List ℕ) → site.left x t images out → t ≤ site.now x) → (e : OpenFault) (result : Result U OpenFault) → result ≡ Err e → e ≡ Memory
+pub memory_creating : {S : Type 0} (U : Type 0) (site : Ghosts S) (x : S)
+    → ((t : ℕ) (images : Images) (out : List ℕ) → site.left x t images out → t ≤ site.now x)
+    → (e : OpenFault) (result : Result U OpenFault) → result ≡ Err e → e ≡ Memory
     → IsCreating site x x result
 memory_creating U site x until e result is e_is =
     subst (λ (r : Result U OpenFault). IsCreating site x x r) (sym (is ∙ ap (λ (f : OpenFault). Err f) e_is)) (record {

@@ -1,5 +1,6 @@
 -- Snapshots of a directory, and how long a journal gets.
-use Rattle.std.proofs.Common.{◌≡◌, ◌∙◌, ◌⊎◌, inl, inr, ⊎_elim, ℕ, ◌+◌, ◌-◌, ◌^◌, ◌<◌, ◌≤◌, List, [], ◌∷◌, ◌++◌, Option, Some, None, Result, refl, sym, ap, subst, arith}
+use Rattle.std.proofs.Common.{◌≡◌, ◌∙◌, ◌⊎◌, inl, inr, ⊎_elim, ℕ, ◌+◌, ◌-◌, ◌^◌, ◌<◌, ◌≤◌, List, [], ◌∷◌, ◌++◌}
+use Rattle.std.proofs.Common.{Option, Some, None, Result, refl, sym, ap, subst, arith}
 use Rattle.std.specs.Option.{IfSome}
 use Rattle.std.proofs.lemmas.Bool.{cases_lt}
 use Rattle.site_io.specs.Counts.{HasRisen}
@@ -34,13 +35,16 @@ use Rattle.ad_engine.proofs.Committing.{begun_or}
 
 -- ---- a snapshot
 
-pub moments_still : (engine : Engine) (rows : List Row) (r : Option Images) (n0 n1 : ℕ) (l0 l1 : ℕ → Images → List ℕ → Type 0) → IsSound engine.dir
+pub moments_still : (engine : Engine) (rows : List Row) (r : Option Images) (n0 n1 : ℕ)
+    (l0 l1 : ℕ → Images → List ℕ → Type 0) → IsSound engine.dir
     → AreRowsOf engine.dir (table_of rows) → IfSome r (HoldsDir engine)
-    → IfSome r (λ held. (table : Table) → HoldsTable engine.store held table → Leaves n0 n1 l0 l1 (λ images. Began n0 l0 images ⊎ OldOrWhole table rows images))
+    → IfSome r (λ held. (table : Table) → HoldsTable engine.store held table
+    → Leaves n0 n1 l0 l1 (λ images. Began n0 l0 images ⊎ OldOrWhole table rows images))
     → LeavesDir engine.dir r n0 n1 l0 l1
 moments_still engine rows None n0 n1 l0 l1 sound are holds any = tt
 moments_still engine rows (Some held) n0 n1 l0 l1 sound are holds any =
-    leaves_weaker n0 n1 l0 l1 (λ images. Began n0 l0 images ⊎ OldOrWhole holds.table rows images) (λ images. Began n0 l0 images ⊎ IsStoreOf images engine.dir)
+    leaves_weaker n0 n1 l0 l1 (λ images. Began n0 l0 images ⊎ OldOrWhole holds.table rows images)
+    (λ images. Began n0 l0 images ⊎ IsStoreOf images engine.dir)
     (λ images may. ⊎_elim (λ began. inl began) (λ left. inr (⊎_elim
     (λ old. store_of engine.dir images holds.table holds.rows sound old)
     (λ new. store_of engine.dir images (table_of rows) are sound new) left)) may)
@@ -53,9 +57,11 @@ untouched_still dir None n l until = tt
 untouched_still dir (Some held) n l until = no_step n l (λ images. IsStoreOf images dir) until
 
 -- after it each crash leaves the directory
-pub snapshot_crash : (engine : Engine) (rows : List Row) (r : Option Images) (now : ℕ) (left : ℕ → Images → List ℕ → Type 0) → IsSound engine.dir
+pub snapshot_crash : (engine : Engine) (rows : List Row) (r : Option Images) (now : ℕ)
+    (left : ℕ → Images → List ℕ → Type 0) → IsSound engine.dir
     → AreRowsOf engine.dir (table_of rows) → IfSome r (HoldsDir engine)
-    → IfSome r (λ held. (table : Table) → HoldsTable engine.store held table → (images : Images) (out : List ℕ) → left now images out
+    → IfSome r (λ held. (table : Table) → HoldsTable engine.store held table → (images : Images) (out : List ℕ)
+    → left now images out
     → HasTable images (table_of rows))
     → IfSome r (λ held. (images : Images) (out : List ℕ) → left now images out → IsStoreOf images engine.dir)
 snapshot_crash engine rows None now left sound are holds every = tt
@@ -63,9 +69,11 @@ snapshot_crash engine rows (Some held) now left sound are holds every = λ image
     store_of engine.dir images (table_of rows) are sound (every holds.table holds.holds images out here)
 
 -- and the engine represents it
-pub snapshot_holds : (engine changed : Engine) (rows : List Row) (r0 r1 : Option Images) → changed.dir ≡ engine.dir → AreRowsOf engine.dir (table_of rows)
+pub snapshot_holds : (engine changed : Engine) (rows : List Row) (r0 r1 : Option Images) → changed.dir ≡ engine.dir
+    → AreRowsOf engine.dir (table_of rows)
     → IfSome r0 (HoldsDir engine)
-    → BothTold r0 r1 (λ before after. (table : Table) → HoldsTable engine.store before table → HoldsTable changed.store after (table_of rows))
+    → BothTold r0 r1 (λ before after. (table : Table) → HoldsTable engine.store before table
+    → HoldsTable changed.store after (table_of rows))
     → IfSome r1 (HoldsDir changed)
 snapshot_holds engine changed rows None None same are holds replaced = tt
 snapshot_holds engine changed rows (Some x) (Some y) same are holds replaced = record {
@@ -78,13 +86,15 @@ snapshot_holds engine changed rows (Some x) None same are holds replaced = absur
 
 -- ---- a call after a snapshot
 
-pub room_then : (before mid : Directory) (made : Directory → Directory) (r0 r1 : Option Images) (n0 n1 n2 : ℕ) (l0 l1 l2 : ℕ → Images → List ℕ → Type 0)
+pub room_then : (before mid : Directory) (made : Directory → Directory) (r0 r1 : Option Images) (n0 n1 n2 : ℕ)
+    (l0 l1 l2 : ℕ → Images → List ℕ → Type 0)
     → mid ≡ before → StaysKnown r0 r1 → LeavesDir before r0 n0 n1 l0 l1 → LeavesOldOrNew mid (made mid) r1 n1 n2 l1 l2
     → LeavesOldOrNew before (made before) r0 n0 n2 l0 l2
 room_then before mid made r0 r1 n0 n1 n2 l0 l1 l2 same known first second =
     by_told r0 r1 known first (subst (λ (d : Directory). LeavesOldOrNew d (made d) r1 n1 n2 l1 l2) same second)
   where
-    by_told : (r0 r1 : Option Images) → StaysKnown r0 r1 → LeavesDir before r0 n0 n1 l0 l1 → LeavesOldOrNew before (made before) r1 n1 n2 l1 l2
+    by_told : (r0 r1 : Option Images) → StaysKnown r0 r1 → LeavesDir before r0 n0 n1 l0 l1
+        → LeavesOldOrNew before (made before) r1 n1 n2 l1 l2
         → LeavesOldOrNew before (made before) r0 n0 n2 l0 l2
     by_told None r1 known first second = tt
     by_told (Some x) None known first second = absurd known
@@ -95,7 +105,8 @@ room_then before mid made r0 r1 n0 n1 n2 l0 l1 l2 same known first second =
         (λ images may. ⊎_elim (λ began. inl began) (λ old. inr (inl old)) may) first) second
 
 -- the snapshot failed
-pub room_failed : (before after : Directory) (r : Option Images) (n0 n1 : ℕ) (l0 l1 : ℕ → Images → List ℕ → Type 0) → LeavesDir before r n0 n1 l0 l1
+pub room_failed : (before after : Directory) (r : Option Images) (n0 n1 : ℕ) (l0 l1 : ℕ → Images → List ℕ → Type 0)
+    → LeavesDir before r n0 n1 l0 l1
     → LeavesOldOrNew before after r n0 n1 l0 l1
 room_failed before after None n0 n1 l0 l1 first = tt
 room_failed before after (Some x) n0 n1 l0 l1 first =
@@ -109,13 +120,16 @@ told_since P (Some a) None known p = absurd known
 told_since P (Some a) (Some b) known p = p
 
 -- what is durable after the second call is durable after both
-pub as_behind : {S : Type 0} (site : Ghosts S) (after : Directory) (x y z : S) → StaysKnown (site.reads x) (site.reads y) → LastsAs site after y z → LastsAs site after x z
+pub as_behind : {S : Type 0} (site : Ghosts S) (after : Directory) (x y z : S) → StaysKnown (site.reads x)
+    (site.reads y) → LastsAs site after y z → LastsAs site after x z
 as_behind site after x y z known lasts = told_since (AllLeave site after z) (site.reads x) (site.reads y) known lasts
 
-pub on_as : {S : Type 0} (site : Ghosts S) (before after : Directory) (x z : S) → LastsAs site after x z → LastsOn site before after x z
+pub on_as : {S : Type 0} (site : Ghosts S) (before after : Directory) (x z : S) → LastsAs site after x z
+    → LastsOn site before after x z
 on_as site before after x z lasts = by_told (site.reads x) lasts
   where
-    by_told : (r : Option Images) → IfSome r (λ held. AllLeave site after z) → IfSome r (λ held. AllLeave site before x → AllLeave site after z)
+    by_told : (r : Option Images) → IfSome r (λ held. AllLeave site after z)
+        → IfSome r (λ held. AllLeave site before x → AllLeave site after z)
     by_told None all = tt
     by_told (Some held) all = λ _. all
 
@@ -139,13 +153,15 @@ room_left log unwanted = record {
       (cases_lt 1048576 log.behind);
 }
 
-within_more : (first : Option ℕ) (behind more : ℕ) → IsWithin first 0 behind → IsWithin (first_with first more) more (behind_with first behind more)
+within_more : (first : Option ℕ) (behind more : ℕ) → IsWithin first 0 behind → IsWithin (first_with first more) more
+    (behind_with first behind more)
 within_more None behind more (by_limit le) = by_limit (omega (arith, le))
 within_more None behind more (by_first le) = by_limit (omega (arith, le))
 within_more (Some first) behind more (by_limit le) = by_limit (omega (arith, le))
 within_more (Some first) behind more (by_first le) = by_first (omega (arith, le))
 
-pub bounded : (old new : Store) (more : ℕ) (r : Option Images) → HasRoom old.log → new.log.generation ≡ old.log.generation
+pub bounded : (old new : Store) (more : ℕ) (r : Option Images) → HasRoom old.log → new.log.generation
+    ≡ old.log.generation
     → (new.log.first ≡ first_with old.log.first more) × (new.log.behind ≡ behind_with old.log.first old.log.behind more)
     → IfSome r (λ held. EndsWith new held more) → IsBounded new r
 bounded old new more r room generation counts ends = record {
@@ -174,7 +190,8 @@ pub two_of : (version : Version) → number_of version ≡ 2 → version ≡ Two
 two_of One is = absurd cc
 two_of Two is = refl
 
-rests_one : (version : Version) (live : Slot) (generation end : ℕ) (is_open : _) (held : Images) (bodies : List (List ℕ))
+rests_one : (version : Version) (live : Slot) (generation end : ℕ) (is_open : _) (held : Images)
+    (bodies : List (List ℕ))
     → Rests version live generation end is_open held bodies → version ≡ One → IsOne held.a
 rests_one One live generation end is_open held bodies rests is =
     has_one held.a end bodies (subst (λ (l : Slot). HasRecords (at_slot l held) 1 1 end bodies) rests.rest.0
@@ -186,14 +203,16 @@ other_version One never = absurd (never refl)
 other_version Two never = refl
 
 -- a store of version 2 is known by slot A
-pub untouched_two : (engine : Engine) (r : Option Images) (P : Type 0) → IfSome r (HoldsDir engine) → (engine.store.log.version ≡ Two → P)
+pub untouched_two : (engine : Engine) (r : Option Images) (P : Type 0) → IfSome r (HoldsDir engine)
+    → (engine.store.log.version ≡ Two → P)
     → IfSome r (λ held. (IsOne held.a → ⊥) → P)
 untouched_two engine None P holds still = tt
 untouched_two engine (Some held) P holds still = λ never.
     let log = engine.store.log in
     let rests = holds.holds.rests.rests in
     still (other_version log.version
-    (λ one. never (rests_one log.version log.live log.generation log.end log.other_open held holds.holds.bodies rests one)))
+    (λ one. never (rests_one log.version log.live log.generation log.end log.other_open held holds.holds.bodies rests
+    one)))
 
 pub untouched_same : (r : Option Images) (P : Type 0) → P → IfSome r (λ held. (IsOne held.a → ⊥) → P)
 untouched_same None P p = tt

@@ -1,5 +1,6 @@
 -- What writes at a place of a list do to the tokens of connections.
-use Rattle.std.proofs.Common.{◌≡◌, ℕ, zero, suc, ◌-◌, ◌<◌, ◌≤◌, List, [], ◌∷◌, ◌++◌, length, set, replicate, Option, Some, None, refl, ap, subst, arith}
+use Rattle.std.proofs.Common.{◌≡◌, ℕ, zero, suc, ◌-◌, ◌<◌, ◌≤◌, List, [], ◌∷◌, ◌++◌, length, set, replicate, Option}
+use Rattle.std.proofs.Common.{Some, None, refl, ap, subst, arith}
 use Rattle.std.proofs.lemmas.List.{append-nil}
 use Rattle.ad_ids.specs.declared.token.Token.{Token}
 use Rattle.ad_engine.specs.Tokens.{with_token, without_token}
@@ -10,7 +11,8 @@ put_behind zero token = refl
 put_behind (suc n) token = ap (λ (ts : List (Option Token)). None ∷ ts) (put_behind n token)
 
 -- a token put at a place, where as many as were missing up to there were put at the end
-pub put_at : (n k : ℕ) (token : Token) (ts : List (Option Token)) → k ≡ suc n - length ts → set (ts ++ replicate k None) n (Some token) ≡ with_token n token ts
+pub put_at : (n k : ℕ) (token : Token) (ts : List (Option Token)) → k ≡ suc n - length ts
+    → set (ts ++ replicate k None) n (Some token) ≡ with_token n token ts
 unfolding with_token
 put_at n k token [] is =
     let all : suc n ≡ k = omega (arith, is) in

@@ -37,7 +37,8 @@ decided dir tokens connection d = record {
 }
 
 abbrev pub message_answered : Directory → List (Option Token) → ℕ → List ℕ → Answered
-message_answered dir tokens connection bytes = decided dir tokens connection (message_decided dir (token_of tokens connection) bytes)
+message_answered dir tokens connection bytes = decided dir tokens connection
+    (message_decided dir (token_of tokens connection) bytes)
 
 -- ---- steps: as many as are asked for, or fewer, until nothing is pending
 

@@ -10,8 +10,8 @@ use Rattle.ad_engine.specs.declared.decided.Decided.{Decided}
 use Rattle.ad_engine.specs.Output.{counts}
 use Rattle.ad_engine.specs.Messages.{Decision}
 
--- Each edit may be applied to what those before it made, and all of them make this directory, which is sound. Where it
--- is the one from before, there is no edit.
+-- Each edit may be applied to what those before it made, and all of them make this directory, which is sound. Where
+-- it is the one from before, there is no edit.
 pub record AreEditsTo (dir : Directory) (edits : List Edit) (after : Directory) : Type 0 where
   pub may : MayApplyAll dir edits
   pub make : all_edited (map edit_seen edits) dir ≡ after

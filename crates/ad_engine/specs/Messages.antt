@@ -5,7 +5,8 @@ use Rattle.ad_ldap.specs.declared.fault.LdapFault.{LdapFault}
 use Rattle.ad_ldap.specs.declared.controls.Settings.{Settings}
 use Rattle.ad_ldap.specs.declared.reply.Reply.TheVariants as reply
 use Rattle.ad_ldap.specs.Reply.{reply_bytes}
-use Rattle.ad_ldap.specs.MessageValue.{MessageValue, OpValue, Bind, Unbind, SearchOf, ModifyOf, AddOf, DeleteOf, RenameOf, CompareOf, Abandon, Extended}
+use Rattle.ad_ldap.specs.MessageValue.{MessageValue, OpValue, Bind, Unbind, SearchOf, ModifyOf, AddOf, DeleteOf}
+use Rattle.ad_ldap.specs.MessageValue.{RenameOf, CompareOf, Abandon, Extended}
 use Rattle.ad_ldap.specs.MessageReading.{message_of}
 use Rattle.ad_ldap.specs.Settings.{settings_of}
 use Rattle.ad_dir_model.specs.Directory.{Directory}

@@ -1,5 +1,5 @@
--- What a list of frames is answered, one after the other, and the directory after them. At the start no connection has
--- a token.
+-- What a list of frames is answered, one after the other, and the directory after them. At the start no connection
+-- has a token.
 use Rattle.std.specs.Prelude.{Option, ℕ, List, [], ◌∷◌, ◌++◌}
 use Rattle.ad_ids.specs.declared.token.Token.{Token}
 use Rattle.ad_frames.specs.declared.frame.Frame.{Frame}
@@ -14,11 +14,13 @@ no_tokens = []
 unfoldable pub out_from : Directory → List (Option Token) → List Frame → List ℕ
 out_from dir tokens [] = []
 out_from dir tokens (frame ∷ frames) =
-    (answer dir tokens frame).output ++ out_from (answer dir tokens frame).directory (answer dir tokens frame).tokens frames
+    (answer dir tokens frame).output ++ out_from (answer dir tokens frame).directory (answer dir tokens frame).tokens
+    frames
 
 unfoldable pub after_from : Directory → List (Option Token) → List Frame → Directory
 after_from dir tokens [] = dir
-after_from dir tokens (frame ∷ frames) = after_from (answer dir tokens frame).directory (answer dir tokens frame).tokens frames
+after_from dir tokens (frame ∷ frames) = after_from (answer dir tokens frame).directory
+    (answer dir tokens frame).tokens frames
 
 -- ---- from the start
 

@@ -34,7 +34,8 @@ pub record Keeps {S T : Type 0} (site : Ghosts S) (dir : Directory) (tokens : Li
   pub tokens_are : OnOk outcome (changed.tokens ≡ tokens)
   pub stands : OnOk outcome (Stands changed (site.reads new) (site.now new) (site.left new))
   pub every_crash : OnOk outcome (LastsOn site engine.dir changed.dir old new)
-  pub any_moment : LeavesOldOrNew engine.dir dir (site.reads old) (site.now old) (site.now new) (site.left old) (site.left new)
+  pub any_moment : LeavesOldOrNew engine.dir dir (site.reads old) (site.now old) (site.now new) (site.left old)
+      (site.left new)
   pub untouched : dir ≡ engine.dir → new ≡ old
   pub bound : OnOk outcome ((dir ≡ engine.dir → ⊥) → IsBounded changed.store (site.reads new))
   pub unspent : changed.spent ≡ engine.spent

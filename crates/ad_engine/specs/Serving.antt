@@ -6,15 +6,17 @@ use Rattle.gate_log.specs.Moments.{Leaves, Began}
 use Rattle.ad_dir_model.specs.Directory.{Directory}
 use Rattle.ad_rows_write.specs.Rows.{IsStoreOf}
 
--- At each moment of a call a crash leaves what it could leave as the call began, or a store of the old directory or of
--- the new one.
+-- At each moment of a call a crash leaves what it could leave as the call began, or a store of the old directory or
+-- of the new one.
 abbrev pub LeavesOldOrNew : Directory → Directory → Option Images → ℕ → ℕ → (ℕ → Images → List ℕ → Type 0)
     → (ℕ → Images → List ℕ → Type 0) → Type 0
 LeavesOldOrNew before after reads start now old new = IfSome reads
-    (λ held. Leaves start now old new (λ images. Began start old images ⊎ (IsStoreOf images before ⊎ IsStoreOf images after)))
+    (λ held. Leaves start now old new (λ images. Began start old images
+    ⊎ (IsStoreOf images before ⊎ IsStoreOf images after)))
 
 -- The same of a call that leaves the directory as it was.
-abbrev pub LeavesDir : Directory → Option Images → ℕ → ℕ → (ℕ → Images → List ℕ → Type 0) → (ℕ → Images → List ℕ → Type 0) → Type 0
+abbrev pub LeavesDir : Directory → Option Images → ℕ → ℕ → (ℕ → Images → List ℕ → Type 0)
+    → (ℕ → Images → List ℕ → Type 0) → Type 0
 LeavesDir dir reads start now old new = IfSome reads
     (λ held. Leaves start now old new (λ images. Began start old images ⊎ IsStoreOf images dir))
 

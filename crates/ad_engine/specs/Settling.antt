@@ -13,7 +13,8 @@ StandsAfterSteps dir images = (n : ℕ) × IsStoreOf images (steps n dir)
 
 -- At each moment of a call a crash leaves what it could leave as the call began, or a store of the directory after
 -- some number of steps.
-abbrev pub LeavesSteps : Directory → Option Images → ℕ → ℕ → (ℕ → Images → List ℕ → Type 0) → (ℕ → Images → List ℕ → Type 0) → Type 0
+abbrev pub LeavesSteps : Directory → Option Images → ℕ → ℕ → (ℕ → Images → List ℕ → Type 0)
+    → (ℕ → Images → List ℕ → Type 0) → Type 0
 LeavesSteps dir reads before after old new = IfSome reads
     (λ held. Leaves before after old new (λ images. Began before old images ⊎ StandsAfterSteps dir images))
 
@@ -24,4 +25,5 @@ pub record AreSteps (n : ℕ) (old new : Directory) : Type 0 where
 
 -- Where the slots were observable as a call began, each crash after it leaves a store of the directory.
 abbrev pub LastsAs : {S : Type 0} → Ghosts S → Directory → S → S → Type 0
-LastsAs site dir old new = IfSome (site.reads old) (λ held. (images : Images) (out : List ℕ) → site.left new (site.now new) images out → IsStoreOf images dir)
+LastsAs site dir old new = IfSome (site.reads old)
+    (λ held. (images : Images) (out : List ℕ) → site.left new (site.now new) images out → IsStoreOf images dir)

@@ -22,17 +22,19 @@ pub record HoldsDir (engine : Engine) (held : Images) : Type 0 where
   pub rows : AreRowsOf engine.dir table
 
 -- A store isn't poisoned, and where the slots are observable they hold the directory.
-pub record IsKept (the_store : Store) (dir : Directory) (reads : Option Images) (now : ℕ) (left : ℕ → Images → List ℕ → Type 0) : Type 0 where
+pub record IsKept (the_store : Store) (dir : Directory) (reads : Option Images) (now : ℕ)
+    (left : ℕ → Images → List ℕ → Type 0) : Type 0 where
   pub held : IfSome reads (HoldsRows the_store dir)
   pub unspent : the_store.log.spent ≡ false
   pub store : store_stands the_store reads now left
 
 -- The directory is sound, the store isn't poisoned, and where the slots are observable they hold the directory.
-pub record Stands (engine : Engine) (reads : Option Images) (now : ℕ) (left : ℕ → Images → List ℕ → Type 0) : Type 0 where
-  pub sound : IsSound engine.dir
-  pub held : IfSome reads (HoldsDir engine)
-  pub unspent : engine.store.log.spent ≡ false
-  pub store : store_stands engine.store reads now left
+pub record Stands (engine : Engine) (reads : Option Images) (now : ℕ) (left : ℕ → Images → List ℕ → Type 0) : Type 0
+  where
+    pub sound : IsSound engine.dir
+    pub held : IfSome reads (HoldsDir engine)
+    pub unspent : engine.store.log.spent ≡ false
+    pub store : store_stands engine.store reads now left
 
 -- What a call on an engine takes and leaves, unless an earlier one failed.
 abbrev pub StandsIn : Engine → Option Images → ℕ → (ℕ → Images → List ℕ → Type 0) → Type 0

@@ -28,7 +28,8 @@ use std::alloc::{AllocError, Global};
 
 // The object isn't there, or isn't visible: the name above it that is told.
 fn hidden(alloc: Global, id: u32, tag: u8, dn: &Dn) -> Result<Decided, AllocError>
-    ensures { IfOk result (λ decided. (dir : Directory) → IsDecided dir (replies (done id tag 32 (dn_text dn.now) [])) decided) }
+    ensures { IfOk result (λ decided. (dir : Directory)
+        → IsDecided dir (replies (done id tag 32 (dn_text dn.now) [])) decided) }
 {
     let name = dn.text(alloc)?;
     let bytes = done(alloc, id, tag, 32, name, Vec::new(alloc))?;
@@ -38,7 +39,8 @@ fn hidden(alloc: Global, id: u32, tag: u8, dn: &Dn) -> Result<Decided, AllocErro
 // A need is missing.
 fn missing(alloc: Global, dir: &Dir, id: u32, tag: u8, need: &Need) -> Result<Decided, AllocError>
     requires { All (λ want. is_live dir.now.objects want.object ≡ true) need.now.alternatives }
-    ensures { IfOk result (IsDecided dir.now (replies (done id tag 50 [] (need_text dir.now need.now)))) }
+    ensures { IfOk result (IsDecided dir.now
+        (replies (done id tag 50 [] (need_text dir.now need.now)))) }
 {
     let diagnostic = text(alloc, dir, need)?;
     let bytes = done(alloc, id, tag, 50, Vec::new(alloc), diagnostic)?;
@@ -70,8 +72,11 @@ fn planned(
 ) -> Result<Decided, AllocError>
     requires sound { IsSound dir.now }
     requires change { IsChange (op_seen message.now.op) }
-    requires granted { verdict_of dir.now token.now (op_seen message.now.op) settings.now ≡ IsGranted act.now }
-    ensures { IfOk result (IsDecided dir.now (by_effect message.now.id tag (effect dir.now token.now (op_seen message.now.op) settings.now))) }
+    requires granted { verdict_of dir.now token.now (op_seen message.now.op) settings.now
+        ≡ IsGranted act.now }
+    ensures { IfOk result (IsDecided dir.now
+        (by_effect message.now.id tag
+        (effect dir.now token.now (op_seen message.now.op) settings.now))) }
 {
     stays_sound(dir, &message.op);
     match plan(alloc, dir, token, act)? {
@@ -91,7 +96,9 @@ fn judged(
 ) -> Result<Decided, AllocError>
     requires sound { IsSound dir.now }
     requires change { IsChange (op_seen message.now.op) }
-    ensures { IfOk result (IsDecided dir.now (by_effect message.now.id tag (effect dir.now token.now (op_seen message.now.op) settings.now))) }
+    ensures { IfOk result (IsDecided dir.now
+        (by_effect message.now.id tag
+        (effect dir.now token.now (op_seen message.now.op) settings.now))) }
 {
     dir.stands();
     a_missing_need_names_live_objects();
@@ -113,7 +120,9 @@ pub(crate) fn change(
 ) -> Result<Decided, AllocError>
     requires sound { IsSound dir.now }
     requires change { IsChange (op_seen message.now.op) }
-    ensures { IfOk result (IsDecided dir.now (changed dir.now token.now (message_seen message.now) tag (settings_of (message_seen message.now)))) }
+    ensures { IfOk result (IsDecided dir.now
+        (changed dir.now token.now (message_seen message.now) tag
+        (settings_of (message_seen message.now)))) }
 {
     match settings(message) {
         Ok(settings) => judged(alloc, dir, token, message, tag, &settings),

@@ -22,12 +22,15 @@ pub(crate) fn made<S: Site>(
     dir: &Dir,
 ) -> Result<(Store, Tokens), OpenFault>
     requires { IsSound dir.now }
-    ensures kept { IfOk result (λ made. IsKept made.0 dir.now (S.reads site.new) (S.now site.new) (S.left site.new)) }
+    ensures kept { IfOk result (λ made. IsKept made.0 dir.now (S.reads site.new) (S.now site.new)
+        (S.left site.new)) }
     ensures tokens { IfOk result (λ made. made.1 ≡ []) }
     ensures held { OnOk result (IfSome (S.reads site.new) (λ held. IsStoreOf held dir.now)) }
     ensures every_crash { OnOk result (IfSome (S.reads site.new) (λ held.
-        (images : Images) (out : List ℕ) → S.left site.new (S.now site.new) images out → IsStoreOf images dir.now)) }
-    ensures empty { OnOk result (IfSome (S.reads site.old) (λ held. (length held.a ≡ 0) × (length held.b ≡ 0))) }
+        (images : Images) (out : List ℕ) → S.left site.new (S.now site.new) images out
+        → IsStoreOf images dir.now)) }
+    ensures empty { OnOk result (IfSome (S.reads site.old)
+        (λ held. (length held.a ≡ 0) × (length held.b ≡ 0))) }
     ensures creating { IsCreating S.Site site.old site.new result }
 {
     let tokens = Tokens::new(alloc)?;

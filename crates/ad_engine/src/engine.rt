@@ -1,6 +1,7 @@
 //! A directory, its store, and the tokens of the connections.
 
-ghost use Rattle.std.specs.Prelude.{◌≡◌, ◌⊎◌, ◌↔◌, ◌<◌, ℕ, List, [], true, false, length, IfSome, IfOk, OnOk, IsErr, IsErrOf};
+ghost use Rattle.std.specs.Prelude.{◌≡◌, ◌⊎◌, ◌↔◌, ◌<◌, ℕ, List, [], true, false, length, IfSome, IfOk, OnOk, IsErr};
+ghost use Rattle.std.specs.Prelude.{IsErrOf};
 ghost use Rattle.site_io.specs.Counts.{HasRisen};
 ghost use Rattle.site_io.specs.Outside.{OnlyLooks, TouchesSlots};
 ghost use Rattle.site_io.specs.Told.{StaysTold};
@@ -60,19 +61,25 @@ impl Engine {
     pub fn create<S: Site>(alloc: Global, site: &mut S, dir: Dir) -> Result<Engine, OpenFault>
         requires { IsSound dir }
         ensures dir { IfOk result (λ engine. engine.dir ≡ dir) }
-        ensures stands { IfOk result (λ engine. StandsIn engine (S.reads site.new) (S.now site.new) (S.left site.new)) }
+        ensures stands { IfOk result
+            (λ engine. StandsIn engine (S.reads site.new) (S.now site.new) (S.left site.new)) }
         ensures unspent { IfOk result (λ engine. engine.spent ≡ false) }
         ensures tokens { IfOk result (λ engine. engine.tokens ≡ []) }
         ensures held { OnOk result (IfSome (S.reads site.new) (λ held. IsStoreOf held dir)) }
         ensures every_crash { OnOk result (IfSome (S.reads site.new) (λ held.
-            (images : Images) (out : List ℕ) → S.left site.new (S.now site.new) images out → IsStoreOf images dir)) }
-        ensures empty { OnOk result (IfSome (S.reads site.old) (λ held. (length held.a ≡ 0) × (length held.b ≡ 0))) }
-        ensures taken { IsErrOf result OpenFault.Taken → IfSome (S.reads site.old) (λ held. (0 < length held.a) ⊎ (0 < length held.b)) }
+            (images : Images) (out : List ℕ) → S.left site.new (S.now site.new) images out
+            → IsStoreOf images dir)) }
+        ensures empty { OnOk result
+            (IfSome (S.reads site.old) (λ held. (length held.a ≡ 0) × (length held.b ≡ 0))) }
+        ensures taken { IsErrOf result OpenFault.Taken → IfSome (S.reads site.old)
+            (λ held. (0 < length held.a) ⊎ (0 < length held.b)) }
         ensures unwritten { (IsErrOf result OpenFault.Taken ⊎ IsErrOf result OpenFault.Memory)
-            → StaysTold (S.reads site.old) (S.reads site.new) × LeavesSame (S.now site.old) (S.left site.old) (S.left site.new) }
+            → StaysTold (S.reads site.old) (S.reads site.new) × LeavesSame (S.now site.old)
+            (S.left site.old) (S.left site.new) }
         ensures faults { OnlyTaken result }
         ensures outside { TouchesSlots S.Site site.old site.new }
-        ensures cause { IsErrOf result OpenFault.Site → HasRisen (S.slot_faults site.old) (S.slot_faults site.new) }
+        ensures cause { IsErrOf result OpenFault.Site → HasRisen (S.slot_faults site.old)
+            (S.slot_faults site.new) }
     {
         match made(alloc, site, &dir) {
             Ok((store, tokens)) => Ok(Engine {
@@ -99,12 +106,14 @@ impl Engine {
         ensures opened { IfSome (S.reads site.old) (λ held. IsOpenedAs held result) }
         ensures only { IfSome (S.reads site.old) (λ held. AnswersFor held result) }
         ensures sound { IfOk result (λ engine. IsSound engine.dir) }
-        ensures stands { IfOk result (λ engine. StandsIn engine (S.reads site.new) (S.now site.new) (S.left site.new)) }
+        ensures stands { IfOk result
+            (λ engine. StandsIn engine (S.reads site.new) (S.now site.new) (S.left site.new)) }
         ensures unspent { IfOk result (λ engine. engine.spent ≡ false) }
         ensures tokens { IfOk result (λ engine. engine.tokens ≡ []) }
         ensures never_taken { ¬ IsErrOf result OpenFault.Taken }
         ensures outside { OnlyLooks S.Site site.old site.new }
-        ensures cause { IsErrOf result OpenFault.Site → HasRisen (S.slot_faults site.old) (S.slot_faults site.new) }
+        ensures cause { IsErrOf result OpenFault.Site → HasRisen (S.slot_faults site.old)
+            (S.slot_faults site.new) }
     {
         let tokens = Tokens::new(alloc)?;
         let (store, rows) = Store::resume(alloc, site)?;
@@ -136,7 +145,8 @@ impl Engine {
         ensures marks { self.new.spent ≡ true ↔ IsErr result }
         ensures faults { ¬ IsErrOf result EngineFault.Memory }
         ensures outside { OnlyLooks S.Site site.old site.new }
-        ensures cause { IsErrOf result EngineFault.Site → HasRisen (S.slot_faults site.old) (S.slot_faults site.new) }
+        ensures cause { IsErrOf result EngineFault.Site → HasRisen (S.slot_faults site.old)
+            (S.slot_faults site.new) }
     {
         if self.spent {
             return Err(EngineFault::Spent);
@@ -150,7 +160,8 @@ impl Engine {
     // Syncs the slots of a store that isn't poisoned.
     fn sync_slots<S: Site>(&mut self, site: &mut S) -> Result<(), EngineFault>
         requires { Stands self.old (S.reads site.old) (S.now site.old) (S.left site.old) }
-        ensures stands { OnOk result (Stands self.new (S.reads site.new) (S.now site.new) (S.left site.new)) }
+        ensures stands { OnOk result
+            (Stands self.new (S.reads site.new) (S.now site.new) (S.left site.new)) }
         ensures every_crash { OnOk result (LastsAs S.Site self.old.dir site.old site.new) }
         ensures dir { self.new.dir ≡ self.old.dir }
         ensures tokens { self.new.tokens ≡ self.old.tokens }
@@ -158,7 +169,8 @@ impl Engine {
         ensures faults { IsErrOf result EngineFault.Spent → ⊥ }
         ensures memory { IsErrOf result EngineFault.Memory → ⊥ }
         ensures outside { OnlyLooks S.Site site.old site.new }
-        ensures cause { IsErrOf result EngineFault.Site → HasRisen (S.slot_faults site.old) (S.slot_faults site.new) }
+        ensures cause { IsErrOf result EngineFault.Site → HasRisen (S.slot_faults site.old)
+            (S.slot_faults site.new) }
     {
         Ok(self.store.sync(site)?)
     }

@@ -9,7 +9,8 @@ use std::alloc::{AllocError, Global};
 
 const HEADER: usize = 7;
 
-// Puts a number at the end, in four bytes, the most significant first. Of a number above 2^32 these are the last four.
+// Puts a number at the end, in four bytes, the most significant first. Of a number above 2^32 these are the last
+// four.
 fn put_number(into: &mut Vec<u8>, number: usize) -> Result<(), AllocError>
     ensures { OnOk result (into.new.items ≡ into.old.items ++ be_bytes 4 number) }
 {
@@ -26,8 +27,8 @@ fn put_connection(into: &mut Vec<u8>, connection: u16) -> Result<(), AllocError>
     into.extend_from_slice(&connection.to_be_bytes())
 }
 
-/// The frame that answers one of a connection: a kind of one byte, the connection in two bytes, the length of the body
-/// in four, the most significant first, and the body.
+/// The frame that answers one of a connection: a kind of one byte, the connection in two bytes, the length of the
+/// body in four, the most significant first, and the body.
 ///
 /// # Errors
 ///

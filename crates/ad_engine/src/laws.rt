@@ -10,7 +10,9 @@ use site_io::Site;
 
 /// An emit keeps an engine standing in its site.
 pub fn emit_keeps<S: Site>()
-    ensures { (engine : Engine) (old new : _) (bytes : List ℕ) → StandsIn engine (S.reads old) (S.now old) (S.left old) → StaysTold (S.reads old) (S.reads new)
-        → GoesOn (S.now old) (S.now new) (S.left old) (S.left new) → LeavesEmitted bytes (S.now old) (S.left old) (S.left new)
+    ensures { (engine : Engine) (old new : _) (bytes : List ℕ) → StandsIn engine (S.reads old)
+        (S.now old) (S.left old) → StaysTold (S.reads old) (S.reads new)
+        → GoesOn (S.now old) (S.now new) (S.left old) (S.left new) → LeavesEmitted bytes (S.now old)
+        (S.left old) (S.left new)
         → StandsIn engine (S.reads new) (S.now new) (S.left new) }
 {}

@@ -44,7 +44,9 @@ fn search(
     message: &Message,
     request: &Search,
 ) -> Result<Decided, AllocError>
-    ensures { IfOk result (IsDecided dir.now (replies (searched message.now.id (search_answer dir.now token.now message.now.id (search_seen request.now))
+    ensures { IfOk result (IsDecided dir.now
+        (replies (searched message.now.id
+        (search_answer dir.now token.now message.now.id (search_seen request.now))
         (settings_of (message_seen message.now))))) }
 {
     match settings(message) {
@@ -63,7 +65,9 @@ fn comparison(
     message: &Message,
     request: &Compare,
 ) -> Result<Decided, AllocError>
-    ensures { IfOk result (IsDecided dir.now (replies (compared message.now.id (compare_answer dir.now token.now message.now.id request.now)
+    ensures { IfOk result (IsDecided dir.now
+        (replies (compared message.now.id
+        (compare_answer dir.now token.now message.now.id request.now)
         (settings_of (message_seen message.now))))) }
 {
     match settings(message) {
@@ -84,7 +88,8 @@ fn operation(
 ) -> Result<Decided, AllocError>
     requires sound { IsSound dir.now }
     requires ranges { HasOpRanges (op_seen message.now.op) }
-    ensures { IfOk result (IsDecided dir.now (op_decided dir.now token.now (message_seen message.now) (op_seen message.now.op))) }
+    ensures { IfOk result (IsDecided dir.now
+        (op_decided dir.now token.now (message_seen message.now) (op_seen message.now.op))) }
 {
     match &message.op {
         Op::Bind => refused(alloc, message.id, BIND_RESPONSE, 7),
@@ -102,9 +107,9 @@ fn operation(
 
 /// What the bytes of a message are answered, by the token of their connection, on a sound directory: the messages of
 /// the reply, joined, and the edits that make the change. A change that is refused has no edits, and so has one that
-/// leaves the directory as it was, and every other request. Bytes that encode no message are answered by the Notice of
-/// Disconnection (RFC 4511 4.4.1), a bind by 7 and an extended request by 2, an unbind and an abandon by nothing. An
-/// unbind drops the connection's token.
+/// leaves the directory as it was, and every other request. Bytes that encode no message are answered by the Notice
+/// of Disconnection (RFC 4511 4.4.1), a bind by 7 and an extended request by 2, an unbind and an abandon by nothing.
+/// An unbind drops the connection's token.
 ///
 /// # Errors
 ///

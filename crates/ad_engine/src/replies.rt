@@ -25,7 +25,8 @@ pub(crate) fn replying(alloc: Global, bytes: Vec<u8>) -> Decided
 
 /// No reply, and the connection's token is dropped.
 pub(crate) fn dropping(alloc: Global) -> Decided
-    ensures { (dir : Directory) → IsDecided dir (record { reply = []; change = None; drops = true }) result }
+    ensures { (dir : Directory) → IsDecided dir (record { reply = []; change = None; drops = true })
+        result }
 {
     Decided {
         reply: Bytes::new(alloc),
@@ -57,7 +58,8 @@ pub(crate) fn done(
 
 /// A result without a name and without a text, and nothing else.
 pub(crate) fn refused(alloc: Global, id: u32, tag: u8, code: u8) -> Result<Decided, AllocError>
-    ensures { IfOk result (λ decided. (dir : Directory) → IsDecided dir (replies (done id tag code [] [])) decided) }
+    ensures { IfOk result (λ decided. (dir : Directory)
+        → IsDecided dir (replies (done id tag code [] [])) decided) }
 {
     let bytes = done(alloc, id, tag, code, Vec::new(alloc), Vec::new(alloc))?;
     Ok(replying(alloc, bytes))
@@ -65,7 +67,8 @@ pub(crate) fn refused(alloc: Global, id: u32, tag: u8, code: u8) -> Result<Decid
 
 /// The Notice of Disconnection, and nothing else.
 pub(crate) fn notice(alloc: Global) -> Result<Decided, AllocError>
-    ensures { IfOk result (λ decided. (dir : Directory) → IsDecided dir (replies (reply_bytes NoticeReply)) decided) }
+    ensures { IfOk result (λ decided. (dir : Directory)
+        → IsDecided dir (replies (reply_bytes NoticeReply)) decided) }
 {
     let bytes = write_reply(alloc, &Reply::Notice)?;
     Ok(replying(alloc, bytes))

@@ -12,8 +12,8 @@ use ad_dir_model::a_protection_run_keeps_a_directory_sound;
 use ad_protect::run_edits;
 use std::alloc::{AllocError, Global};
 
-/// What a protection run of a sound directory is answered: how many objects it changes and how many are protected, and
-/// the edits that make it. Where the directory is to be as it was there is no edit.
+/// What a protection run of a sound directory is answered: how many objects it changes and how many are protected,
+/// and the edits that make it. Where the directory is to be as it was there is no edit.
 ///
 /// # Errors
 ///

@@ -56,16 +56,20 @@ impl Engine {
         requires stands { Stands self.old (S.reads site.old) (S.now site.old) (S.left site.old) }
         requires edits { MayKeep edits self.old.dir }
         ensures directory { OnOk result (self.new.dir ≡ made_by edits self.old.dir) }
-        ensures stands { OnOk result (Stands self.new (S.reads site.new) (S.now site.new) (S.left site.new)) }
+        ensures stands { OnOk result
+            (Stands self.new (S.reads site.new) (S.now site.new) (S.left site.new)) }
         ensures every_crash { OnOk result (LastsAs S.Site self.new.dir site.old site.new) }
         ensures any_moment { LeavesOldOrNew self.old.dir (made_by edits self.old.dir)
-            (S.reads site.old) (S.now site.old) (S.now site.new) (S.left site.old) (S.left site.new) }
-        ensures bound { OnOk result (HasRoom self.old.store.log → IsBounded self.new.store (S.reads site.new)) }
+            (S.reads site.old) (S.now site.old) (S.now site.new) (S.left site.old)
+            (S.left site.new) }
+        ensures bound { OnOk result
+            (HasRoom self.old.store.log → IsBounded self.new.store (S.reads site.new)) }
         ensures tokens { self.new.tokens ≡ self.old.tokens }
         ensures unspent { self.new.spent ≡ self.old.spent }
         ensures faults { IsErrOf result EngineFault.Spent → ⊥ }
         ensures outside { TouchesSlots S.Site site.old site.new }
-        ensures cause { IsErrOf result EngineFault.Site → HasRisen (S.slot_faults site.old) (S.slot_faults site.new) }
+        ensures cause { IsErrOf result EngineFault.Site → HasRisen (S.slot_faults site.old)
+            (S.slot_faults site.new) }
     {
         let mut batch = Batch::new(self.alloc);
         make_all(&mut self.dir, &mut batch, edits.into_vec())?;
@@ -80,17 +84,22 @@ impl Engine {
         requires stands { Stands self.old (S.reads site.old) (S.now site.old) (S.left site.old) }
         requires edits { MayKeep edits self.old.dir }
         ensures directory { OnOk result (self.new.dir ≡ made_by edits self.old.dir) }
-        ensures stands { OnOk result (Stands self.new (S.reads site.new) (S.now site.new) (S.left site.new)) }
-        ensures every_crash { OnOk result (LastsOn S.Site self.old.dir self.new.dir site.old site.new) }
+        ensures stands { OnOk result
+            (Stands self.new (S.reads site.new) (S.now site.new) (S.left site.new)) }
+        ensures every_crash { OnOk result
+            (LastsOn S.Site self.old.dir self.new.dir site.old site.new) }
         ensures any_moment { LeavesOldOrNew self.old.dir (made_by edits self.old.dir)
-            (S.reads site.old) (S.now site.old) (S.now site.new) (S.left site.old) (S.left site.new) }
-        ensures bound { OnOk result ((edits ≡ [] → ⊥) → IsBounded self.new.store (S.reads site.new)) }
+            (S.reads site.old) (S.now site.old) (S.now site.new) (S.left site.old)
+            (S.left site.new) }
+        ensures bound { OnOk result
+            ((edits ≡ [] → ⊥) → IsBounded self.new.store (S.reads site.new)) }
         ensures untouched { edits ≡ [] → site.new ≡ site.old }
         ensures tokens { self.new.tokens ≡ self.old.tokens }
         ensures unspent { self.new.spent ≡ self.old.spent }
         ensures faults { IsErrOf result EngineFault.Spent → ⊥ }
         ensures outside { TouchesSlots S.Site site.old site.new }
-        ensures cause { IsErrOf result EngineFault.Site → HasRisen (S.slot_faults site.old) (S.slot_faults site.new) }
+        ensures cause { IsErrOf result EngineFault.Site → HasRisen (S.slot_faults site.old)
+            (S.slot_faults site.new) }
     {
         if edits.is_empty() {
             return Ok(());
@@ -102,7 +111,8 @@ impl Engine {
     // A token of a connection.
     fn serve_token(&mut self, connection: u16, token: &Token) -> Result<Vec<u8>, AllocError>
         ensures output { IfOk result (λ output. output.items ≡ token_output connection) }
-        ensures tokens { OnOk result (self.new.tokens ≡ with_token connection token.now self.old.tokens) }
+        ensures tokens { OnOk result
+            (self.new.tokens ≡ with_token connection token.now self.old.tokens) }
         ensures dir { self.new.dir ≡ self.old.dir }
         ensures store { self.new.store ≡ self.old.store }
         ensures unspent { self.new.spent ≡ self.old.spent }
@@ -121,8 +131,12 @@ impl Engine {
         bytes: &[u8],
     ) -> Result<Vec<u8>, EngineFault>
         requires { Stands self.old (S.reads site.old) (S.now site.old) (S.left site.old) }
-        ensures output { IfOk result (λ output. output.items ≡ (message_answered self.old.dir self.old.tokens connection bytes.now).output) }
-        ensures serves { Serves S.Site (message_answered self.old.dir self.old.tokens connection bytes.now) self.old self.new site.old site.new result }
+        ensures output { IfOk result
+            (λ output. output.items
+            ≡ (message_answered self.old.dir self.old.tokens connection bytes.now).output) }
+        ensures serves { Serves S.Site
+            (message_answered self.old.dir self.old.tokens connection bytes.now) self.old self.new
+            site.old site.new result }
     {
         let token = self.tokens.token(connection);
         let decided = message_answer(self.alloc, &self.dir, token, bytes)?;
@@ -146,8 +160,11 @@ impl Engine {
         n: u32,
     ) -> Result<Vec<u8>, EngineFault>
         requires { Stands self.old (S.reads site.old) (S.now site.old) (S.left site.old) }
-        ensures output { IfOk result (λ output. output.items ≡ (steps_answered self.old.dir self.old.tokens connection n).output) }
-        ensures serves { Serves S.Site (steps_answered self.old.dir self.old.tokens connection n) self.old self.new site.old site.new result }
+        ensures output { IfOk result
+            (λ output. output.items
+            ≡ (steps_answered self.old.dir self.old.tokens connection n).output) }
+        ensures serves { Serves S.Site (steps_answered self.old.dir self.old.tokens connection n)
+            self.old self.new site.old site.new result }
     {
         let made = self.settle_some(site, n)?;
         let body = counts(self.alloc, made as usize, self.dir.queue().len())?;
@@ -157,8 +174,12 @@ impl Engine {
     // A protection run.
     fn serve_run<S: Site>(&mut self, site: &mut S, connection: u16) -> Result<Vec<u8>, EngineFault>
         requires { Stands self.old (S.reads site.old) (S.now site.old) (S.left site.old) }
-        ensures output { IfOk result (λ output. output.items ≡ (ran self.old.tokens connection (protection_run self.old.dir)).output) }
-        ensures serves { Serves S.Site (ran self.old.tokens connection (protection_run self.old.dir)) self.old self.new site.old site.new result }
+        ensures output { IfOk result
+            (λ output. output.items
+            ≡ (ran self.old.tokens connection (protection_run self.old.dir)).output) }
+        ensures serves { Serves S.Site
+            (ran self.old.tokens connection (protection_run self.old.dir)) self.old self.new
+            site.old site.new result }
     {
         let decided = run_answer(self.alloc, &self.dir)?;
         let output = output(self.alloc, RUN_OUTPUT, connection, decided.reply.as_slice())?;
@@ -174,8 +195,12 @@ impl Engine {
         body: &FrameBody,
     ) -> Result<Vec<u8>, EngineFault>
         requires { Stands self.old (S.reads site.old) (S.now site.old) (S.left site.old) }
-        ensures output { IfOk result (λ output. output.items ≡ (body_answered self.old.dir self.old.tokens connection body.now).output) }
-        ensures serves { Serves S.Site (body_answered self.old.dir self.old.tokens connection body.now) self.old self.new site.old site.new result }
+        ensures output { IfOk result
+            (λ output. output.items
+            ≡ (body_answered self.old.dir self.old.tokens connection body.now).output) }
+        ensures serves { Serves S.Site
+            (body_answered self.old.dir self.old.tokens connection body.now) self.old self.new
+            site.old site.new result }
     {
         match body {
             FrameBody::Token(token) => Ok(self.serve_token(connection, token)?),
@@ -207,25 +232,34 @@ impl Engine {
     ) -> Result<Vec<u8>, EngineFault>
         requires { StandsIn self.old (S.reads site.old) (S.now site.old) (S.left site.old) }
         // The output, the directory and the tokens are those that the rules give.
-        ensures output { IfOk result (λ output. output.items ≡ (answer self.old.dir self.old.tokens frame.now).output) }
-        ensures directory { OnOk result (self.new.dir ≡ (answer self.old.dir self.old.tokens frame.now).directory) }
-        ensures tokens { OnOk result (self.new.tokens ≡ (answer self.old.dir self.old.tokens frame.now).tokens) }
+        ensures output { IfOk result
+            (λ output. output.items ≡ (answer self.old.dir self.old.tokens frame.now).output) }
+        ensures directory { OnOk result
+            (self.new.dir ≡ (answer self.old.dir self.old.tokens frame.now).directory) }
+        ensures tokens { OnOk result
+            (self.new.tokens ≡ (answer self.old.dir self.old.tokens frame.now).tokens) }
         // The store holds the new directory, and each crash from then on leaves it, if each crash left the old one
         // before.
         ensures stands { StandsIn self.new (S.reads site.new) (S.now site.new) (S.left site.new) }
-        ensures every_crash { OnOk result (LastsOn S.Site self.old.dir self.new.dir site.old site.new) }
+        ensures every_crash { OnOk result
+            (LastsOn S.Site self.old.dir self.new.dir site.old site.new) }
         // Whatever is answered, a crash in the meantime leaves what it could leave before, or a store of the old
         // directory or the new one.
-        ensures any_moment { LeavesOldOrNew self.old.dir (answer self.old.dir self.old.tokens frame.now).directory
-            (S.reads site.old) (S.now site.old) (S.now site.new) (S.left site.old) (S.left site.new) }
-        ensures untouched { (answer self.old.dir self.old.tokens frame.now).directory ≡ self.old.dir → site.new ≡ site.old }
+        ensures any_moment { LeavesOldOrNew self.old.dir
+            (answer self.old.dir self.old.tokens frame.now).directory
+            (S.reads site.old) (S.now site.old) (S.now site.new) (S.left site.old)
+            (S.left site.new) }
+        ensures untouched { (answer self.old.dir self.old.tokens frame.now).directory ≡ self.old.dir
+            → site.new ≡ site.old }
         // After a commit the journal is no longer than it may be.
-        ensures bound { OnOk result (((answer self.old.dir self.old.tokens frame.now).directory ≡ self.old.dir → ⊥)
+        ensures bound { OnOk result
+            (((answer self.old.dir self.old.tokens frame.now).directory ≡ self.old.dir → ⊥)
             → IsBounded self.new.store (S.reads site.new)) }
         ensures spent { IsErrOf result EngineFault.Spent ↔ self.old.spent ≡ true }
         ensures marks { self.new.spent ≡ true ↔ IsErr result }
         ensures outside { TouchesSlots S.Site site.old site.new }
-        ensures cause { IsErrOf result EngineFault.Site → HasRisen (S.slot_faults site.old) (S.slot_faults site.new) }
+        ensures cause { IsErrOf result EngineFault.Site → HasRisen (S.slot_faults site.old)
+            (S.slot_faults site.new) }
     {
         if self.spent {
             return Err(EngineFault::Spent);

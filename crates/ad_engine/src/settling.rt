@@ -40,21 +40,27 @@ impl Engine {
     // made the site isn't touched.
     fn commit_steps<S: Site>(&mut self, site: &mut S, most: u32) -> Result<u32, EngineFault>
         requires { Stands self.old (S.reads site.old) (S.now site.old) (S.left site.old) }
-        ensures stands { OnOk result (Stands self.new (S.reads site.new) (S.now site.new) (S.left site.new)) }
+        ensures stands { OnOk result
+            (Stands self.new (S.reads site.new) (S.now site.new) (S.left site.new)) }
         ensures steps { IfOk result (λ n. AreSteps n self.old.dir self.new.dir) }
         ensures made { IfOk result (λ n. n ≡ steps_made most self.old.dir) }
         ensures end { OnOk result (self.new.dir ≡ steps most self.old.dir) }
         ensures empty { IfOk result (λ n. n < most → self.new.dir.pending ≡ []) }
         ensures untouched { steps_made most self.old.dir ≡ 0 → site.new ≡ site.old }
-        ensures every_crash { IfOk result (λ n. 0 < n → LastsAs S.Site self.new.dir site.old site.new) }
+        ensures every_crash { IfOk result
+            (λ n. 0 < n → LastsAs S.Site self.new.dir site.old site.new) }
         ensures any_moment { LeavesOldOrNew self.old.dir (steps most self.old.dir)
-            (S.reads site.old) (S.now site.old) (S.now site.new) (S.left site.old) (S.left site.new) }
-        ensures bound { IfOk result (λ n. 0 < n → HasRoom self.old.store.log → IsBounded self.new.store (S.reads site.new)) }
+            (S.reads site.old) (S.now site.old) (S.now site.new) (S.left site.old)
+            (S.left site.new) }
+        ensures bound { IfOk result
+            (λ n. 0 < n → HasRoom self.old.store.log → IsBounded self.new.store
+            (S.reads site.new)) }
         ensures tokens { self.new.tokens ≡ self.old.tokens }
         ensures unspent { self.new.spent ≡ self.old.spent }
         ensures faults { IsErrOf result EngineFault.Spent → ⊥ }
         ensures outside { TouchesSlots S.Site site.old site.new }
-        ensures cause { IsErrOf result EngineFault.Site → HasRisen (S.slot_faults site.old) (S.slot_faults site.new) }
+        ensures cause { IsErrOf result EngineFault.Site → HasRisen (S.slot_faults site.old)
+            (S.slot_faults site.new) }
     {
         let mut batch = Batch::new(self.alloc);
         let n = make_steps(self.alloc, &mut self.dir, &mut batch, most)?;
@@ -74,22 +80,26 @@ impl Engine {
         most: u32,
     ) -> Result<u32, EngineFault>
         requires { Stands self.old (S.reads site.old) (S.now site.old) (S.left site.old) }
-        ensures stands { OnOk result (Stands self.new (S.reads site.new) (S.now site.new) (S.left site.new)) }
+        ensures stands { OnOk result
+            (Stands self.new (S.reads site.new) (S.now site.new) (S.left site.new)) }
         ensures steps { IfOk result (λ n. AreSteps n self.old.dir self.new.dir) }
         ensures made { IfOk result (λ n. n ≡ steps_made most self.old.dir) }
         ensures end { OnOk result (self.new.dir ≡ steps most self.old.dir) }
         ensures empty { IfOk result (λ n. n < most → self.new.dir.pending ≡ []) }
         ensures untouched { steps_made most self.old.dir ≡ 0 → site.new ≡ site.old }
-        ensures every_crash { IfOk result (λ n. 0 < n → LastsAs S.Site self.new.dir site.old site.new) }
+        ensures every_crash { IfOk result
+            (λ n. 0 < n → LastsAs S.Site self.new.dir site.old site.new) }
         ensures any_moment { LeavesOldOrNew self.old.dir (steps most self.old.dir)
-            (S.reads site.old) (S.now site.old) (S.now site.new) (S.left site.old) (S.left site.new) }
+            (S.reads site.old) (S.now site.old) (S.now site.new) (S.left site.old)
+            (S.left site.new) }
         ensures still { IfOk result (λ n. n ≡ 0 → self.new.store ≡ self.old.store) }
         ensures bound { IfOk result (λ n. 0 < n → IsBounded self.new.store (S.reads site.new)) }
         ensures tokens { self.new.tokens ≡ self.old.tokens }
         ensures unspent { self.new.spent ≡ self.old.spent }
         ensures faults { IsErrOf result EngineFault.Spent → ⊥ }
         ensures outside { TouchesSlots S.Site site.old site.new }
-        ensures cause { IsErrOf result EngineFault.Site → HasRisen (S.slot_faults site.old) (S.slot_faults site.new) }
+        ensures cause { IsErrOf result EngineFault.Site → HasRisen (S.slot_faults site.old)
+            (S.slot_faults site.new) }
     {
         if !is_due(&self.dir, most) {
             return Ok(0);
@@ -101,18 +111,22 @@ impl Engine {
     // Steps until nothing is pending.
     fn settle_all<S: Site>(&mut self, site: &mut S) -> Result<u64, EngineFault>
         requires { Stands self.old (S.reads site.old) (S.now site.old) (S.left site.old) }
-        ensures stands { OnOk result (Stands self.new (S.reads site.new) (S.now site.new) (S.left site.new)) }
+        ensures stands { OnOk result
+            (Stands self.new (S.reads site.new) (S.now site.new) (S.left site.new)) }
         ensures steps { IfOk result (λ n. AreSteps n self.old.dir self.new.dir) }
         ensures empty { OnOk result (self.new.dir.pending ≡ []) }
-        ensures every_crash { IfOk result (λ n. 0 < n → LastsAs S.Site self.new.dir site.old site.new) }
+        ensures every_crash { IfOk result
+            (λ n. 0 < n → LastsAs S.Site self.new.dir site.old site.new) }
         ensures bound { IfOk result (λ n. 0 < n → IsBounded self.new.store (S.reads site.new)) }
         ensures none { IfOk result (λ n. n ≡ 0 → site.new ≡ site.old) }
-        ensures any_moment { LeavesSteps self.old.dir (S.reads site.old) (S.now site.old) (S.now site.new) (S.left site.old) (S.left site.new) }
+        ensures any_moment { LeavesSteps self.old.dir (S.reads site.old) (S.now site.old)
+            (S.now site.new) (S.left site.old) (S.left site.new) }
         ensures tokens { self.new.tokens ≡ self.old.tokens }
         ensures unspent { self.new.spent ≡ self.old.spent }
         ensures faults { IsErrOf result EngineFault.Spent → ⊥ }
         ensures outside { TouchesSlots S.Site site.old site.new }
-        ensures cause { IsErrOf result EngineFault.Site → HasRisen (S.slot_faults site.old) (S.slot_faults site.new) }
+        ensures cause { IsErrOf result EngineFault.Site → HasRisen (S.slot_faults site.old)
+            (S.slot_faults site.new) }
     {
         let mut total = 0;
         loop {
@@ -136,17 +150,21 @@ impl Engine {
     /// store is to be opened again, and represents the directory after some number of steps.
     pub fn settle<S: Site>(&mut self, site: &mut S) -> Result<u64, EngineFault>
         requires { StandsIn self.old (S.reads site.old) (S.now site.old) (S.left site.old) }
-        ensures settled { IfOk result (λ n. EmptiesAfter n self.old.dir × (self.new.dir ≡ steps n self.old.dir)) }
+        ensures settled { IfOk result
+            (λ n. EmptiesAfter n self.old.dir × (self.new.dir ≡ steps n self.old.dir)) }
         ensures stands { StandsIn self.new (S.reads site.new) (S.now site.new) (S.left site.new) }
-        ensures every_crash { IfOk result (λ n. 0 < n → LastsAs S.Site self.new.dir site.old site.new) }
+        ensures every_crash { IfOk result
+            (λ n. 0 < n → LastsAs S.Site self.new.dir site.old site.new) }
         ensures bound { IfOk result (λ n. 0 < n → IsBounded self.new.store (S.reads site.new)) }
         ensures none { IfOk result (λ n. n ≡ 0 → site.new ≡ site.old) }
-        ensures any_moment { LeavesSteps self.old.dir (S.reads site.old) (S.now site.old) (S.now site.new) (S.left site.old) (S.left site.new) }
+        ensures any_moment { LeavesSteps self.old.dir (S.reads site.old) (S.now site.old)
+            (S.now site.new) (S.left site.old) (S.left site.new) }
         ensures tokens { self.new.tokens ≡ self.old.tokens }
         ensures spent { IsErrOf result EngineFault.Spent ↔ self.old.spent ≡ true }
         ensures marks { self.new.spent ≡ true ↔ IsErr result }
         ensures outside { TouchesSlots S.Site site.old site.new }
-        ensures cause { IsErrOf result EngineFault.Site → HasRisen (S.slot_faults site.old) (S.slot_faults site.new) }
+        ensures cause { IsErrOf result EngineFault.Site → HasRisen (S.slot_faults site.old)
+            (S.slot_faults site.new) }
     {
         if self.spent {
             return Err(EngineFault::Spent);

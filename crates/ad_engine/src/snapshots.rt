@@ -29,9 +29,11 @@ impl Engine {
     fn rewrite<S: Site>(&mut self, site: &mut S) -> Result<(), EngineFault>
         requires stands { Stands self.old (S.reads site.old) (S.now site.old) (S.left site.old) }
         requires below { self.old.store.log.generation + 1 < 2 ^ 64 }
-        ensures stands { OnOk result (Stands self.new (S.reads site.new) (S.now site.new) (S.left site.new)) }
+        ensures stands { OnOk result
+            (Stands self.new (S.reads site.new) (S.now site.new) (S.left site.new)) }
         ensures every_crash { OnOk result (LastsAs S.Site self.old.dir site.old site.new) }
-        ensures any_moment { LeavesDir self.old.dir (S.reads site.old) (S.now site.old) (S.now site.new) (S.left site.old) (S.left site.new) }
+        ensures any_moment { LeavesDir self.old.dir (S.reads site.old) (S.now site.old)
+            (S.now site.new) (S.left site.old) (S.left site.new) }
         ensures room { OnOk result (self.new.store.log.behind ≡ 0) }
         ensures version { OnOk result (self.new.store.log.version ≡ Two) }
         ensures dir { self.new.dir ≡ self.old.dir }
@@ -39,7 +41,8 @@ impl Engine {
         ensures unspent { self.new.spent ≡ self.old.spent }
         ensures faults { IsErrOf result EngineFault.Spent → ⊥ }
         ensures outside { TouchesSlots S.Site site.old site.new }
-        ensures cause { IsErrOf result EngineFault.Site → HasRisen (S.slot_faults site.old) (S.slot_faults site.new) }
+        ensures cause { IsErrOf result EngineFault.Site → HasRisen (S.slot_faults site.old)
+            (S.slot_faults site.new) }
     {
         let rows = write_rows(self.alloc, &self.dir)?;
         self.store.snapshot_of(site, rows)?;
@@ -49,15 +52,18 @@ impl Engine {
     // Takes a snapshot where the store wants one, before the first edit of a commit is made.
     pub(crate) fn make_room<S: Site>(&mut self, site: &mut S) -> Result<(), EngineFault>
         requires { Stands self.old (S.reads site.old) (S.now site.old) (S.left site.old) }
-        ensures stands { OnOk result (Stands self.new (S.reads site.new) (S.now site.new) (S.left site.new)) }
-        ensures any_moment { LeavesDir self.old.dir (S.reads site.old) (S.now site.old) (S.now site.new) (S.left site.old) (S.left site.new) }
+        ensures stands { OnOk result
+            (Stands self.new (S.reads site.new) (S.now site.new) (S.left site.new)) }
+        ensures any_moment { LeavesDir self.old.dir (S.reads site.old) (S.now site.old)
+            (S.now site.new) (S.left site.old) (S.left site.new) }
         ensures room { OnOk result (HasRoom self.new.store.log) }
         ensures dir { self.new.dir ≡ self.old.dir }
         ensures tokens { self.new.tokens ≡ self.old.tokens }
         ensures unspent { self.new.spent ≡ self.old.spent }
         ensures faults { IsErrOf result EngineFault.Spent → ⊥ }
         ensures outside { TouchesSlots S.Site site.old site.new }
-        ensures cause { IsErrOf result EngineFault.Site → HasRisen (S.slot_faults site.old) (S.slot_faults site.new) }
+        ensures cause { IsErrOf result EngineFault.Site → HasRisen (S.slot_faults site.old)
+            (S.slot_faults site.new) }
     {
         if self.store.wants_snapshot() {
             return self.rewrite(site);
@@ -68,9 +74,12 @@ impl Engine {
     // Makes a store of version 1 one of version 2.
     fn migrate_slots<S: Site>(&mut self, site: &mut S) -> Result<(), EngineFault>
         requires { Stands self.old (S.reads site.old) (S.now site.old) (S.left site.old) }
-        ensures stands { OnOk result (Stands self.new (S.reads site.new) (S.now site.new) (S.left site.new)) }
-        ensures every_crash { OnOk result (LastsOn S.Site self.old.dir self.old.dir site.old site.new) }
-        ensures any_moment { LeavesDir self.old.dir (S.reads site.old) (S.now site.old) (S.now site.new) (S.left site.old) (S.left site.new) }
+        ensures stands { OnOk result
+            (Stands self.new (S.reads site.new) (S.now site.new) (S.left site.new)) }
+        ensures every_crash { OnOk result
+            (LastsOn S.Site self.old.dir self.old.dir site.old site.new) }
+        ensures any_moment { LeavesDir self.old.dir (S.reads site.old) (S.now site.old)
+            (S.now site.new) (S.left site.old) (S.left site.new) }
         ensures version { OnOk result (self.new.store.log.version ≡ Two) }
         ensures untouched { self.old.store.log.version ≡ Two → site.new ≡ site.old }
         ensures dir { self.new.dir ≡ self.old.dir }
@@ -78,7 +87,8 @@ impl Engine {
         ensures unspent { self.new.spent ≡ self.old.spent }
         ensures faults { IsErrOf result EngineFault.Spent → ⊥ }
         ensures outside { TouchesSlots S.Site site.old site.new }
-        ensures cause { IsErrOf result EngineFault.Site → HasRisen (S.slot_faults site.old) (S.slot_faults site.new) }
+        ensures cause { IsErrOf result EngineFault.Site → HasRisen (S.slot_faults site.old)
+            (S.slot_faults site.new) }
     {
         if self.store.log().version() == 2 {
             return Ok(());
@@ -87,8 +97,8 @@ impl Engine {
     }
 
     /// Makes a store of version 1 one of version 2, by a snapshot in slot B, after which slot A is closed. A store of
-    /// version 2 isn't touched. At each moment a crash leaves what it could leave as the call began, or a store of the
-    /// directory. The tokens stay as they are.
+    /// version 2 isn't touched. At each moment a crash leaves what it could leave as the call began, or a store of
+    /// the directory. The tokens stay as they are.
     ///
     /// # Errors
     ///
@@ -98,18 +108,22 @@ impl Engine {
     pub fn migrate<S: Site>(&mut self, site: &mut S) -> Result<(), EngineFault>
         requires { StandsIn self.old (S.reads site.old) (S.now site.old) (S.left site.old) }
         ensures stands { StandsIn self.new (S.reads site.new) (S.now site.new) (S.left site.new) }
-        ensures every_crash { OnOk result (LastsOn S.Site self.old.dir self.old.dir site.old site.new) }
-        ensures any_moment { LeavesDir self.old.dir (S.reads site.old) (S.now site.old) (S.now site.new) (S.left site.old) (S.left site.new) }
+        ensures every_crash { OnOk result
+            (LastsOn S.Site self.old.dir self.old.dir site.old site.new) }
+        ensures any_moment { LeavesDir self.old.dir (S.reads site.old) (S.now site.old)
+            (S.now site.new) (S.left site.old) (S.left site.new) }
         ensures version { OnOk result (self.new.store.log.version ≡ Two) }
         // a store of version 2, by what it says of itself and by what its slots hold
         ensures done { self.old.store.log.version ≡ Two → site.new ≡ site.old }
-        ensures untouched { IfSome (S.reads site.old) (λ held. (IsOne held.a → ⊥) → site.new ≡ site.old) }
+        ensures untouched { IfSome (S.reads site.old)
+            (λ held. (IsOne held.a → ⊥) → site.new ≡ site.old) }
         ensures dir { self.new.dir ≡ self.old.dir }
         ensures tokens { self.new.tokens ≡ self.old.tokens }
         ensures spent { IsErrOf result EngineFault.Spent ↔ self.old.spent ≡ true }
         ensures marks { self.new.spent ≡ true ↔ IsErr result }
         ensures outside { TouchesSlots S.Site site.old site.new }
-        ensures cause { IsErrOf result EngineFault.Site → HasRisen (S.slot_faults site.old) (S.slot_faults site.new) }
+        ensures cause { IsErrOf result EngineFault.Site → HasRisen (S.slot_faults site.old)
+            (S.slot_faults site.new) }
     {
         if self.spent {
             return Err(EngineFault::Spent);

@@ -27,7 +27,8 @@ pub(crate) fn make_all(dir: &mut Dir, batch: &mut Batch, edits: Vec<Edit>) -> Re
     Ok(())
 }
 
-// Makes at most so many steps over a pending list that is kept beside the directory, and notes the rows of the objects.
+// Makes at most so many steps over a pending list that is kept beside the directory, and notes the rows of the
+// objects.
 fn make_beside(
     alloc: Global,
     dir: &mut Dir,
@@ -36,7 +37,8 @@ fn make_beside(
     most: u32,
 ) -> Result<u32, AllocError>
     requires { IsSound (with_pending queue.old dir.old) }
-    ensures steps { IfOk result (λ n. MakesBeside n queue.old queue.new dir.old dir.new batch.old batch.new) }
+    ensures steps { IfOk result (λ n. MakesBeside n queue.old queue.new dir.old dir.new batch.old
+        batch.new) }
     ensures most { IfOk result (λ n. n ≤ most) }
     ensures empty { IfOk result (λ n. n < most → queue.new ≡ []) }
 {

@@ -1,14 +1,15 @@
 //! The tokens of connections.
 
-ghost use Rattle.std.specs.Prelude.{◌≡◌, ◌+◌, ◌-◌, ◌<◌, ◌++◌, length, replicate, slice_get, unwrap_or, None, [], IfOk, OnOk};
+ghost use Rattle.std.specs.Prelude.{◌≡◌, ◌+◌, ◌-◌, ◌<◌, ◌++◌, length, replicate, slice_get, unwrap_or, None, []};
+ghost use Rattle.std.specs.Prelude.{IfOk, OnOk};
 ghost use Rattle.ad_engine.specs.Tokens.{anonymous_token, token_of, with_token, without_token};
 
 use ad_ids::{Sid, Sids, Token};
 use std::alloc::{AllocError, Global};
 use std::marker::Model;
 
-/// The token of each connection. Contracts see it as a list of tokens from connection 0 on, with none for a connection
-/// without one.
+/// The token of each connection. Contracts see it as a list of tokens from connection 0 on, with none for a
+/// connection without one.
 pub struct Tokens {
     items: Vec<Option<Token>>,
     // That of a connection without one.
@@ -68,7 +69,8 @@ fn token_or<'a>(items: &'a [Option<Token>], place: usize, other: &'a Token) -> &
 
 // Puts none at the end until there are so many.
 fn pad(items: &mut Vec<Option<Token>>, len: usize) -> Result<(), AllocError>
-    ensures { OnOk result (items.new.items ≡ items.old.items ++ replicate (len - length items.old.items) None) }
+    ensures { OnOk result (items.new.items ≡ items.old.items
+        ++ replicate (len - length items.old.items) None) }
 {
     let missing = len.saturating_sub(items.len());
     for done in 0..missing {

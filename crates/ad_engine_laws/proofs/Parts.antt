@@ -6,7 +6,8 @@ use Rattle.ad_ber.specs.declared.finding.Tagged.{Tagged as Element}
 use Rattle.ad_ber.specs.Element.{SpellsElement}
 use Rattle.ad_ldap.specs.declared.items.Item.{Item}
 use Rattle.ad_ldap.specs.Elements.{Tagged, SpellsOctets}
-use Rattle.ad_ldap.specs.MessageValue.{OpValue, Bind, Unbind, SearchOf, ModifyOf, AddOf, DeleteOf, RenameOf, CompareOf, Abandon, Extended, MessageValue}
+use Rattle.ad_ldap.specs.MessageValue.{OpValue, Bind, Unbind, SearchOf, ModifyOf, AddOf, DeleteOf, RenameOf}
+use Rattle.ad_ldap.specs.MessageValue.{CompareOf, Abandon, Extended, MessageValue}
 use Rattle.ad_ldap.specs.MessageReading.{message_of}
 use Rattle.ad_ldap.specs.Requests.{SpellsItem, SpellsNew, SpellsOp}
 use Rattle.ad_ldap.specs.Messages.{SpellsMessage}
@@ -18,17 +19,21 @@ body_of : (e : Element) (text : List ℕ) → SpellsElement e text → IsBytes t
 body_of e text s fits =
     let t = s.text_is in
     let u = t.follows in
-    subst IsBytes u.follows.1 (behind_of t.behind u.front u.behind u.parts (behind_of text t.front t.behind t.parts fits))
+    subst IsBytes u.follows.1 (behind_of t.behind u.front u.behind u.parts
+    (behind_of text t.front t.behind t.parts fits))
 
-inside_of : (tag : ℕ) (Body : List ℕ → Type 0) (text : List ℕ) (t : Tagged tag Body text) → IsBytes text → IsBytes t.body
+inside_of : (tag : ℕ) (Body : List ℕ → Type 0) (text : List ℕ) (t : Tagged tag Body text) → IsBytes text
+    → IsBytes t.body
 inside_of tag Body text t fits = body_of (record { tag = tag; body = t.body }) text t.element fits
 
 -- ---- values
 
-values_of : (values : List (List ℕ)) (text : List ℕ) → SpellsEach (SpellsOctets 4) values text → IsBytes text → AllByRecursion IsBytes values
+values_of : (values : List (List ℕ)) (text : List ℕ) → SpellsEach (SpellsOctets 4) values text → IsBytes text
+    → AllByRecursion IsBytes values
 values_of [] text s fits = tt
 values_of (value ∷ values) text s fits = (
-  subst IsBytes s.spelled.inside (inside_of 4 (λ (body : List ℕ). body ≡ value) s.front s.spelled (front_of text s.front s.behind s.parts fits)),
+  subst IsBytes s.spelled.inside (inside_of 4 (λ (body : List ℕ). body ≡ value) s.front s.spelled
+      (front_of text s.front s.behind s.parts fits)),
   values_of values s.behind s.follows (behind_of text s.front s.behind s.parts fits),
 )
 
@@ -40,7 +45,8 @@ item_of item text s fits =
     let three : IsBytes rest.front = front_of s.inside.behind rest.front rest.behind rest.parts two in
     let attr = rest.first in
     let four : IsBytes attr.body = inside_of 48 _ rest.front attr three in
-    let five : IsBytes attr.inside.behind = behind_of attr.body attr.inside.front attr.inside.behind attr.inside.parts four in
+    let five : IsBytes attr.inside.behind = behind_of attr.body attr.inside.front attr.inside.behind attr.inside.parts
+    four in
     let last = attr.inside.follows in
     let six : IsBytes last.front = front_of attr.inside.behind last.front last.behind last.parts five in
     values_of item.values last.first.body last.first.inside (inside_of 49 _ last.front last.first six)
@@ -53,7 +59,8 @@ items_of (item ∷ items) text s fits = (
   items_of items s.behind s.follows (behind_of text s.front s.behind s.parts fits),
 )
 
-new_of : (attr : List ℕ × List (List ℕ)) (text : List ℕ) → SpellsNew attr text → IsBytes text → AllByRecursion IsBytes attr.1
+new_of : (attr : List ℕ × List (List ℕ)) (text : List ℕ) → SpellsNew attr text → IsBytes text
+    → AllByRecursion IsBytes attr.1
 new_of attr text s fits =
     let four : IsBytes s.1.body = inside_of 48 _ text s.1 fits in
     let inside = s.1.inside in

@@ -33,4 +33,5 @@ each_is (f ∷ frames) text s fits = (
 )
 
 pub all_of_bytes : (n : ℕ) (bytes : List ℕ) (fs : Frames) → AreFrames n bytes fs → IsBytes bytes → HaveBytes fs.frames
-all_of_bytes n bytes fs are fits = each_is fs.frames are.text are.spelled (front_of bytes are.text are.left are.parts fits)
+all_of_bytes n bytes fs are fits = each_is fs.frames are.text are.spelled
+    (front_of bytes are.text are.left are.parts fits)

@@ -1,5 +1,6 @@
 -- A result tells its code: two results of the same bytes have one code.
-use Rattle.std.proofs.Common.{◌≡◌, ◌∙◌, inl, inr, ℕ, ◌+◌, ◌*◌, ◌^◌, ◌<◌, Bool, true, false, nat_lt, List, [], ◌∷◌, ◌++◌, length, refl, sym, ap, arith, append_assoc}
+use Rattle.std.proofs.Common.{◌≡◌, ◌∙◌, inl, inr, ℕ, ◌+◌, ◌*◌, ◌^◌, ◌<◌, Bool, true, false, nat_lt, List, [], ◌∷◌}
+use Rattle.std.proofs.Common.{◌++◌, length, refl, sym, ap, arith, append_assoc}
 use Rattle.std.specs.Prelude.{if◌then◌else◌}
 use Rattle.std.specs.Int.{byte_at as byte_of}
 use Rattle.std.proofs.lemmas.Bool.{cases_Bool, ltb-true}
@@ -34,7 +35,8 @@ long_same n m a b is =
     let first : 128 + width n ≡ 128 + width m = cc in
     let wide : width n ≡ width m = omega (arith, first) in
     let rest : be_bytes (width n) n ++ a ≡ be_bytes (width m) m ++ b = cc in
-    (same_parts (be_bytes (width n) n) (be_bytes (width m) m) a b (length-be_bytes (width n) n ∙ wide ∙ sym (length-be_bytes (width m) m)) rest).1
+    (same_parts (be_bytes (width n) n) (be_bytes (width m) m) a b
+    (length-be_bytes (width n) n ∙ wide ∙ sym (length-be_bytes (width m) m)) rest).1
 
 -- elements that are the same have the same body, whatever their tags
 pub same_body : (t u : ℕ) (a b : List ℕ) → element_bytes t a ≡ element_bytes u b → a ≡ b
@@ -81,7 +83,8 @@ number_short n =
     grind (arith, few, length-be_bytes (width (2 * n)) n)
 
 -- a number before
-number_front : (t n m : ℕ) (r s : List ℕ) → number_element t n ++ r ≡ number_element t m ++ s → (number_bytes n ≡ number_bytes m) × (r ≡ s)
+number_front : (t n m : ℕ) (r s : List ℕ) → number_element t n ++ r ≡ number_element t m ++ s
+    → (number_bytes n ≡ number_bytes m) × (r ≡ s)
 unfolding number_element
 number_front t n m r s is = short_front t (number_bytes n) (number_bytes m) r s (number_short n) (number_short m) is
 
@@ -112,7 +115,8 @@ zero_wide = refl
 zero_alone : (n : ℕ) → number_bytes 0 ≡ number_bytes n → n ≡ 0
 unfolding number_bytes be_bytes
 zero_alone n is =
-    let wide : width (2 * 0) ≡ width (2 * n) = sym (length-be_bytes (width (2 * 0)) 0) ∙ ap length is ∙ length-be_bytes (width (2 * n)) n in
+    let wide : width (2 * 0) ≡ width (2 * n) = sym (length-be_bytes (width (2 * 0)) 0) ∙ ap length is
+    ∙ length-be_bytes (width (2 * n)) n in
     let one : width (2 * n) ≡ 1 = sym wide ∙ zero_wide in
     let less : 2 * n < 256 = one_byte (2 * n) one in
     let bytes : byte_of 0 0 ∷ [] ≡ byte_of 0 n ∷ [] = rw (zero_wide, one) at is in
@@ -127,7 +131,9 @@ same_code id tag n matched text other more who what is =
     let two = result_body n other more in
     let parted = append_assoc (number_element 10 0) (element_bytes 4 matched) (element_bytes 4 text) in
     let other_parted = append_assoc (number_element 10 n) (element_bytes 4 other) (element_bytes 4 more) in
-    let inside = same_body 48 48 (number_element 2 id ++ element_bytes tag one) (number_element 2 who ++ element_bytes what two) is in
+    let inside = same_body 48 48 (number_element 2 id ++ element_bytes tag one)
+    (number_element 2 who ++ element_bytes what two) is in
     let op = (number_front 2 id who (element_bytes tag one) (element_bytes what two) inside).1 in
-    zero_alone n (number_front 10 0 n (element_bytes 4 matched ++ element_bytes 4 text) (element_bytes 4 other ++ element_bytes 4 more)
+    zero_alone n (number_front 10 0 n (element_bytes 4 matched ++ element_bytes 4 text)
+    (element_bytes 4 other ++ element_bytes 4 more)
     (sym parted ∙ same_body tag what one two op ∙ other_parted)).0

@@ -11,7 +11,8 @@ use Rattle.ad_ldap.specs.declared.fault.LdapFault.{LdapFault}
 use Rattle.ad_ldap.specs.declared.requests.Add.{Add}
 use Rattle.ad_ldap.specs.declared.requests.Modify.{Modify}
 use Rattle.ad_ldap.specs.declared.requests.Rename.{Rename}
-use Rattle.ad_ldap.specs.MessageValue.{MessageValue, OpValue, Bind, Unbind, SearchOf, ModifyOf, AddOf, DeleteOf, RenameOf, CompareOf, Abandon, Extended}
+use Rattle.ad_ldap.specs.MessageValue.{MessageValue, OpValue, Bind, Unbind, SearchOf, ModifyOf, AddOf, DeleteOf}
+use Rattle.ad_ldap.specs.MessageValue.{RenameOf, CompareOf, Abandon, Extended}
 use Rattle.ad_ldap.specs.MessageReading.{message_of}
 use Rattle.ad_ldap.specs.Settings.{settings_of}
 use Rattle.ad_dir_model.specs.Directory.{Directory}
@@ -57,7 +58,8 @@ steps_sound (suc n) dir sound = steps_sound n (step dir) (step_sound dir sound)
 abbrev LeavesSound : Directory → Decision → Type 0
 LeavesSound dir d = IsSound (unwrap_or d.change dir)
 
-effect_sound : (dir : Directory) (id tag : ℕ) (e : Effect) → IsSound dir → ((after : Directory) → e ≡ changes_to after → IsSound after)
+effect_sound : (dir : Directory) (id tag : ℕ) (e : Effect) → IsSound dir
+    → ((after : Directory) → e ≡ changes_to after → IsSound after)
     → LeavesSound dir (by_effect id tag e)
 effect_sound dir id tag (answered code matched text) sound keeps = sound
 effect_sound dir id tag (changes_to after) sound keeps = keeps after refl
@@ -68,7 +70,8 @@ changed_sound : (dir : Directory) (token : Token) (m : MessageValue) (tag : ℕ)
 changed_sound dir token m tag (Err code) sound keeps = sound
 changed_sound dir token m tag (Ok s) sound keeps = effect_sound dir m.id tag (effect dir token m.op s) sound (keeps s)
 
-op_sound : Kept → (dir : Directory) (token : Token) (m : MessageValue) (op : OpValue) → m.op ≡ op → IsSound dir → HasByteValues op
+op_sound : Kept → (dir : Directory) (token : Token) (m : MessageValue) (op : OpValue) → m.op ≡ op → IsSound dir
+    → HasByteValues op
     → LeavesSound dir (op_decided dir token m op)
 op_sound k dir token m Bind is sound bytes = sound
 op_sound k dir token m Unbind is sound bytes = sound
@@ -97,14 +100,17 @@ message_sound k dir token bytes sound fits = by (message_of bytes) refl
 
 -- ---- a frame
 
-body_sound : Kept → (dir : Directory) (tokens : List (Option Token)) (connection : ℕ) (b : FrameBody) → IsSound dir → IsOfBytes b
+body_sound : Kept → (dir : Directory) (tokens : List (Option Token)) (connection : ℕ) (b : FrameBody) → IsSound dir
+    → IsOfBytes b
     → IsSound (body_answered dir tokens connection b).directory
 body_sound k dir tokens connection (body.Token token) sound fits = sound
-body_sound k dir tokens connection (body.Message bytes) sound fits = message_sound k dir (token_of tokens connection) bytes sound fits
+body_sound k dir tokens connection (body.Message bytes) sound fits = message_sound k dir (token_of tokens connection)
+    bytes sound fits
 body_sound k dir tokens connection (body.Steps n) sound fits = steps_sound n dir sound
 body_sound k dir tokens connection body.Run sound fits = k.run dir sound
 
-pub answer_sound : Kept → (dir : Directory) (tokens : List (Option Token)) (frame : Frame) → IsSound dir → HasBytes frame
+pub answer_sound : Kept → (dir : Directory) (tokens : List (Option Token)) (frame : Frame) → IsSound dir
+    → HasBytes frame
     → IsSound (answer dir tokens frame).directory
 unfolding answer
 answer_sound k dir tokens frame sound fits = body_sound k dir tokens frame.connection frame.body sound fits
@@ -113,11 +119,14 @@ answer_sound k dir tokens frame sound fits = body_sound k dir tokens frame.conne
 
 -- what is promised of one
 abbrev pub OneKeeps : Type 0
-OneKeeps = (dir : Directory) (tokens : List (Option Token)) (frame : Frame) → IsSound dir → HasBytes frame → IsSound (answer dir tokens frame).directory
+OneKeeps = (dir : Directory) (tokens : List (Option Token)) (frame : Frame) → IsSound dir → HasBytes frame
+    → IsSound (answer dir tokens frame).directory
 
-pub frames_sound : OneKeeps → (dir : Directory) (tokens : List (Option Token)) (frames : List Frame) → IsSound dir → HaveBytes frames
+pub frames_sound : OneKeeps → (dir : Directory) (tokens : List (Option Token)) (frames : List Frame) → IsSound dir
+    → HaveBytes frames
     → IsSound (after_from dir tokens frames)
 unfolding after_from
 frames_sound one dir tokens [] sound fits = sound
 frames_sound one dir tokens (frame ∷ frames) sound fits =
-    frames_sound one (answer dir tokens frame).directory (answer dir tokens frame).tokens frames (one dir tokens frame sound fits.0) fits.1
+    frames_sound one (answer dir tokens frame).directory (answer dir tokens frame).tokens frames
+    (one dir tokens frame sound fits.0) fits.1

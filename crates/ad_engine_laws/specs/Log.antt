@@ -17,7 +17,8 @@ pub data LogEntry : Type 0 where
   worked : ℕ → LogEntry
   protected : LogEntry
 
--- ---- what entries make of a directory, and what they are answered: neither connections nor other frames have a part in it
+-- ---- what entries make of a directory, and what they are answered: neither connections nor other frames have a part
+--  in it
 
 unfoldable pub applied : Directory → LogEntry → Directory
 applied dir (sent token bytes) = unwrap_or (message_decided dir token bytes).change dir
@@ -40,13 +41,15 @@ answer_to dir protected = counts (protection_run dir).changed (protection_run di
 -- a message's token goes directly before it
 unfoldable pub frames_for : ℕ → LogEntry → List Frame
 frames_for connection (sent token bytes) =
-    record { connection = connection; body = body.Token token } ∷ record { connection = connection; body = body.Message bytes } ∷ []
+    record { connection = connection; body = body.Token token }
+    ∷ record { connection = connection; body = body.Message bytes } ∷ []
 frames_for connection (worked n) = record { connection = connection; body = body.Steps n } ∷ []
 frames_for connection protected = record { connection = connection; body = body.Run } ∷ []
 
 -- the frames that they are answered by
 unfoldable pub output_for : ℕ → Directory → LogEntry → List ℕ
-output_for connection dir (sent token bytes) = token_output connection ++ output_frame 0x82 connection (answer_to dir (sent token bytes))
+output_for connection dir (sent token bytes) = token_output connection ++ output_frame 0x82 connection
+    (answer_to dir (sent token bytes))
 output_for connection dir (worked n) = output_frame 0x83 connection (answer_to dir (worked n))
 output_for connection dir protected = output_frame 0x84 connection (answer_to dir protected)
 

@@ -1,5 +1,5 @@
--- Which frames are no changes: tokens, and messages that ask for no Add, Delete, Modify, rename or move. Bytes that spell no
--- message ask for nothing.
+-- Which frames are no changes: tokens, and messages that ask for no Add, Delete, Modify, rename or move. Bytes that
+-- spell no message ask for nothing.
 use Rattle.std.specs.Prelude.{Result, Ok, Err}
 use Rattle.ad_ldap.specs.declared.fault.LdapFault.{LdapFault}
 use Rattle.ad_ldap.specs.MessageValue.{MessageValue, OpValue, ModifyOf, AddOf, DeleteOf, RenameOf, SearchOf, CompareOf}

@@ -11,7 +11,8 @@ pub record LeavesAll (dir : Directory) (tokens : List (Option Token)) (a : Answe
   pub directory : a.directory ≡ dir
   pub tokens_are : a.tokens ≡ tokens
 
--- The message of this connection is answered by one result (RFC 4511 4.1.9) with this code, whatever it names and says besides.
+-- The message of this connection is answered by one result (RFC 4511 4.1.9) with this code, whatever it names and
+-- says besides.
 pub record HasCode (connection code : ℕ) (a : Answered) : Type 0 where
   pub id : ℕ
   pub tag : ℕ

@@ -1,6 +1,6 @@
-//! Laws of what frames are answered: a sound directory stays sound, what is refused or only asks changes nothing, and machines
-//! that take one log of changes have one directory and gave the same answers. No code: each law is the contract of a function
-//! that does nothing.
+//! Laws of what frames are answered: a sound directory stays sound, what is refused or only asks changes nothing, and
+//! machines that take one log of changes have one directory and gave the same answers. No code: each law is the
+//! contract of a function that does nothing.
 //!
 //! # Example
 //!

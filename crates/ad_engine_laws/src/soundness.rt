@@ -25,15 +25,17 @@ use ad_ids::what_a_sid_s_text_spells;
 
 /// The identifier of a sound directory's domain, where it has one, has the form of one: it was read of bytes.
 pub fn the_domain_of_a_sound_directory_has_its_form()
-    ensures { (dir : Directory) (sid : SidValue) → IsSound dir → domain_sid dir ≡ Some sid → IsSid sid }
+    ensures { (dir : Directory) (sid : SidValue) → IsSound dir → domain_sid dir ≡ Some sid
+        → IsSid sid }
 {
     what_a_sid_s_text_spells();
 }
 
-/// Whatever a frame asks for, by whatever tokens, it leaves a sound directory sound. Nothing is asked of the frame but that its
-/// message is bytes. So does any number of steps.
+/// Whatever a frame asks for, by whatever tokens, it leaves a sound directory sound. Nothing is asked of the frame
+/// but that its message is bytes. So does any number of steps.
 pub fn an_answer_keeps_a_directory_sound()
-    ensures answer { (dir : Directory) (tokens : List (Option Token)) (frame : Frame) → IsSound dir → HasBytes frame
+    ensures answer { (dir : Directory) (tokens : List (Option Token)) (frame : Frame) → IsSound dir
+        → HasBytes frame
         → IsSound (answer dir tokens frame).directory }
     ensures steps { (dir : Directory) (n : ℕ) → IsSound dir → IsSound (steps n dir) }
 {
@@ -47,9 +49,11 @@ pub fn an_answer_keeps_a_directory_sound()
 
 /// The same of any list of frames, one after the other.
 pub fn frames_keep_a_directory_sound()
-    ensures from { (dir : Directory) (tokens : List (Option Token)) (frames : List Frame) → IsSound dir → HaveBytes frames
+    ensures from { (dir : Directory) (tokens : List (Option Token)) (frames : List Frame)
+        → IsSound dir → HaveBytes frames
         → IsSound (after_from dir tokens frames) }
-    ensures after { (dir : Directory) (frames : List Frame) → IsSound dir → HaveBytes frames → IsSound (after dir frames) }
+    ensures after { (dir : Directory) (frames : List Frame) → IsSound dir → HaveBytes frames
+        → IsSound (after dir frames) }
 {
     an_answer_keeps_a_directory_sound();
 }

@@ -43,25 +43,32 @@ opposite_both Undefined True = refl
 opposite_both Undefined False = refl
 opposite_both Undefined Undefined = refl
 
-all_false : (view : View) (filters : FilterList) → is_false (all_of view filters) ≡ list_any is_false (truths view filters)
+all_false : (view : View) (filters : FilterList) → is_false (all_of view filters)
+    ≡ list_any is_false (truths view filters)
 unfolding truth all_of some_of truths
 all_false view none = refl
-all_false view (more f filters) = both_false (truth view f) (all_of view filters) ∙ ap (λ (b : Bool). is_false (truth view f) || b) (all_false view filters)
+all_false view (more f filters) = both_false (truth view f) (all_of view filters)
+    ∙ ap (λ (b : Bool). is_false (truth view f) || b) (all_false view filters)
 
 all_true : (view : View) (filters : FilterList) → is_true (all_of view filters) ≡ list_all is_true (truths view filters)
 unfolding truth all_of some_of truths
 all_true view none = refl
-all_true view (more f filters) = both_true (truth view f) (all_of view filters) ∙ ap (λ (b : Bool). is_true (truth view f) && b) (all_true view filters)
+all_true view (more f filters) = both_true (truth view f) (all_of view filters)
+    ∙ ap (λ (b : Bool). is_true (truth view f) && b) (all_true view filters)
 
-some_true : (view : View) (filters : FilterList) → is_true (some_of view filters) ≡ list_any is_true (truths view filters)
+some_true : (view : View) (filters : FilterList) → is_true (some_of view filters)
+    ≡ list_any is_true (truths view filters)
 unfolding truth all_of some_of truths
 some_true view none = refl
-some_true view (more f filters) = either_true (truth view f) (some_of view filters) ∙ ap (λ (b : Bool). is_true (truth view f) || b) (some_true view filters)
+some_true view (more f filters) = either_true (truth view f) (some_of view filters)
+    ∙ ap (λ (b : Bool). is_true (truth view f) || b) (some_true view filters)
 
-some_false : (view : View) (filters : FilterList) → is_false (some_of view filters) ≡ list_all is_false (truths view filters)
+some_false : (view : View) (filters : FilterList) → is_false (some_of view filters)
+    ≡ list_all is_false (truths view filters)
 unfolding truth all_of some_of truths
 some_false view none = refl
-some_false view (more f filters) = either_false (truth view f) (some_of view filters) ∙ ap (λ (b : Bool). is_false (truth view f) && b) (some_false view filters)
+some_false view (more f filters) = either_false (truth view f) (some_of view filters)
+    ∙ ap (λ (b : Bool). is_false (truth view f) && b) (some_false view filters)
 
 pub says_all : (view : View) (filters : FilterList) → SaysAll (truth view (filter.And filters)) (truths view filters)
 unfolding truth
@@ -74,8 +81,10 @@ says_some view filters = record { when_true = some_true view filters; when_false
 opposite_all : (view : View) (filters : FilterList) → opposite (all_of view filters) ≡ some_of view (nots filters)
 unfolding truth all_of some_of nots
 opposite_all view none = refl
-opposite_all view (more f filters) = opposite_both (truth view f) (all_of view filters) ∙ ap (either (opposite (truth view f))) (opposite_all view filters)
+opposite_all view (more f filters) = opposite_both (truth view f) (all_of view filters)
+    ∙ ap (either (opposite (truth view f))) (opposite_all view filters)
 
-pub not_all : (view : View) (filters : FilterList) → truth view (filter.Not (filter.And filters)) ≡ truth view (filter.Or (nots filters))
+pub not_all : (view : View) (filters : FilterList) → truth view (filter.Not (filter.And filters))
+    ≡ truth view (filter.Or (nots filters))
 unfolding truth
 not_all view filters = opposite_all view filters

@@ -30,5 +30,6 @@ is_asked_of comparison.AtMost syntax = has_order syntax
 -- what is said of an attribute
 abbrev pub says_compared : Comparison → List ℕ → Readable → Truth
 says_compared comparison sent readable =
-    if is_asked_of comparison readable.syntax then of_sent (normal_or_fault readable.syntax sent) (λ key. some_value readable (passes comparison key))
+    if is_asked_of comparison readable.syntax then of_sent (normal_or_fault readable.syntax sent)
+    (λ key. some_value readable (passes comparison key))
     else truth.Undefined

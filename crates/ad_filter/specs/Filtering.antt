@@ -26,7 +26,8 @@ pub record Readable : Type 0 where
   pub syntax : Syntax
   pub values : List Value
 
--- What may be read of an object, by the names of attributes: none of an unknown attribute and of one that may not be read.
+-- What may be read of an object, by the names of attributes: none of an unknown attribute and of one that may not be
+-- read.
 abbrev pub View : Type 0
 View = List ℕ → Option Readable
 
@@ -36,7 +37,8 @@ view_by named shown name = option_and_then shown (named name)
 
 -- ---- one item
 
--- A value is compared where its syntax reads what it shows. A computed value that it doesn't read is present, and nothing else.
+-- A value is compared where its syntax reads what it shows. A computed value that it doesn't read is present, and
+-- nothing else.
 abbrev pub is_compared : Syntax → Value → Bool
 is_compared syntax v = is_ok (normal_or_fault syntax v.shown)
 
@@ -82,15 +84,18 @@ is_greater Greater = true
 is_greater _ = false
 
 abbrev pub says_equal : List ℕ → Readable → Truth
-says_equal sent readable = of_sent (normal_or_fault readable.syntax sent) (λ key. some_value readable (λ own. same_key own key))
+says_equal sent readable = of_sent (normal_or_fault readable.syntax sent)
+    (λ key. some_value readable (λ own. same_key own key))
 
 abbrev pub says_ordered : (Ordering → Bool) → List ℕ → Readable → Truth
 says_ordered test sent readable =
-    if has_order readable.syntax then of_sent (normal_or_fault readable.syntax sent) (λ key. some_value readable (λ own. test (key_order own key)))
+    if has_order readable.syntax then of_sent (normal_or_fault readable.syntax sent)
+    (λ key. some_value readable (λ own. test (key_order own key)))
     else truth'.Undefined
 
 abbrev pub says_pieces : Pattern → Readable → Truth
-says_pieces sent readable = of_pieces (pattern_of readable.syntax sent) (λ pattern. some_value readable (fits_key pattern))
+says_pieces sent readable = of_pieces (pattern_of readable.syntax sent)
+    (λ pattern. some_value readable (fits_key pattern))
 
 abbrev pub says_present : Readable → Truth
 says_present readable = truth_of (not (length readable.values == 0))

@@ -89,7 +89,8 @@ fn is_one(
     sent: &Value,
     own: &Value,
 ) -> Result<bool, AllocError>
-    ensures { IfOk result (λ is. is ≡ (is_compared syntax own.now && passes comparison sent.now.key own.now.key)) }
+    ensures { IfOk result (λ is. is
+        ≡ (is_compared syntax own.now && passes comparison sent.now.key own.now.key)) }
 {
     if !passes(comparison, sent, own) {
         return Ok(false);
@@ -105,7 +106,8 @@ pub(crate) fn any_passes(
     sent: &Value,
     values: &[Value],
 ) -> Result<bool, AllocError>
-    ensures { IfOk result (λ any. any ≡ any_passes syntax (passes comparison sent.now.key) values.now) }
+    ensures { IfOk result (λ any. any ≡ any_passes syntax (passes comparison sent.now.key)
+        values.now) }
 {
     for value in values {
         if is_one(alloc, syntax, comparison, sent, value)? {
@@ -118,7 +120,8 @@ pub(crate) fn any_passes(
 // A value of the key of the one that was sent, among values in order.
 fn of_its_key<'a>(sent: &Value, values: &'a [Value]) -> Option<&'a Value>
     requires { IsInOrder values.now }
-    ensures { MatchOption result (list_any (λ own. same_key own.key sent.now.key) values.entry.now ≡ false)
+    ensures { MatchOption result (list_any (λ own. same_key own.key sent.now.key) values.entry.now
+        ≡ false)
         (λ own. Contains values.entry.now own.now × (same_key own.now.key sent.now.key ≡ true)) }
 {
     keys_are_ordered();
@@ -136,7 +139,8 @@ fn any_of_its_key(
     values: &[Value],
 ) -> Result<bool, AllocError>
     requires { IsInOrder values.now }
-    ensures { IfOk result (λ any. any ≡ any_passes syntax (passes Comparison.Equal sent.now.key) values.now) }
+    ensures { IfOk result (λ any. any ≡ any_passes syntax (passes Comparison.Equal sent.now.key)
+        values.now) }
 {
     let Some(own) = of_its_key(sent, values) else {
         return Ok(false);
@@ -155,7 +159,8 @@ pub(crate) fn any_kept_passes(
     sent: &Value,
 ) -> Result<bool, AllocError>
     requires { IsOrdered values.now }
-    ensures { IfOk result (λ any. any ≡ any_passes values.now.syntax (passes comparison sent.now.key) values.now.all.items) }
+    ensures { IfOk result (λ any. any ≡ any_passes values.now.syntax
+        (passes comparison sent.now.key) values.now.all.items) }
 {
     let all = values.all.as_slice();
     match comparison {
@@ -171,7 +176,8 @@ fn is_fitting(
     pattern: &Pattern,
     own: &Value,
 ) -> Result<bool, AllocError>
-    ensures { IfOk result (λ is. is ≡ (is_compared syntax own.now && fits_key pattern.now own.now.key)) }
+    ensures { IfOk result (λ is. is
+        ≡ (is_compared syntax own.now && fits_key pattern.now own.now.key)) }
 {
     if !fits(own, pattern) {
         return Ok(false);
@@ -196,8 +202,8 @@ pub(crate) fn any_fits(
     Ok(false)
 }
 
-/// Whether one of the values is equal to the one that was sent, both of one syntax: whether it has its key, and the syntax reads
-/// what it shows.
+/// Whether one of the values is equal to the one that was sent, both of one syntax: whether it has its key, and the
+/// syntax reads what it shows.
 ///
 /// # Errors
 ///
@@ -209,7 +215,8 @@ pub fn has_equal(
     sent: &Value,
     values: &[Value],
 ) -> Result<bool, AllocError>
-    ensures { IfOk result (λ any. any ≡ list_any (λ own. is_compared syntax own && same_key own.key sent.now.key) values.now) }
+    ensures { IfOk result (λ any. any
+        ≡ list_any (λ own. is_compared syntax own && same_key own.key sent.now.key) values.now) }
 {
     any_passes(alloc, syntax, Comparison::Equal, sent, values)
 }

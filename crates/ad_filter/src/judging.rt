@@ -1,11 +1,13 @@
 //! What a filter says of an object.
 
-ghost use Rattle.std.specs.Prelude.{◌≡◌, ◌<◌, ◌≤◌, None, length, slice_index_or, map, option_map, IfOk, IfSome, OnOk, MatchOption};
+ghost use Rattle.std.specs.Prelude.{◌≡◌, ◌<◌, ◌≤◌, None, length, slice_index_or, map, option_map, IfOk, IfSome, OnOk};
+ghost use Rattle.std.specs.Prelude.{MatchOption};
 ghost use Rattle.std.specs.Ordering.{nat_cmp};
 ghost use Rattle.std.specs.BTreeMap.{get};
 ghost use Rattle.ad_ldap.specs.FilterValue.{filter_seen, filters_of, depth, depth_of_all};
 ghost use Rattle.ad_filter.specs.ThreeValues.{truth_of};
-ghost use Rattle.ad_filter.specs.Filtering.{view_by, known, truth, all_of, some_of, of_known, of_readable, says_pieces, says_present};
+ghost use Rattle.ad_filter.specs.Filtering.{view_by, known, truth, all_of, some_of, of_known, of_readable};
+ghost use Rattle.ad_filter.specs.Filtering.{says_pieces, says_present};
 ghost use Rattle.ad_filter.specs.Comparing.{is_asked_of, says_compared};
 ghost use Rattle.ad_filter.specs.Keeping.{IsOrdered, AreRead, IsKept, as_read};
 
@@ -78,7 +80,8 @@ fn compared_if(
     sent: &[u8],
 ) -> Result<Truth, AllocError>
     requires { IfSome values.now IsOrdered }
-    ensures { IfOk result (λ t. t ≡ of_known (option_map as_read values.now) (says_compared comparison sent.now)) }
+    ensures { IfOk result (λ t. t ≡ of_known (option_map as_read values.now)
+        (says_compared comparison sent.now)) }
 {
     match values {
         Some(values) => compared(alloc, values, comparison, sent),
@@ -87,7 +90,8 @@ fn compared_if(
 }
 
 fn fitting_if(alloc: Global, values: &Option<Values>, sent: &Pattern) -> Result<Truth, AllocError>
-    ensures { IfOk result (λ t. t ≡ of_known (option_map as_read values.now) (says_pieces sent.now)) }
+    ensures { IfOk result (λ t. t ≡ of_known (option_map as_read values.now)
+        (says_pieces sent.now)) }
 {
     match values {
         Some(values) => fitting(alloc, values, sent),
@@ -115,8 +119,10 @@ fn attr_kept<V: Readable>(
 ) -> Result<Option<AttrId>, AllocError>
     requires { AreRead (V.shown view.now) kept.old }
     ensures read { OnOk result (AreRead (V.shown view.now) kept.new) }
-    ensures kept { IfOk result (λ found. MatchOption found (known (view_by (V.named view.now) (V.shown view.now)) name.now ≡ None)
-        (λ attr. IsKept (get nat_cmp kept.new attr.0) (known (view_by (V.named view.now) (V.shown view.now)) name.now))) }
+    ensures kept { IfOk result (λ found.
+        MatchOption found (known (view_by (V.named view.now) (V.shown view.now)) name.now ≡ None)
+        (λ attr. IsKept (get nat_cmp kept.new attr.0)
+        (known (view_by (V.named view.now) (V.shown view.now)) name.now))) }
 {
     let Some(attr) = attr_known(view, name) else {
         return Ok(None);
@@ -135,7 +141,8 @@ fn of_comparison<V: Readable>(
 ) -> Result<Truth, AllocError>
     requires { AreRead (V.shown view.now) kept.old }
     ensures kept { OnOk result (AreRead (V.shown view.now) kept.new) }
-    ensures says { IfOk result (λ t. t ≡ of_readable (view_by (V.named view.now) (V.shown view.now)) name.now (says_compared comparison sent.now)) }
+    ensures says { IfOk result (λ t. t ≡ of_readable (view_by (V.named view.now) (V.shown view.now))
+        name.now (says_compared comparison sent.now)) }
 {
     match attr_kept(alloc, view, kept, name)? {
         Some(attr) => { compared_if(alloc, values_at(kept, attr), comparison, sent) }
@@ -152,7 +159,8 @@ fn of_pieces<V: Readable>(
 ) -> Result<Truth, AllocError>
     requires { AreRead (V.shown view.now) kept.old }
     ensures kept { OnOk result (AreRead (V.shown view.now) kept.new) }
-    ensures says { IfOk result (λ t. t ≡ of_readable (view_by (V.named view.now) (V.shown view.now)) name.now (says_pieces sent.now)) }
+    ensures says { IfOk result (λ t. t ≡ of_readable (view_by (V.named view.now) (V.shown view.now))
+        name.now (says_pieces sent.now)) }
 {
     match attr_kept(alloc, view, kept, name)? {
         Some(attr) => fitting_if(alloc, values_at(kept, attr), sent),
@@ -168,7 +176,8 @@ fn of_presence<V: Readable>(
 ) -> Result<Truth, AllocError>
     requires { AreRead (V.shown view.now) kept.old }
     ensures kept { OnOk result (AreRead (V.shown view.now) kept.new) }
-    ensures says { IfOk result (λ t. t ≡ of_readable (view_by (V.named view.now) (V.shown view.now)) name.now says_present) }
+    ensures says { IfOk result (λ t. t ≡ of_readable (view_by (V.named view.now) (V.shown view.now))
+        name.now says_present) }
 {
     match attr_kept(alloc, view, kept, name)? {
         Some(attr) => Ok(present_if(values_at(kept, attr))),
@@ -182,7 +191,8 @@ fn of_presence<V: Readable>(
 fn filter_at(filters: &[Filter], i: usize) -> &Filter
     requires { i < length filters.now }
     ensures at { result.now ≡ slice_index_or filters.entry.now i result.now }
-    ensures less_deep { depth (filter_seen result.now) ≤ depth_of_all (filters_of (map filter_seen filters.entry.now)) }
+    ensures less_deep { depth (filter_seen result.now)
+        ≤ depth_of_all (filters_of (map filter_seen filters.entry.now)) }
 {
     &filters[i]
 }
@@ -197,7 +207,8 @@ fn all_of<V: Readable>(
 ) -> Result<Truth, AllocError>
     requires { AreRead (V.shown view.now) kept.old }
     ensures kept { OnOk result (AreRead (V.shown view.now) kept.new) }
-    ensures says { IfOk result (λ t. t ≡ all_of (view_by (V.named view.now) (V.shown view.now)) (filters_of (map filter_seen filters.now))) }
+    ensures says { IfOk result (λ t. t ≡ all_of (view_by (V.named view.now) (V.shown view.now))
+        (filters_of (map filter_seen filters.now))) }
 {
     let mut so_far = Truth::True;
     'each: for i in 0..filters.len() {
@@ -220,7 +231,8 @@ fn some_of<V: Readable>(
 ) -> Result<Truth, AllocError>
     requires { AreRead (V.shown view.now) kept.old }
     ensures kept { OnOk result (AreRead (V.shown view.now) kept.new) }
-    ensures says { IfOk result (λ t. t ≡ some_of (view_by (V.named view.now) (V.shown view.now)) (filters_of (map filter_seen filters.now))) }
+    ensures says { IfOk result (λ t. t ≡ some_of (view_by (V.named view.now) (V.shown view.now))
+        (filters_of (map filter_seen filters.now))) }
 {
     let mut so_far = Truth::False;
     'each: for i in 0..filters.len() {
@@ -244,7 +256,8 @@ fn truth_by<V: Readable>(
 ) -> Result<Truth, AllocError>
     requires { AreRead (V.shown view.now) kept.old }
     ensures kept { OnOk result (AreRead (V.shown view.now) kept.new) }
-    ensures says { IfOk result (λ t. t ≡ truth (view_by (V.named view.now) (V.shown view.now)) (filter_seen filter.now)) }
+    ensures says { IfOk result (λ t. t ≡ truth (view_by (V.named view.now) (V.shown view.now))
+        (filter_seen filter.now)) }
 {
     what_is_seen_of_filters();
     match filter {
@@ -287,15 +300,16 @@ fn truth_by<V: Readable>(
     }
 }
 
-/// What the filter says of an object (RFC 4511 4.5.1.7), of which so much may be read. An attribute is read once at most: where an
-/// item asks for it, up to the first filter of an and that is false, and of an or that is true. Of many values those of the key that
-/// an item asks for are found by halving.
+/// What the filter says of an object (RFC 4511 4.5.1.7), of which so much may be read. An attribute is read once at
+/// most: where an item asks for it, up to the first filter of an and that is false, and of an or that is true. Of
+/// many values those of the key that an item asks for are found by halving.
 ///
 /// # Errors
 ///
 /// Out of memory.
 pub fn truth<V: Readable>(alloc: Global, filter: &Filter, view: &V) -> Result<Truth, AllocError>
-    ensures { IfOk result (λ t. t ≡ truth (view_by (V.named view.now) (V.shown view.now)) (filter_seen filter.now)) }
+    ensures { IfOk result (λ t. t ≡ truth (view_by (V.named view.now) (V.shown view.now))
+        (filter_seen filter.now)) }
 {
     let mut kept = BTreeMap::new(alloc);
     truth_by(alloc, filter, view, &mut kept)

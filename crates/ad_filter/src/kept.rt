@@ -1,4 +1,5 @@
-//! What was read of an object, kept for all items of a filter: each attribute is read once, and found again by its number.
+//! What was read of an object, kept for all items of a filter: each attribute is read once, and found again by its
+//! number.
 
 ghost use Rattle.std.specs.Prelude.{◌≡◌, true, Some, IfOk, IsSome, OnOk, IsPermutation};
 ghost use Rattle.std.specs.Ordering.{nat_cmp};

@@ -1,5 +1,6 @@
 -- What is read of a frame needs nothing after it, and what is cut short is too short for a frame.
-use Rattle.std.proofs.Common.{◌≡◌, ◌∙◌, ℕ, ◌<◌, ◌≤◌, true, false, ltb, List, [], ◌++◌, length, take, drop, Option, None, Some, Result, Ok, Err, refl, sym, ap, subst, append_assoc, arith}
+use Rattle.std.proofs.Common.{◌≡◌, ◌∙◌, ℕ, ◌<◌, ◌≤◌, true, false, ltb, List, [], ◌++◌, length, take, drop, Option}
+use Rattle.std.proofs.Common.{None, Some, Result, Ok, Err, refl, sym, ap, subst, append_assoc, arith}
 use Rattle.std.proofs.lemmas.Bool.{lt-ltb, ltb-false}
 use Rattle.std.proofs.lemmas.List.{take-append-drop, length-take}
 use Rattle.ad_bytes.specs.Reading.{Reading, ◌>>=◌, or_fault, fault_as}
@@ -17,7 +18,8 @@ use Rattle.ad_frames.specs.declared.frame.FrameBody.TheVariants as body
 use Rattle.ad_frames.specs.declared.reading.FrameKind.{FrameKind}
 use Rattle.ad_frames.specs.declared.reading.FrameKind.TheVariants as kind
 use Rattle.ad_frames.specs.declared.reading.Header.{Header}
-use Rattle.ad_frames.specs.Reading.{ReadsFront, header_of, header_at, option_header_at, content_at, token_at, message_at, steps_of, steps_at, body_by, frame_at}
+use Rattle.ad_frames.specs.Reading.{ReadsFront, header_of, header_at, option_header_at, content_at, token_at}
+use Rattle.ad_frames.specs.Reading.{message_at, steps_of, steps_at, body_by, frame_at}
 use Rattle.ad_frames.specs.Source.{IsCutShort, TakesFewer}
 use Rattle.ad_frames.proofs.SourceSteps.{told_more, told_then, content_read, content_cut, has_header}
 
@@ -26,7 +28,8 @@ use Rattle.ad_frames.proofs.SourceSteps.{told_more, told_then, content_read, con
 part_front : (n : ℕ) (b c a : List ℕ) → part_at n b ≡ Ok (c, a) → (b ≡ c ++ a) × (length c ≡ n)
 unfolding part_at
 part_front n b c a e =
-    from_guard (ltb (length b) n) short (take n b, drop n b) (c, a) e (λ (long : ltb (length b) n ≡ false) (same : (take n b, drop n b) ≡ (c, a)).
+    from_guard (ltb (length b) n) short (take n b, drop n b) (c, a) e
+    (λ (long : ltb (length b) n ≡ false) (same : (take n b, drop n b) ≡ (c, a)).
     let le : n ≤ length b = ltb-false _ _ long in
     let so_many : length (take n b) ≡ n = omega (arith, length-take n b) in
     subst (λ (p : List ℕ × List ℕ). (b ≡ p.0 ++ p.1) × (length p.0 ≡ n)) same (sym (take-append-drop n b), so_many))
@@ -42,7 +45,8 @@ content_front len b c a e =
     }
 
 -- what is made of a part that was read
-made_front : {X Y : Type 0} (read : List ℕ → Reading X FrameFault) (whole : List ℕ → Reading Y FrameFault) (b : List ℕ) (x : X) (y : Y) (a : List ℕ)
+made_front : {X Y : Type 0} (read : List ℕ → Reading X FrameFault) (whole : List ℕ → Reading Y FrameFault)
+    (b : List ℕ) (x : X) (y : Y) (a : List ℕ)
     → ((t r : List ℕ) → read t ≡ Ok (x, r) → whole t ≡ Ok (y, r)) → ReadsFront read b x a → ReadsFront whole b y a
 made_front read whole b x y a make front = record {
   text = front.text;
@@ -50,20 +54,28 @@ made_front read whole b x y a make front = record {
   again = λ behind. make (front.text ++ behind) behind (front.again behind);
 }
 
-token_front : (len : ℕ) (b : List ℕ) (x : FrameBody) (a : List ℕ) → token_at len b ≡ Ok (x, a) → ReadsFront (token_at len) b x a
+token_front : (len : ℕ) (b : List ℕ) (x : FrameBody) (a : List ℕ) → token_at len b ≡ Ok (x, a)
+    → ReadsFront (token_at len) b x a
 unfolding token_at
 token_front len b x a e =
     from_bind (content_at len b) _ (x, a) e (λ (c : List ℕ × List ℕ) (e1 : content_at len b ≡ Ok c) h1.
-    from_bind (fault_as fault.Token (token_of c.0)) _ (x, a) h1 (λ (t : Token) (e2 : fault_as fault.Token (token_of c.0) ≡ Ok t) (e3 : Ok (body.Token t, c.1) ≡ Ok (x, a)).
-    subst (λ (p : FrameBody × List ℕ). ReadsFront (token_at len) b p.0 p.1) (from_ok {E = FrameFault} (body.Token t, c.1) (x, a) e3)
-    (made_front (content_at len) (token_at len) b c.0 (body.Token t) c.1 (λ u r is. rw (is, e2) refl) (content_front len b c.0 c.1 e1))))
+    from_bind (fault_as fault.Token (token_of c.0)) _ (x, a) h1
+    (λ (t : Token) (e2 : fault_as fault.Token (token_of c.0) ≡ Ok t) (e3 : Ok (body.Token t, c.1) ≡ Ok (x, a)).
+    subst (λ (p : FrameBody × List ℕ). ReadsFront (token_at len) b p.0 p.1)
+    (from_ok {E = FrameFault} (body.Token t, c.1) (x, a) e3)
+    (made_front (content_at len) (token_at len) b c.0 (body.Token t) c.1 (λ u r is. rw (is, e2) refl)
+    (content_front len b c.0 c.1 e1))))
 
-message_front : (len : ℕ) (b : List ℕ) (x : FrameBody) (a : List ℕ) → message_at len b ≡ Ok (x, a) → ReadsFront (message_at len) b x a
+message_front : (len : ℕ) (b : List ℕ) (x : FrameBody) (a : List ℕ) → message_at len b ≡ Ok (x, a)
+    → ReadsFront (message_at len) b x a
 unfolding message_at
 message_front len b x a e =
-    from_bind (content_at len b) _ (x, a) e (λ (c : List ℕ × List ℕ) (e1 : content_at len b ≡ Ok c) (e2 : Ok (body.Message c.0, c.1) ≡ Ok (x, a)).
-    subst (λ (p : FrameBody × List ℕ). ReadsFront (message_at len) b p.0 p.1) (from_ok {E = FrameFault} (body.Message c.0, c.1) (x, a) e2)
-    (made_front (content_at len) (message_at len) b c.0 (body.Message c.0) c.1 (λ u r is. rw is refl) (content_front len b c.0 c.1 e1)))
+    from_bind (content_at len b) _ (x, a) e
+    (λ (c : List ℕ × List ℕ) (e1 : content_at len b ≡ Ok c) (e2 : Ok (body.Message c.0, c.1) ≡ Ok (x, a)).
+    subst (λ (p : FrameBody × List ℕ). ReadsFront (message_at len) b p.0 p.1)
+    (from_ok {E = FrameFault} (body.Message c.0, c.1) (x, a) e2)
+    (made_front (content_at len) (message_at len) b c.0 (body.Message c.0) c.1 (λ u r is. rw is refl)
+    (content_front len b c.0 c.1 e1)))
 
 steps_front : (b : List ℕ) (x : FrameBody) (a : List ℕ) → steps_at b ≡ Ok (x, a) → ReadsFront steps_at b x a
 unfolding steps_at
@@ -73,12 +85,15 @@ steps_front b x a e =
     subst (λ (p : FrameBody × List ℕ). ReadsFront steps_at b p.0 p.1) (from_ok {E = FrameFault} (n, c.1) (x, a) e3)
     (made_front (content_at 4) steps_at b c.0 n c.1 (λ u r is. rw (is, e2) refl) (content_front 4 b c.0 c.1 e1))))
 
-run_front : (len : ℕ) (b : List ℕ) (x : FrameBody) (a : List ℕ) → body_by kind.Run len b ≡ Ok (x, a) → ReadsFront (body_by kind.Run len) b x a
+run_front : (len : ℕ) (b : List ℕ) (x : FrameBody) (a : List ℕ) → body_by kind.Run len b ≡ Ok (x, a)
+    → ReadsFront (body_by kind.Run len) b x a
 run_front len b x a e =
-    subst (λ (p : FrameBody × List ℕ). ReadsFront (body_by kind.Run len) b p.0 p.1) (from_ok {E = FrameFault} (body.Run, b) (x, a) e)
+    subst (λ (p : FrameBody × List ℕ). ReadsFront (body_by kind.Run len) b p.0 p.1)
+    (from_ok {E = FrameFault} (body.Run, b) (x, a) e)
     (record { text = []; parts = refl; again = λ behind. refl })
 
-body_front : (k : FrameKind) (len : ℕ) (b : List ℕ) (x : FrameBody) (a : List ℕ) → body_by k len b ≡ Ok (x, a) → ReadsFront (body_by k len) b x a
+body_front : (k : FrameKind) (len : ℕ) (b : List ℕ) (x : FrameBody) (a : List ℕ) → body_by k len b ≡ Ok (x, a)
+    → ReadsFront (body_by k len) b x a
 body_front kind.Token len b x a e = token_front len b x a e
 body_front kind.Message len b x a e = message_front len b x a e
 body_front kind.Steps len b x a e = steps_front b x a e
@@ -87,7 +102,8 @@ body_front kind.Run len b x a e = run_front len b x a e
 header_front : (b : List ℕ) (h : Header) (a : List ℕ) → header_at b ≡ Ok (h, a) → ReadsFront header_at b h a
 unfolding header_at
 header_front b h a e =
-    from_bind (or_fault fault.Truncated (part_at 7 b)) _ (h, a) e (λ (c : List ℕ × List ℕ) (e1 : or_fault fault.Truncated (part_at 7 b) ≡ Ok c) h1.
+    from_bind (or_fault fault.Truncated (part_at 7 b)) _ (h, a) e
+    (λ (c : List ℕ × List ℕ) (e1 : or_fault fault.Truncated (part_at 7 b) ≡ Ok c) h1.
     from_bind (header_of c.0) _ (h, a) h1 (λ (x : Header) (e2 : header_of c.0 ≡ Ok x) (e3 : Ok (x, c.1) ≡ Ok (h, a)).
     let parts = part_front 7 b c.0 c.1 (from_or_fault fault.Truncated (part_at 7 b) c e1) in
     subst (λ (p : Header × List ℕ). ReadsFront header_at b p.0 p.1) (from_ok {E = FrameFault} (x, c.1) (h, a) e3)
@@ -103,7 +119,8 @@ pub frame_front : (b rest : List ℕ) (f : Frame) → frame_at b ≡ Ok (f, rest
 unfolding frame_at
 frame_front b rest f e =
     from_bind (header_at b) _ (f, rest) e (λ (h : Header × List ℕ) (e1 : header_at b ≡ Ok h) h1.
-    from_bind (body_by h.0.kind h.0.len h.1) _ (f, rest) h1 (λ (x : FrameBody × List ℕ) (e2 : body_by h.0.kind h.0.len h.1 ≡ Ok x)
+    from_bind (body_by h.0.kind h.0.len h.1) _ (f, rest) h1
+    (λ (x : FrameBody × List ℕ) (e2 : body_by h.0.kind h.0.len h.1 ≡ Ok x)
     (e3 : Ok (record { connection = h.0.connection; body = x.0 }, x.1) ≡ Ok (f, rest)).
     let value : Frame = record { connection = h.0.connection; body = x.0 } in
     let head = header_front b h.0 h.1 e1 in
@@ -111,8 +128,10 @@ frame_front b rest f e =
     subst (λ (p : Frame × List ℕ). ReadsFront frame_at b p.0 p.1) (from_ok {E = FrameFault} (value, x.1) (f, rest) e3)
     (record {
       text = head.text ++ content.text;
-      parts = head.parts ∙ ap (λ (y : List ℕ). head.text ++ y) content.parts ∙ sym (append_assoc head.text content.text x.1);
-      again = λ behind. ap frame_at (append_assoc head.text content.text behind) ∙ rw (head.again (content.text ++ behind), content.again behind) refl;
+      parts = head.parts ∙ ap (λ (y : List ℕ). head.text ++ y) content.parts
+          ∙ sym (append_assoc head.text content.text x.1);
+      again = λ behind. ap frame_at (append_assoc head.text content.text behind)
+          ∙ rw (head.again (content.text ++ behind), content.again behind) refl;
     })))
 
 -- ---- what is cut short
@@ -123,20 +142,25 @@ short_part n t few = let test : ltb (length t) n ≡ true = lt-ltb _ _ few in rw
 
 -- of whatever is cut short where its first bytes are
 pub cut_fewer : {X : Type 0} (old new : Option (List ℕ)) (n room : ℕ) (read : List ℕ → Reading X FrameFault)
-    → ((t : List ℕ) → part_at n t ≡ Err short → read t ≡ Err fault.Truncated) → room ≡ n → TakesFewer old new room → IsCutShort old new read
+    → ((t : List ℕ) → part_at n t ≡ Err short → read t ≡ Err fault.Truncated) → room ≡ n → TakesFewer old new room
+    → IsCutShort old new read
 cut_fewer old new n room read cuts is few =
-    told_more old new _ _ (λ b a p. let less : length p.0 < n = omega (arith, p.2, is) in (p.0, p.1, cuts p.0 (short_part n p.0 less))) few
+    told_more old new _ _ (λ b a p. let less : length p.0 < n = omega (arith, p.2, is)
+    in (p.0, p.1, cuts p.0 (short_part n p.0 less))) few
 
 -- of whatever is cut short where a part of it is
-pub cut_part : {X Y : Type 0} (old new : Option (List ℕ)) (read : List ℕ → Reading X FrameFault) (whole : List ℕ → Reading Y FrameFault)
-    → ((t : List ℕ) → read t ≡ Err fault.Truncated → whole t ≡ Err fault.Truncated) → IsCutShort old new read → IsCutShort old new whole
+pub cut_part : {X Y : Type 0} (old new : Option (List ℕ)) (read : List ℕ → Reading X FrameFault)
+    (whole : List ℕ → Reading Y FrameFault)
+    → ((t : List ℕ) → read t ≡ Err fault.Truncated → whole t ≡ Err fault.Truncated) → IsCutShort old new read
+    → IsCutShort old new whole
 cut_part old new read whole cuts cut = told_more old new _ _ (λ b a p. (p.0, p.1, cuts p.0 p.2)) cut
 
 pub frame_cut_head : (t : List ℕ) → header_at t ≡ Err fault.Truncated → frame_at t ≡ Err fault.Truncated
 unfolding frame_at
 frame_cut_head t e = rw e refl
 
-frame_cut_body : (b m a taken : List ℕ) (h : Header) → option_header_at b ≡ Ok (Some h, m) → m ≡ taken ++ a → body_by h.kind h.len taken ≡ Err fault.Truncated
+frame_cut_body : (b m a taken : List ℕ) (h : Header) → option_header_at b ≡ Ok (Some h, m) → m ≡ taken ++ a
+    → body_by h.kind h.len taken ≡ Err fault.Truncated
     → (t : List ℕ) × (b ≡ t ++ a) × (frame_at t ≡ Err fault.Truncated)
 unfolding frame_at
 frame_cut_body b m a taken h e parts cut =
@@ -146,12 +170,15 @@ frame_cut_body b m a taken h e parts cut =
       rw (head.again taken, cut) refl,
     )
 
-pub cut_behind : (old middle new : Option (List ℕ)) (h : Header) → BothTold old middle (λ b m. option_header_at b ≡ Ok (Some h, m))
+pub cut_behind : (old middle new : Option (List ℕ)) (h : Header)
+    → BothTold old middle (λ b m. option_header_at b ≡ Ok (Some h, m))
     → IsCutShort middle new (body_by h.kind h.len) → IsCutShort old new frame_at
-cut_behind old middle new h head cut = told_then old middle new _ _ _ (λ b m a e p. frame_cut_body b m a p.0 h e p.1 p.2) head cut
+cut_behind old middle new h head cut = told_then old middle new _ _ _
+    (λ b m a e p. frame_cut_body b m a p.0 h e p.1 p.2) head cut
 
 -- a fault of a part is the same fault of the whole
-pub same_fault : {X Y : Type 0} (d e : FrameFault) → ◌≡◌ {A = Result X FrameFault} (Err d) (Err e) → ◌≡◌ {A = Result Y FrameFault} (Err d) (Err e)
+pub same_fault : {X Y : Type 0} (d e : FrameFault) → ◌≡◌ {A = Result X FrameFault} (Err d) (Err e)
+    → ◌≡◌ {A = Result Y FrameFault} (Err d) (Err e)
 same_fault {X} d e is = ap (λ (f : FrameFault). Err f) (inside is)
   where
     inside : ◌≡◌ {A = Result X FrameFault} (Err d) (Err e) → d ≡ e

@@ -42,7 +42,8 @@ frames_of bytes = frames_within max_frames bytes
 abbrev pub EndsSo : ℕ → ℕ → List ℕ → End → Type 0
 EndsSo n count left Whole = left ≡ []
 EndsSo n count left Over = (count ≡ n) × (left ≡ [] → ⊥)
-EndsSo n count left Bad = (count < n) × ((f : Frame) (text rest : List ℕ) → SpellsFrame f text → left ≡ text ++ rest → ⊥) × (left ≡ [] → ⊥)
+EndsSo n count left Bad = (count < n) × ((f : Frame) (text rest : List ℕ) → SpellsFrame f text → left ≡ text ++ rest
+    → ⊥) × (left ≡ [] → ⊥)
 
 -- The longest list of at most n frames whose encodings, joined, are a prefix of the bytes, with its end.
 pub record AreFrames (n : ℕ) (bytes : List ℕ) (fs : Frames) : Type 0 where

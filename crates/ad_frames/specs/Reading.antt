@@ -1,5 +1,6 @@
 -- How a frame is read, with the fault that stands first. A header is judged once it is there.
-use Rattle.std.specs.Prelude.{◌≡◌, ℕ, nat_eq, nat_lt, nat_le, ◌++◌, ◌&&◌, Bool, List, [], ◌∷◌, Option, None, Some, Result, Ok, Err, if◌then◌else◌}
+use Rattle.std.specs.Prelude.{◌≡◌, ℕ, nat_eq, nat_lt, nat_le, ◌++◌, ◌&&◌, Bool, List, [], ◌∷◌, Option, None, Some}
+use Rattle.std.specs.Prelude.{Result, Ok, Err, if◌then◌else◌}
 use Rattle.ad_bytes.specs.Reading.{Reading, ◌>>=◌, need, or_fault, fault_as}
 use Rattle.ad_bytes.specs.Numbers.{byte_at, be_at, part_at}
 use Rattle.ad_ids.specs.TokenReading.{token_of}
@@ -101,7 +102,8 @@ next_of [] = Ok (None, [])
 next_of (b ∷ bytes) = frame_at (b ∷ bytes) >>= λ f. Ok (Some f.0, f.1)
 
 -- What was read stands before the rest, and is read so whatever follows.
-pub record ReadsFront {X : Type 0} (read : List ℕ → Reading X FrameFault) (bytes : List ℕ) (x : X) (rest : List ℕ) : Type 0 where
+pub record ReadsFront {X : Type 0} (read : List ℕ → Reading X FrameFault) (bytes : List ℕ) (x : X) (rest : List ℕ)
+    : Type 0 where
   pub text : List ℕ
   pub parts : bytes ≡ text ++ rest
   pub again : (behind : List ℕ) → read (text ++ behind) ≡ Ok (x, behind)

@@ -16,7 +16,8 @@ pub(crate) fn fill_within<I: Source>(source: &mut I, into: &mut [u8]) -> Result<
     ensures within { IfOk result (λ n. n ≤ length into.new) }
     ensures filled { IfOk result (λ n. Fills (I.rest source.old) (I.rest source.new) n into.new) }
     ensures told { LeavesAnEnd (I.rest source.old) (I.rest source.new) }
-    ensures cut { IsErr result → TakesFewer (I.rest source.old) (I.rest source.new) (length into.old) }
+    ensures cut { IsErr result → TakesFewer (I.rest source.old) (I.rest source.new)
+        (length into.old) }
     ensures never_falls { I.faults source.old ≤ I.faults source.new }
     ensures cause { IsErr result → HasRisen (I.faults source.old) (I.faults source.new) }
 {

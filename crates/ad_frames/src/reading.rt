@@ -115,10 +115,12 @@ fn steps(bytes: &[u8]) -> Result<FrameBody, FrameFault>
 // The next bytes, so many.
 fn content<I: Source>(alloc: Global, source: &mut I, len: u32) -> Result<Bytes, FrameFault>
     ensures read { ReadsSource (I.rest source.old) (I.rest source.new) result (content_at len) }
-    ensures cut { IsErrOf result SourceFault → IsCutShort (I.rest source.old) (I.rest source.new) (content_at len) }
+    ensures cut { IsErrOf result SourceFault → IsCutShort (I.rest source.old) (I.rest source.new)
+        (content_at len) }
     ensures told { LeavesAnEnd (I.rest source.old) (I.rest source.new) }
     ensures never_falls { I.faults source.old ≤ I.faults source.new }
-    ensures cause { IsErrOf result SourceFault → HasRisen (I.faults source.old) (I.faults source.new) }
+    ensures cause { IsErrOf result SourceFault → HasRisen (I.faults source.old)
+        (I.faults source.new) }
 {
     let mut bytes = vec![in alloc; 0u8; len as usize]?;
     let n = fill_within(source, &mut bytes)?;
@@ -131,10 +133,12 @@ fn content<I: Source>(alloc: Global, source: &mut I, len: u32) -> Result<Bytes, 
 // Four bytes of a number of steps.
 fn next_steps<I: Source>(source: &mut I) -> Result<FrameBody, FrameFault>
     ensures read { ReadsSource (I.rest source.old) (I.rest source.new) result steps_at }
-    ensures cut { IsErrOf result SourceFault → IsCutShort (I.rest source.old) (I.rest source.new) steps_at }
+    ensures cut { IsErrOf result SourceFault → IsCutShort (I.rest source.old) (I.rest source.new)
+        steps_at }
     ensures told { LeavesAnEnd (I.rest source.old) (I.rest source.new) }
     ensures never_falls { I.faults source.old ≤ I.faults source.new }
-    ensures cause { IsErrOf result SourceFault → HasRisen (I.faults source.old) (I.faults source.new) }
+    ensures cause { IsErrOf result SourceFault → HasRisen (I.faults source.old)
+        (I.faults source.new) }
     ensures memory { IsErrOf result MemoryFault → ⊥ }
 {
     let mut bytes = [0u8; 4];
@@ -148,10 +152,12 @@ fn next_steps<I: Source>(source: &mut I) -> Result<FrameBody, FrameFault>
 // The next header, or none at the end of the input.
 fn next_header<I: Source>(source: &mut I) -> Result<Option<Header>, FrameFault>
     ensures read { ReadsSource (I.rest source.old) (I.rest source.new) result option_header_at }
-    ensures cut { IsErrOf result SourceFault → IsCutShort (I.rest source.old) (I.rest source.new) header_at }
+    ensures cut { IsErrOf result SourceFault → IsCutShort (I.rest source.old) (I.rest source.new)
+        header_at }
     ensures told { LeavesAnEnd (I.rest source.old) (I.rest source.new) }
     ensures never_falls { I.faults source.old ≤ I.faults source.new }
-    ensures cause { IsErrOf result SourceFault → HasRisen (I.faults source.old) (I.faults source.new) }
+    ensures cause { IsErrOf result SourceFault → HasRisen (I.faults source.old)
+        (I.faults source.new) }
     ensures memory { IsErrOf result MemoryFault → ⊥ }
 {
     let mut head = [0u8; HEADER];
@@ -168,10 +174,12 @@ fn next_header<I: Source>(source: &mut I) -> Result<Option<Header>, FrameFault>
 
 fn next_token<I: Source>(alloc: Global, source: &mut I, len: u32) -> Result<FrameBody, FrameFault>
     ensures read { ReadsSource (I.rest source.old) (I.rest source.new) result (token_at len) }
-    ensures cut { IsErrOf result SourceFault → IsCutShort (I.rest source.old) (I.rest source.new) (token_at len) }
+    ensures cut { IsErrOf result SourceFault → IsCutShort (I.rest source.old) (I.rest source.new)
+        (token_at len) }
     ensures told { LeavesAnEnd (I.rest source.old) (I.rest source.new) }
     ensures never_falls { I.faults source.old ≤ I.faults source.new }
-    ensures cause { IsErrOf result SourceFault → HasRisen (I.faults source.old) (I.faults source.new) }
+    ensures cause { IsErrOf result SourceFault → HasRisen (I.faults source.old)
+        (I.faults source.new) }
 {
     let content = content(alloc, source, len)?;
     let token = Token::from_bytes(alloc, content.as_slice())?;
@@ -180,10 +188,12 @@ fn next_token<I: Source>(alloc: Global, source: &mut I, len: u32) -> Result<Fram
 
 fn next_message<I: Source>(alloc: Global, source: &mut I, len: u32) -> Result<FrameBody, FrameFault>
     ensures read { ReadsSource (I.rest source.old) (I.rest source.new) result (message_at len) }
-    ensures cut { IsErrOf result SourceFault → IsCutShort (I.rest source.old) (I.rest source.new) (message_at len) }
+    ensures cut { IsErrOf result SourceFault → IsCutShort (I.rest source.old) (I.rest source.new)
+        (message_at len) }
     ensures told { LeavesAnEnd (I.rest source.old) (I.rest source.new) }
     ensures never_falls { I.faults source.old ≤ I.faults source.new }
-    ensures cause { IsErrOf result SourceFault → HasRisen (I.faults source.old) (I.faults source.new) }
+    ensures cause { IsErrOf result SourceFault → HasRisen (I.faults source.old)
+        (I.faults source.new) }
 {
     let content = content(alloc, source, len)?;
     Ok(FrameBody::Message(content))
@@ -197,10 +207,12 @@ fn next_body<I: Source>(
     len: u32,
 ) -> Result<FrameBody, FrameFault>
     ensures read { ReadsSource (I.rest source.old) (I.rest source.new) result (body_by kind len) }
-    ensures cut { IsErrOf result SourceFault → IsCutShort (I.rest source.old) (I.rest source.new) (body_by kind len) }
+    ensures cut { IsErrOf result SourceFault → IsCutShort (I.rest source.old) (I.rest source.new)
+        (body_by kind len) }
     ensures told { LeavesAnEnd (I.rest source.old) (I.rest source.new) }
     ensures never_falls { I.faults source.old ≤ I.faults source.new }
-    ensures cause { IsErrOf result SourceFault → HasRisen (I.faults source.old) (I.faults source.new) }
+    ensures cause { IsErrOf result SourceFault → HasRisen (I.faults source.old)
+        (I.faults source.new) }
 {
     match kind {
         FrameKind::Token => next_token(alloc, source, len),
@@ -227,13 +239,16 @@ pub fn next_frame<I: Source>(alloc: Global, source: &mut I) -> Result<Option<Fra
     // Which frame, or which fault.
     ensures next { ReadsSource (I.rest source.old) (I.rest source.new) result next_of }
     // Where the source failed less than one whole frame was taken.
-    ensures cut { IsErrOf result SourceFault → IsCutShort (I.rest source.old) (I.rest source.new) frame_at }
+    ensures cut { IsErrOf result SourceFault → IsCutShort (I.rest source.old) (I.rest source.new)
+        frame_at }
     // Only of the frame were bytes taken, also at a fault.
     ensures told { LeavesAnEnd (I.rest source.old) (I.rest source.new) }
     ensures never_falls { I.faults source.old ≤ I.faults source.new }
-    ensures cause { IsErrOf result SourceFault → HasRisen (I.faults source.old) (I.faults source.new) }
+    ensures cause { IsErrOf result SourceFault → HasRisen (I.faults source.old)
+        (I.faults source.new) }
     // At the end of the input memory never runs out.
-    ensures memory { IsErrOf result MemoryFault → BothTold (I.rest source.old) (I.rest source.new) (λ before after. before ≡ [] → ⊥) }
+    ensures memory { IsErrOf result MemoryFault → BothTold (I.rest source.old) (I.rest source.new)
+        (λ before after. before ≡ [] → ⊥) }
 {
     match next_header(source)? {
         None => Ok(None),

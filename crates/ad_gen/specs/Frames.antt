@@ -32,7 +32,8 @@ administrator = identity 1 builtin_administrators builtin_administrators ++ (0 �
 -- (S-1-1-0)
 unfoldable pub user_token : List ℕ
 user_token =
-    identity 0 (in_domain 1002) (in_domain 513) ++ ((0 ∷ 2 ∷ []) ++ (sid_bytes (well_known 5 11) ++ sid_bytes (well_known 1 0)))
+    identity 0 (in_domain 1002) (in_domain 513)
+    ++ ((0 ∷ 2 ∷ []) ++ (sid_bytes (well_known 5 11) ++ sid_bytes (well_known 1 0)))
 
 -- An administrator widens the domain's list, propagates it in up to 1,000,000 steps, has the protected objects
 -- protected, and propagates again.

@@ -16,7 +16,8 @@ wider_list = codes "D:(A;CI;GA;;;BA)(A;CI;RPLCLORC;;;AU)(A;CI;RPWP;;;S-1-5-12)"
 
 -- the attribute, and the set of its one value
 unfoldable pub attribute_of_change : List ℕ
-attribute_of_change = sequence (octets (codes "nTSecurityDescriptor") ++ element_bytes 0x31 (octets (descriptor_bytes wider_list)))
+attribute_of_change = sequence (octets (codes "nTSecurityDescriptor")
+    ++ element_bytes 0x31 (octets (descriptor_bytes wider_list)))
 
 -- the change: replace (2) its value
 unfoldable pub changes : List ℕ
@@ -48,11 +49,13 @@ filter = element_bytes 0xa3 (octets (codes "objectClass") ++ octets (codes "user
 
 -- the whole subtree (2), aliases never (0), no limit of entries (0) and of time (0), and values too
 unfoldable pub bounds : List ℕ
-bounds = number_element 10 2 ++ (number_element 10 0 ++ (number_element 2 0 ++ (number_element 2 0 ++ element_bytes 1 (0 ∷ []))))
+bounds = number_element 10 2 ++ (number_element 10 0
+    ++ (number_element 2 0 ++ (number_element 2 0 ++ element_bytes 1 (0 ∷ []))))
 
 -- a SearchRequest (application 3) below the domain, for the attribute cn
 unfoldable pub search_request : List ℕ
-search_request = element_bytes 0x63 (octets (codes "DC=sample") ++ (bounds ++ (filter ++ sequence (octets (codes "cn")))))
+search_request = element_bytes 0x63 (octets (codes "DC=sample")
+    ++ (bounds ++ (filter ++ sequence (octets (codes "cn")))))
 
 -- message 2
 unfoldable pub search_message : List ℕ

@@ -31,7 +31,8 @@ administrators = codes "dn: CN=Administrators,DC=sample\nobjectClass: group\nobj
 unfoldable pub user : ℕ → ℕ → List ℕ
 user i j =
     codes "dn: CN=u" ++ (decimal (i + 1) ++ (codes "-" ++ (decimal j ++ (codes ",OU=o" ++ (decimal (i + 1)
-    ++ (codes ",DC=sample\nobjectClass: user\nobjectSid: S-1-5-21-1-2-3-" ++ (decimal (1000 + 10 * i + j) ++ codes "\n\n")))))))
+    ++ (codes ",DC=sample\nobjectClass: user\nobjectSid: S-1-5-21-1-2-3-"
+    ++ (decimal (1000 + 10 * i + j) ++ codes "\n\n")))))))
 
 -- the first so many users of the unit i + 1
 unfoldable pub users : ℕ → ℕ → List ℕ

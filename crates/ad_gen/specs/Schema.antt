@@ -44,7 +44,8 @@ user_guid = 0xba ∷ 0x7a ∷ 0x96 ∷ 0xbf ∷ 0xe6 ∷ 0x0d ∷ 0xd0 ∷ 0x11 
 
 -- bf967a86-0de6-11d0-a285-00aa003049e2
 abbrev pub computer_guid : List ℕ
-computer_guid = 0x86 ∷ 0x7a ∷ 0x96 ∷ 0xbf ∷ 0xe6 ∷ 0x0d ∷ 0xd0 ∷ 0x11 ∷ 0xa2 ∷ 0x85 ∷ 0 ∷ 0xaa ∷ 0 ∷ 0x30 ∷ 0x49 ∷ 0xe2 ∷ []
+computer_guid = 0x86 ∷ 0x7a ∷ 0x96 ∷ 0xbf ∷ 0xe6 ∷ 0x0d ∷ 0xd0 ∷ 0x11 ∷ 0xa2 ∷ 0x85 ∷ 0 ∷ 0xaa ∷ 0 ∷ 0x30 ∷ 0x49
+    ∷ 0xe2 ∷ []
 
 -- what names and describes every object
 unfoldable pub naming_attributes : List ℕ
@@ -77,8 +78,10 @@ account_attributes =
 -- what is said of persons: two attributes of the set Personal, and a confidential one
 unfoldable pub personal_attributes : List ℕ
 personal_attributes =
-    attribute 17 (codes "telephoneNumber") (codes "2.5.5.12") (codes "isSingleValued: TRUE\nattributeSecurityGUID:: AAAAUAAAAECAAAAAAAAAAQ==\n")
-    ++ (attribute 18 (codes "streetAddress") (codes "2.5.5.12") (codes "isSingleValued: TRUE\nattributeSecurityGUID:: AAAAUAAAAECAAAAAAAAAAQ==\n")
+    attribute 17 (codes "telephoneNumber") (codes "2.5.5.12")
+    (codes "isSingleValued: TRUE\nattributeSecurityGUID:: AAAAUAAAAECAAAAAAAAAAQ==\n")
+    ++ (attribute 18 (codes "streetAddress") (codes "2.5.5.12")
+    (codes "isSingleValued: TRUE\nattributeSecurityGUID:: AAAAUAAAAECAAAAAAAAAAQ==\n")
     ++ attribute 19 (codes "secretCode") (codes "2.5.5.12") (codes "isSingleValued: TRUE\nsearchFlags: 128\n"))
 
 -- the classes of what holds others
@@ -121,16 +124,22 @@ account_classes =
 -- the property set, and the rights to set a password
 unfoldable pub password_rights : List ℕ
 password_rights =
-    right (codes "Personal") (codes "50000000-0000-4000-8000-000000000001") (codes "48") (codes "bf967aba-0de6-11d0-a285-00aa003049e2")
-    ++ (right (codes "User-Change-Password") (codes "ab721a53-1e2f-11d0-9819-00aa0040529b") (codes "256") (codes "bf967aba-0de6-11d0-a285-00aa003049e2")
-    ++ right (codes "User-Force-Change-Password") (codes "00299570-246d-11d0-a768-00aa006e0529") (codes "256") (codes "bf967aba-0de6-11d0-a285-00aa003049e2"))
+    right (codes "Personal") (codes "50000000-0000-4000-8000-000000000001") (codes "48")
+    (codes "bf967aba-0de6-11d0-a285-00aa003049e2")
+    ++ (right (codes "User-Change-Password") (codes "ab721a53-1e2f-11d0-9819-00aa0040529b") (codes "256")
+    (codes "bf967aba-0de6-11d0-a285-00aa003049e2")
+    ++ right (codes "User-Force-Change-Password") (codes "00299570-246d-11d0-a768-00aa006e0529") (codes "256")
+    (codes "bf967aba-0de6-11d0-a285-00aa003049e2"))
 
 -- what may be written where it is right
 unfoldable pub validated_writes : List ℕ
 validated_writes =
-    right (codes "Self-Membership") (codes "bf9679c0-0de6-11d0-a285-00aa003049e2") (codes "8") (codes "c0000000-0000-4000-8000-000000000005")
-    ++ (right (codes "Validated-SPN") (codes "f3a64788-5306-11d1-a9c5-0000f80367c1") (codes "8") (codes "bf967a86-0de6-11d0-a285-00aa003049e2")
-    ++ right (codes "Validated-DNS-Host-Name") (codes "72e39547-7b18-11d1-adef-00c04fd8d5cd") (codes "8") (codes "bf967a86-0de6-11d0-a285-00aa003049e2"))
+    right (codes "Self-Membership") (codes "bf9679c0-0de6-11d0-a285-00aa003049e2") (codes "8")
+    (codes "c0000000-0000-4000-8000-000000000005")
+    ++ (right (codes "Validated-SPN") (codes "f3a64788-5306-11d1-a9c5-0000f80367c1") (codes "8")
+    (codes "bf967a86-0de6-11d0-a285-00aa003049e2")
+    ++ right (codes "Validated-DNS-Host-Name") (codes "72e39547-7b18-11d1-adef-00c04fd8d5cd") (codes "8")
+    (codes "bf967a86-0de6-11d0-a285-00aa003049e2"))
 
 -- all attributes
 unfoldable pub attributes : List ℕ

@@ -22,7 +22,8 @@ pub(crate) fn push_text(out: &mut String, text: &str) -> Result<(), AllocError>
 /// Puts a line of a name and a text at the end.
 #[tactic(auto, unfolding(crate::specs::Lines::line))]
 pub(crate) fn push_line(out: &mut String, name: &str, value: &str) -> Result<(), AllocError>
-    ensures { OnOk result (Puts (string_bytes out.old) (string_bytes out.new) (line name.now value.now)) }
+    ensures { OnOk result (Puts (string_bytes out.old) (string_bytes out.new)
+        (line name.now value.now)) }
 {
     push_text(out, name)?;
     push_text(out, ": ")?;
@@ -33,7 +34,8 @@ pub(crate) fn push_line(out: &mut String, name: &str, value: &str) -> Result<(),
 
 // Puts bytes in base64 at the end.
 fn push_base64(out: &mut String, bytes: &[u8]) -> Result<(), AllocError>
-    ensures { OnOk result (Puts (string_bytes out.old) (string_bytes out.new) (encode_of standard bytes.now)) }
+    ensures { OnOk result (Puts (string_bytes out.old) (string_bytes out.new)
+        (encode_of standard bytes.now)) }
 {
     STANDARD.encode_string(bytes, out)?;
     Ok(())
@@ -42,7 +44,8 @@ fn push_base64(out: &mut String, bytes: &[u8]) -> Result<(), AllocError>
 /// Puts a line of a name and bytes, in base64, at the end.
 #[tactic(auto, unfolding(crate::specs::Lines::encoded_line))]
 pub(crate) fn push_encoded(out: &mut String, name: &str, bytes: &[u8]) -> Result<(), AllocError>
-    ensures { OnOk result (Puts (string_bytes out.old) (string_bytes out.new) (encoded_line name.now bytes.now)) }
+    ensures { OnOk result (Puts (string_bytes out.old) (string_bytes out.new)
+        (encoded_line name.now bytes.now)) }
 {
     push_text(out, name)?;
     push_text(out, ":: ")?;

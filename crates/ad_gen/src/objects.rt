@@ -24,7 +24,8 @@ fn push_number(out: &mut String, number: u32) -> Result<(), AllocError>
 
 // Puts the line of a descriptor, which stands as a text, at the end.
 fn push_sd(alloc: Global, out: &mut String, text: &str) -> Result<(), AllocError>
-    ensures { OnOk result (Puts (string_bytes out.old) (string_bytes out.new) (encoded_line (codes "nTSecurityDescriptor") (descriptor_bytes text.now))) }
+    ensures { OnOk result (Puts (string_bytes out.old) (string_bytes out.new)
+        (encoded_line (codes "nTSecurityDescriptor") (descriptor_bytes text.now))) }
 {
     let sd = descriptor_bytes(alloc, text.as_bytes())?;
     push_encoded(out, "nTSecurityDescriptor", &sd)?;
@@ -33,7 +34,8 @@ fn push_sd(alloc: Global, out: &mut String, text: &str) -> Result<(), AllocError
 
 // The same, and the empty line after a record.
 fn push_descriptor(alloc: Global, out: &mut String, text: &str) -> Result<(), AllocError>
-    ensures { OnOk result (Puts (string_bytes out.old) (string_bytes out.new) (descriptor_line text.now)) }
+    ensures { OnOk result (Puts (string_bytes out.old) (string_bytes out.new)
+        (descriptor_line text.now)) }
 {
     push_sd(alloc, out, text)?;
     push_text(out, "\n")?;

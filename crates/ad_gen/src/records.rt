@@ -21,7 +21,8 @@ fn own_guid(first: u8, number: u8) -> [u8; 16]
 // The line of a record's name.
 #[tactic(auto, unfolding(crate::specs::Schema::named))]
 fn push_named(out: &mut String, name: &str, place: &str) -> Result<(), AllocError>
-    ensures { OnOk result (Puts (string_bytes out.old) (string_bytes out.new) (named name.now place.now)) }
+    ensures { OnOk result (Puts (string_bytes out.old) (string_bytes out.new)
+        (named name.now place.now)) }
 {
     push_text(out, "dn: CN=")?;
     push_text(out, name)?;
@@ -33,7 +34,8 @@ fn push_named(out: &mut String, name: &str, place: &str) -> Result<(), AllocErro
 
 // The line of a GUID of this schema's own.
 fn push_guid(out: &mut String, first: u8, number: u8) -> Result<(), AllocError>
-    ensures { OnOk result (Puts (string_bytes out.old) (string_bytes out.new) (encoded_line (codes "schemaIDGUID") (own_guid first number))) }
+    ensures { OnOk result (Puts (string_bytes out.old) (string_bytes out.new)
+        (encoded_line (codes "schemaIDGUID") (own_guid first number))) }
 {
     push_encoded(out, "schemaIDGUID", &own_guid(first, number))?;
     Ok(())
@@ -41,7 +43,8 @@ fn push_guid(out: &mut String, first: u8, number: u8) -> Result<(), AllocError>
 
 // The other lines of a record, and the empty line after it.
 fn push_others(out: &mut String, others: &str) -> Result<(), AllocError>
-    ensures { OnOk result (Puts (string_bytes out.old) (string_bytes out.new) (others.now ++ 10 ∷ [])) }
+    ensures { OnOk result (Puts (string_bytes out.old) (string_bytes out.new)
+        (others.now ++ 10 ∷ [])) }
 {
     push_text(out, others)?;
     push_text(out, "\n")?;
@@ -51,7 +54,8 @@ fn push_others(out: &mut String, others: &str) -> Result<(), AllocError>
 // How the record of an attribute or a class begins.
 #[tactic(auto, unfolding(crate::specs::Schema::begun))]
 fn push_begun(out: &mut String, name: &str, class: &str) -> Result<(), AllocError>
-    ensures { OnOk result (Puts (string_bytes out.old) (string_bytes out.new) (begun name.now class.now)) }
+    ensures { OnOk result (Puts (string_bytes out.old) (string_bytes out.new)
+        (begun name.now class.now)) }
 {
     push_named(out, name, "Schema")?;
     push_line(out, "objectClass", class)?;
@@ -68,7 +72,8 @@ pub(crate) fn push_attribute(
     syntax: &str,
     others: &str,
 ) -> Result<(), AllocError>
-    ensures { OnOk result (Puts (string_bytes out.old) (string_bytes out.new) (attribute number name.now syntax.now others.now)) }
+    ensures { OnOk result (Puts (string_bytes out.old) (string_bytes out.new)
+        (attribute number name.now syntax.now others.now)) }
 {
     push_begun(out, name, "attributeSchema")?;
     push_line(out, "attributeSyntax", syntax)?;
@@ -85,7 +90,8 @@ pub(crate) fn push_class(
     name: &str,
     others: &str,
 ) -> Result<(), AllocError>
-    ensures { OnOk result (Puts (string_bytes out.old) (string_bytes out.new) (class guid.now name.now others.now)) }
+    ensures { OnOk result (Puts (string_bytes out.old) (string_bytes out.new)
+        (class guid.now name.now others.now)) }
 {
     push_begun(out, name, "classSchema")?;
     push_encoded(out, "schemaIDGUID", guid)?;
@@ -100,7 +106,8 @@ pub(crate) fn push_own_class(
     name: &str,
     others: &str,
 ) -> Result<(), AllocError>
-    ensures { OnOk result (Puts (string_bytes out.old) (string_bytes out.new) (class (own_guid 0xc0 number) name.now others.now)) }
+    ensures { OnOk result (Puts (string_bytes out.old) (string_bytes out.new)
+        (class (own_guid 0xc0 number) name.now others.now)) }
 {
     push_begun(out, name, "classSchema")?;
     push_guid(out, 0xc0, number)?;
@@ -117,7 +124,8 @@ pub(crate) fn push_right(
     accesses: &str,
     applies: &str,
 ) -> Result<(), AllocError>
-    ensures { OnOk result (Puts (string_bytes out.old) (string_bytes out.new) (right name.now guid.now accesses.now applies.now)) }
+    ensures { OnOk result (Puts (string_bytes out.old) (string_bytes out.new)
+        (right name.now guid.now accesses.now applies.now)) }
 {
     push_named(out, name, "Rights")?;
     push_line(out, "objectClass", "controlAccessRight")?;

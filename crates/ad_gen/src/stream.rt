@@ -5,7 +5,8 @@ ghost use Rattle.ad_bytes.specs.Numbers.{be_bytes};
 ghost use Rattle.ad_ids.specs.Sid.{sid_bytes};
 ghost use Rattle.ad_gen.specs.Messages.{modify_message, search_message};
 ghost use Rattle.ad_gen.specs.Puts.{Puts};
-ghost use Rattle.ad_gen.specs.Frames.{frame, identity, builtin_administrators, in_domain, administrator, user_token, changing, whole, frames};
+ghost use Rattle.ad_gen.specs.Frames.{frame, identity, builtin_administrators, in_domain, administrator, user_token};
+ghost use Rattle.ad_gen.specs.Frames.{changing, whole, frames};
 
 use crate::messages::{modify_message, search_message};
 use ad_ids::Sid;
@@ -27,7 +28,8 @@ fn put_bytes(into: &mut Vec<u8>, bytes: &[u8]) -> Result<(), AllocError>
     Ok(())
 }
 
-// Puts a number at the end, in four bytes, the most significant first. Of a number above 2^32 these are the last four.
+// Puts a number at the end, in four bytes, the most significant first. Of a number above 2^32 these are the last
+// four.
 fn put_number(into: &mut Vec<u8>, number: usize) -> Result<(), AllocError>
     ensures { OnOk result (Puts into.old.items into.new.items (be_bytes 4 number)) }
 {
@@ -49,7 +51,11 @@ fn put_frame(into: &mut Vec<u8>, kind: u8, body: &[u8]) -> Result<(), AllocError
 // The identifier with one more sub-authority.
 fn below(sid: Sid, number: u32) -> Sid
     requires { length sid.sub_authorities < 15 }
-    ensures { result ≡ record { authority = sid.authority; sub_authorities = sid.sub_authorities ++ number ∷ [] } }
+    ensures { result ≡ record {
+      authority = sid.authority;
+      sub_authorities = sid.sub_authorities
+          ++ number ∷ [];
+    } }
 {
     match sid.child(number) {
         Some(child) => child,
@@ -85,7 +91,8 @@ fn put_identity(
     user: &Sid,
     primary: &Sid,
 ) -> Result<(), AllocError>
-    ensures { OnOk result (Puts into.old.items into.new.items (identity privileges user.now primary.now)) }
+    ensures { OnOk result (Puts into.old.items into.new.items
+        (identity privileges user.now primary.now)) }
 {
     put_bytes(into, &[1, privileges])?;
     put_sid(into, user)?;

@@ -1,9 +1,11 @@
 -- Records of a text whose lines are neither folded nor comments.
-use Rattle.std.proofs.Common.{◌≡◌, ◌∙◌, ℕ, ◌+◌, ◌==◌, ◌&&◌, Bool, true, false, not, List, [], ◌∷◌, ◌++◌, refl, ap, append_assoc}
+use Rattle.std.proofs.Common.{◌≡◌, ◌∙◌, ℕ, ◌+◌, ◌==◌, ◌&&◌, Bool, true, false, not, List, [], ◌∷◌, ◌++◌, refl, ap}
+use Rattle.std.proofs.Common.{append_assoc}
 use Rattle.std.specs.List.{list_all}
 use Rattle.std.proofs.lemmas.Bool.{and_parts}
 use Rattle.std.proofs.lemmas.List.{append-nil}
-use Rattle.ad_ldif.specs.Lines.{Line, Block, physical, logical, continuation, lines_from, lines_before_empty, blocks, begins_with, is_empty}
+use Rattle.ad_ldif.specs.Lines.{Line, Block, physical, logical, continuation, lines_from, lines_before_empty, blocks}
+use Rattle.ad_ldif.specs.Lines.{begins_with, is_empty}
 use Rattle.ad_ldif.specs.Records.{record_of}
 use Rattle.ad_ldif.specs.Story.{Story, story_of, told}
 
@@ -63,7 +65,8 @@ plain_inner : (line : List ℕ) → is_plain line ≡ true → list_all is_inner
 plain_inner [] plain = absurd cc
 plain_inner (b ∷ line) plain = (and_parts (may_begin b) (is_inner b && list_all is_inner line) plain).1
 
-all_cut : (lines : List (List ℕ)) (rest : List ℕ) → list_all is_plain lines ≡ true → physical (flat lines ++ rest) ≡ lines ++ [] ∷ physical rest
+all_cut : (lines : List (List ℕ)) (rest : List ℕ) → list_all is_plain lines ≡ true → physical (flat lines ++ rest)
+    ≡ lines ++ [] ∷ physical rest
 unfolding physical flat
 all_cut [] rest plain = refl
 all_cut (line ∷ lines) rest plain =
@@ -75,13 +78,16 @@ all_cut (line ∷ lines) rest plain =
 -- ---- logical lines
 
 -- what a plain line begins with, and what it isn't
-begins : (line : List ℕ) → is_plain line ≡ true → (begins_with 32 line ≡ false) × (begins_with 35 line ≡ false) × (is_empty line ≡ false)
+begins : (line : List ℕ) → is_plain line ≡ true → (begins_with 32 line ≡ false) × (begins_with 35 line ≡ false)
+    × (is_empty line ≡ false)
 begins [] plain = absurd cc
 begins (b ∷ line) plain =
-    let p = and_parts (not (b == 32)) (not (b == 35)) (and_parts (may_begin b) (is_inner b && list_all is_inner line) plain).0 in
+    let p = and_parts (not (b == 32)) (not (b == 35))
+    (and_parts (may_begin b) (is_inner b && list_all is_inner line) plain).0 in
     (not_is (b == 32) p.0, not_is (b == 35) p.1, refl)
 
-not_continued : (lines others : List (List ℕ)) → list_all is_plain lines ≡ true → continuation (lines ++ [] ∷ others) ≡ []
+not_continued : (lines others : List (List ℕ)) → list_all is_plain lines ≡ true → continuation (lines ++ [] ∷ others)
+    ≡ []
 unfolding continuation
 not_continued [] others plain = refl
 not_continued (line ∷ lines) others plain =
@@ -94,7 +100,8 @@ ended k others = record { number = k; text = [] } ∷ logical false (k + 1) othe
 
 -- a line that doesn't continue the one before is read the same after it
 closed : (open_line : Bool) (k : ℕ) (line : List ℕ) (lines : List (List ℕ)) → is_plain line ≡ true
-    → logical open_line k (line ∷ lines) ≡ record { number = k; text = line ++ continuation lines } ∷ logical true (k + 1) lines
+    → logical open_line k (line ∷ lines) ≡ record { number = k; text = line ++ continuation lines }
+    ∷ logical true (k + 1) lines
 unfolding logical
 closed true k line lines plain = let p = begins line plain in rw (p.0, p.1, p.2) refl
 closed false k line lines plain = let p = begins line plain in rw (p.1, p.2) refl
@@ -107,8 +114,10 @@ all_logical false k [] others plain = refl
 all_logical open_line k (line ∷ lines) others plain =
     let p = and_parts (is_plain line) (list_all is_plain lines) plain in
     closed open_line k line (lines ++ [] ∷ others) p.0
-    ∙ ap (λ (more : List ℕ). record { number = k; text = line ++ more } ∷ logical true (k + 1) (lines ++ [] ∷ others)) (not_continued lines others p.1)
-    ∙ ap (λ (text : List ℕ). record { number = k; text = text } ∷ logical true (k + 1) (lines ++ [] ∷ others)) (append-nil line)
+    ∙ ap (λ (more : List ℕ). record { number = k; text = line ++ more } ∷ logical true (k + 1) (lines ++ [] ∷ others))
+    (not_continued lines others p.1)
+    ∙ ap (λ (text : List ℕ). record { number = k; text = text } ∷ logical true (k + 1) (lines ++ [] ∷ others))
+    (append-nil line)
     ∙ ap (λ (more : List Line). record { number = k; text = line } ∷ more) (all_logical true (k + 1) lines others p.1)
 
 -- ---- records
@@ -129,7 +138,8 @@ passed k (line ∷ lines) n others plain =
     let p = and_parts (is_plain line) (list_all is_plain lines) plain in
     rw ((begins line p.0).2, passed (k + 1) lines n others p.1) refl
 
-first_block : (k : ℕ) (line : List ℕ) (lines : List (List ℕ)) (n : ℕ) (others : List Line) → is_plain line ≡ true → list_all is_plain lines ≡ true
+first_block : (k : ℕ) (line : List ℕ) (lines : List (List ℕ)) (n : ℕ) (others : List Line) → is_plain line ≡ true
+    → list_all is_plain lines ≡ true
     → blocks false (numbered k (line ∷ lines) ++ record { number = n; text = [] } ∷ others)
     ≡ record { first = record { number = k; text = line }; others = numbered (k + 1) lines } ∷ blocks false others
 unfolding numbered blocks
@@ -145,11 +155,14 @@ abbrev pub next_of : ℕ → List (List ℕ) → ℕ
 next_of k lines = behind (k + 1) lines + 1
 
 -- a record before others
-pub one_more : (k : ℕ) (line : List ℕ) (lines : List (List ℕ)) (rest : List ℕ) → is_plain line ≡ true → list_all is_plain lines ≡ true
-    → story_from k (flat (line ∷ lines) ++ rest) ≡ told (record_of (block_of k line lines)) (story_from (next_of k lines) rest)
+pub one_more : (k : ℕ) (line : List ℕ) (lines : List (List ℕ)) (rest : List ℕ) → is_plain line ≡ true
+    → list_all is_plain lines ≡ true
+    → story_from k (flat (line ∷ lines) ++ rest) ≡ told (record_of (block_of k line lines))
+    (story_from (next_of k lines) rest)
 unfolding story_from story_of lines_from behind
 one_more k line lines rest first plain =
     let all : list_all is_plain (line ∷ lines) ≡ true = rw (first, plain) refl in
     ap (λ (p : List (List ℕ)). story_of (blocks false (logical false k p))) (all_cut (line ∷ lines) rest all)
     ∙ ap (λ (l : List Line). story_of (blocks false l)) (all_logical false k (line ∷ lines) (physical rest) all)
-    ∙ ap story_of (first_block k line lines (behind (k + 1) lines) (logical false (behind (k + 1) lines + 1) (physical rest)) first plain)
+    ∙ ap story_of (first_block k line lines (behind (k + 1) lines)
+    (logical false (behind (k + 1) lines + 1) (physical rest)) first plain)

@@ -113,10 +113,12 @@ rights_read = (
   ),
 )
 
-pub all_of_both : {A : Type 0} (P : A → Type 0) (xs ys : List A) → AllByRecursion P xs → AllByRecursion P ys → AllByRecursion P (xs ++ ys)
+pub all_of_both : {A : Type 0} (P : A → Type 0) (xs ys : List A) → AllByRecursion P xs → AllByRecursion P ys
+    → AllByRecursion P (xs ++ ys)
 all_of_both P [] ys p q = q
 all_of_both P (x ∷ xs) ys p q = (p.0, all_of_both P xs ys p.1 q)
 
 pub base_reads : AllByRecursion Reads base
 unfolding base
-base_reads = all_of_both Reads attributes (classes ++ rights) attributes_read (all_of_both Reads classes rights classes_read rights_read)
+base_reads = all_of_both Reads attributes (classes ++ rights) attributes_read
+    (all_of_both Reads classes rights classes_read rights_read)

@@ -1,5 +1,6 @@
 -- The counters of the sample.
-use Rattle.std.proofs.Common.{◌≡◌, ◌∙◌, inl, inr, ℕ, zero, suc, ◌+◌, ◌*◌, ◌<◌, ◌≤◌, nat_lt, List, [], ◌∷◌, ◌++◌, length, length-append, Option, Some, None, refl, ap, arith}
+use Rattle.std.proofs.Common.{◌≡◌, ◌∙◌, inl, inr, ℕ, zero, suc, ◌+◌, ◌*◌, ◌<◌, ◌≤◌, nat_lt, List, [], ◌∷◌, ◌++◌}
+use Rattle.std.proofs.Common.{length, length-append, Option, Some, None, refl, ap, arith}
 use Rattle.std.specs.Option.{option_and_then}
 use Rattle.std.proofs.lemmas.Bool.{eq-eqb, cases_Bool, ltb-true}
 use Rattle.ad_ids.specs.SidValue.{SidValue}
@@ -7,7 +8,9 @@ use Rattle.ad_gen.specs.Frames.{in_domain, builtin_administrators}
 use Rattle.ad_load_objects.specs.Drafts.{Draft, draft_sid}
 use Rattle.ad_load.specs.Links.{rid_of, above, above_all, next_rid, meta_of}
 use Rattle.ad_gen_laws.specs.Base.{base_schema}
-use Rattle.ad_gen_laws.specs.Drafts.{domain_sid, unit_draft, sd_holder_draft, user_draft, unit_drafts, users_of, user_drafts, upper_drafts, drafts, domain_draft, system_draft, administrators_draft}
+use Rattle.ad_gen_laws.specs.Drafts.{domain_sid, unit_draft, sd_holder_draft, user_draft, unit_drafts, users_of}
+use Rattle.ad_gen_laws.specs.Drafts.{user_drafts, upper_drafts, drafts, domain_draft, system_draft}
+use Rattle.ad_gen_laws.specs.Drafts.{administrators_draft}
 use Rattle.ad_gen_laws.specs.Before.{sample_meta}
 use Rattle.ad_gen_laws.proofs.Sids.{domain_has, system_sid, administrators_have, unit_sid, holder_sid, user_sid}
 use Rattle.ad_gen_laws.proofs.Found.{units_many}
@@ -37,9 +40,11 @@ above_is n rid least = elim (cases_Bool (nat_lt rid n)) [
 
 top_user : (n i j : ℕ) → i < 1000 → j ≤ 10 → n ≤ 1000 + 10 * i + j → top n (user_draft i j ∷ []) ≡ 1000 + 10 * i + j + 1
 unfolding above_all
-top_user n i j few least less = rw (user_sid i j few least) (rw (rid_is (1000 + 10 * i + j)) (above_is n (1000 + 10 * i + j) less))
+top_user n i j few least less = rw (user_sid i j few least)
+    (rw (rid_is (1000 + 10 * i + j)) (above_is n (1000 + 10 * i + j) less))
 
-top_users : (n i j : ℕ) → i < 1000 → suc j ≤ 10 → n ≤ 1001 + 10 * i → top n (users_of i (suc j)) ≡ 1000 + 10 * i + suc j + 1
+top_users : (n i j : ℕ) → i < 1000 → suc j ≤ 10 → n ≤ 1001 + 10 * i → top n (users_of i (suc j)) ≡ 1000 + 10 * i
+    + suc j + 1
 unfolding users_of above_all
 top_users n i zero few least less = top_user n i 1 few (omega arith) (omega (arith, less))
 top_users n i (suc j) few least less =
@@ -58,7 +63,8 @@ top_all (suc n) few =
     ∙ top_users (10 * suc n + 1001) (suc n) 9 few (omega arith) (omega arith)
     ∙ omega arith
 
-one_top : (n : ℕ) (d : Draft) (ds : List Draft) (o : Option SidValue) → draft_sid base_schema d ≡ o → top n (d ∷ ds) ≡ top (above n (option_and_then (rid_of domain_sid) o)) ds
+one_top : (n : ℕ) (d : Draft) (ds : List Draft) (o : Option SidValue) → draft_sid base_schema d ≡ o → top n (d ∷ ds)
+    ≡ top (above n (option_and_then (rid_of domain_sid) o)) ds
 unfolding above_all
 one_top n d ds o e = ap (λ (s : Option SidValue). top (above n (option_and_then (rid_of domain_sid) s)) ds) e
 
@@ -73,7 +79,8 @@ top_upper n =
     ∙ ap (λ (m : ℕ). top m (sd_holder_draft ∷ [])) (top_units 1000 n)
     ∙ one_top 1000 sd_holder_draft [] None holder_sid
 
-rid_next : (n : ℕ) → n < 1000 → next_rid base_schema (draft_sid base_schema domain_draft) (drafts (suc n)) ≡ 10 * suc n + 1001
+rid_next : (n : ℕ) → n < 1000 → next_rid base_schema (draft_sid base_schema domain_draft) (drafts (suc n))
+    ≡ 10 * suc n + 1001
 unfolding next_rid
 rid_next n few =
     rw domain_has (top_both 1000 (upper_drafts (suc n)) (user_drafts (suc n)) ∙ rw (top_upper (suc n)) (top_all n few))
@@ -81,12 +88,14 @@ rid_next n few =
 users_count : (i j : ℕ) → length (users_of i j) ≡ j
 unfolding users_of
 users_count i zero = refl
-users_count i (suc j) = length-append (users_of i j) (user_draft i (suc j) ∷ []) ∙ (let e = users_count i j in omega (arith, e))
+users_count i (suc j) = length-append (users_of i j) (user_draft i (suc j) ∷ [])
+    ∙ (let e = users_count i j in omega (arith, e))
 
 all_count : (n : ℕ) → length (user_drafts n) ≡ 10 * n
 unfolding user_drafts
 all_count zero = refl
-all_count (suc n) = length-append (user_drafts n) (users_of n 10) ∙ (let e = all_count n in let f = users_count n 10 in omega (arith, e, f))
+all_count (suc n) = length-append (user_drafts n) (users_of n 10)
+    ∙ (let e = all_count n in let f = users_count n 10 in omega (arith, e, f))
 
 pub drafts_count : (n : ℕ) → length (drafts n) ≡ 11 * n + 4
 drafts_count n =

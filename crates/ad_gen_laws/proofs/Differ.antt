@@ -53,7 +53,8 @@ fifth = refl
 
 parted : (rid : ℕ) → user_text_of rid ≡ codes "S-1-" ++ codes "5" ++ others_text (21 ∷ 1 ∷ 2 ∷ 3 ∷ rid ∷ [])
 parted rid =
-    rw (one, two, three, twenty_one) (ap (λ (t : List ℕ). codes "S-1-5-21-1-2-3-" ++ t) (sym (append-nil (decimal rid))))
+    rw (one, two, three, twenty_one) (ap (λ (t : List ℕ). codes "S-1-5-21-1-2-3-" ++ t)
+    (sym (append-nil (decimal rid))))
 
 pub sid_is : (rid : ℕ) → rid < 2 ^ 32 → IsSid (in_domain rid)
 sid_is rid small = record {
@@ -101,7 +102,8 @@ unfolded : (v w : List ℕ) → folded v ≡ folded w → default_case_fold (cha
 unfolding folded
 unfolded v w e = encodes_same (default_case_fold (chars v)) (default_case_fold (chars w)) e
 
-pub words_fold : (v w : List ℕ) → is_word v ≡ true → is_word w ≡ true → folded v ≡ folded w → map to_ascii_lowercase v ≡ map to_ascii_lowercase w
+pub words_fold : (v w : List ℕ) → is_word v ≡ true → is_word w ≡ true → folded v ≡ folded w → map to_ascii_lowercase v
+    ≡ map to_ascii_lowercase w
 words_fold v w p q e = sym (word_folds v p) ∙ unfolded v w e ∙ word_folds w q
 
 cancelled : (d x y : List ℕ) → d ++ x ≡ d ++ y → x ≡ y
@@ -111,7 +113,8 @@ cancelled (b ∷ d) x y e = cancelled d x y (ap (drop 1) e)
 pub units_differ : (i k : ℕ) → i < 1000 → k < 1000 → folded (unit_name i) ≡ folded (unit_name k) → i ≡ k
 units_differ i k few also e =
     let lower = ap (drop 1) (words_fold (unit_name i) (unit_name k) (unit_word i few) (unit_word k also) e) in
-    let same : decimal (i + 1) ≡ decimal (k + 1) = sym (lower_decimal (i + 1) (omega (arith, few))) ∙ lower ∙ lower_decimal (k + 1) (omega (arith, also)) in
+    let same : decimal (i + 1) ≡ decimal (k + 1) = sym (lower_decimal (i + 1) (omega (arith, few))) ∙ lower
+    ∙ lower_decimal (k + 1) (omega (arith, also)) in
     let n = decimal_injective (i + 1) (k + 1) (omega (arith, few)) (omega (arith, also)) same in
     omega (arith, n)
 
@@ -119,8 +122,11 @@ pub users_differ : (i j k : ℕ) → i < 1000 → j ≤ 10 → k ≤ 10 → fold
 users_differ i j k few least also e =
     let lower = words_fold (user_name i j) (user_name i k) (user_word i j few least) (user_word i k few also) e in
     let d : List ℕ = map to_ascii_lowercase (decimal (i + 1)) in
-    let behind : d ++ map to_ascii_lowercase (codes "-" ++ decimal j) ≡ d ++ map to_ascii_lowercase (codes "-" ++ decimal k) =
-    sym (map-append to_ascii_lowercase (decimal (i + 1)) (codes "-" ++ decimal j)) ∙ ap (drop 1) lower ∙ map-append to_ascii_lowercase (decimal (i + 1)) (codes "-" ++ decimal k) in
+    let behind : d ++ map to_ascii_lowercase (codes "-" ++ decimal j) ≡ d ++ map to_ascii_lowercase
+    (codes "-" ++ decimal k) =
+    sym (map-append to_ascii_lowercase (decimal (i + 1)) (codes "-" ++ decimal j)) ∙ ap (drop 1) lower
+    ∙ map-append to_ascii_lowercase (decimal (i + 1)) (codes "-" ++ decimal k) in
     let ends = ap (drop 1) (cancelled d _ _ behind) in
-    let same : decimal j ≡ decimal k = sym (lower_decimal j (omega (arith, least))) ∙ ends ∙ lower_decimal k (omega (arith, also)) in
+    let same : decimal j ≡ decimal k = sym (lower_decimal j (omega (arith, least))) ∙ ends
+    ∙ lower_decimal k (omega (arith, also)) in
     decimal_injective j k (omega (arith, least)) (omega (arith, also)) same

@@ -1,5 +1,6 @@
 -- Where the unit of a user stands, and that no user's name is taken.
-use Rattle.std.proofs.Common.{◌≡◌, ◌≢◌, ◌∙◌, inl, inr, ℕ, zero, suc, ◌+◌, ◌<◌, ◌≤◌, ◌||◌, Bool, true, false, nat_lt, Some, refl, ap, arith}
+use Rattle.std.proofs.Common.{◌≡◌, ◌≢◌, ◌∙◌, inl, inr, ℕ, zero, suc, ◌+◌, ◌<◌, ◌≤◌, ◌||◌, Bool, true, false, nat_lt}
+use Rattle.std.proofs.Common.{Some, refl, ap, arith}
 use Rattle.std.proofs.Common.{List, [], ◌∷◌, ◌++◌, length, append_assoc, length-append}
 use Rattle.std.specs.List.{list_any, position}
 use Rattle.std.specs.Prelude.{option_map}
@@ -9,13 +10,15 @@ use Rattle.ad_schema_classes.proofs.IndexLemmas.{position_here, position_next}
 use Rattle.ad_load_objects.specs.Drafts.{Draft, same_names, has_name, number_named}
 use Rattle.ad_load_objects.specs.Objects.{is_sibling, is_taken}
 use Rattle.ad_gen_laws.specs.Sample.{unit_rdns, user_name}
-use Rattle.ad_gen_laws.specs.Drafts.{unit_draft, unit_drafts, user_draft, users_of, user_drafts, first_drafts, upper_drafts, sd_holder_draft, domain_draft, system_draft, administrators_draft}
+use Rattle.ad_gen_laws.specs.Drafts.{unit_draft, unit_drafts, user_draft, users_of, user_drafts, first_drafts}
+use Rattle.ad_gen_laws.specs.Drafts.{upper_drafts, sd_holder_draft, domain_draft, system_draft, administrators_draft}
 use Rattle.ad_gen_laws.proofs.Differ.{users_differ}
 use Rattle.ad_gen_laws.proofs.Free.{apart, names_same, units_apart}
 
 -- ---- the first that passes, after those that don't
 
-position_behind : {A : Type 0} (p : A → Bool) (xs : List A) (y : A) (zs : List A) → list_any p xs ≡ false → p y ≡ true → position p (xs ++ y ∷ zs) ≡ Some (length xs)
+position_behind : {A : Type 0} (p : A → Bool) (xs : List A) (y : A) (zs : List A) → list_any p xs ≡ false → p y ≡ true
+    → position p (xs ++ y ∷ zs) ≡ Some (length xs)
 position_behind p [] y zs none is = position_here p y zs is
 position_behind p (x ∷ xs) y zs none is =
     let parts = both_false (p x) (list_any p xs) none in
@@ -43,7 +46,8 @@ no_earlier i (suc k) few least =
     list_any-append (has_name (unit_rdns i)) (unit_drafts k) (unit_draft k ∷ [])
     ∙ rw (no_earlier i k few (omega (arith, least)), other_unit i k few (omega (arith, least))) refl
 
-unit_place : (n i : ℕ) (more : List Draft) → i < 1000 → i < n → position (has_name (unit_rdns i)) (unit_drafts n ++ more) ≡ Some i
+unit_place : (n i : ℕ) (more : List Draft) → i < 1000 → i < n → position (has_name (unit_rdns i))
+    (unit_drafts n ++ more) ≡ Some i
 unfolding unit_drafts
 unit_place zero i more few less = absurd (omega (arith, less))
 unit_place (suc n) i more few less =
@@ -53,7 +57,8 @@ unit_place (suc n) i more few less =
       | inr over ↦
           let same : n ≡ i = (let at_least = ltb-false i n over in omega (arith, at_least, less)) in
           ap (λ (k : ℕ). position (has_name (unit_rdns i)) (unit_drafts k ++ unit_draft k ∷ more)) same
-          ∙ position_behind (has_name (unit_rdns i)) (unit_drafts i) (unit_draft i) more (no_earlier i i few (omega arith)) (names_same (unit_rdns i))
+          ∙ position_behind (has_name (unit_rdns i)) (unit_drafts i) (unit_draft i) more
+          (no_earlier i i few (omega arith)) (names_same (unit_rdns i))
           ∙ ap Some (units_many i)
     ]
 
@@ -69,7 +74,8 @@ no_administrators : (i : ℕ) → has_name (unit_rdns i) administrators_draft �
 unfolding same_names
 no_administrators i = refl
 
-pub unit_found : (n i : ℕ) (more : List Draft) → i < 1000 → i < n → number_named (first_drafts ++ (unit_drafts n ++ more)) (unit_rdns i) ≡ Some (i + 4)
+pub unit_found : (n i : ℕ) (more : List Draft) → i < 1000 → i < n
+    → number_named (first_drafts ++ (unit_drafts n ++ more)) (unit_rdns i) ≡ Some (i + 4)
 unfolding number_named
 unit_found n i more few less =
     let named = has_name (unit_rdns i) in
@@ -108,19 +114,27 @@ none_in_others p (suc n) name more =
     list_any-append (is_sibling p name) (user_drafts n) (users_of n 10)
     ∙ rw (none_in_others p n name (omega (arith, more)), none_elsewhere p n 10 name (λ e. omega (arith, e, more))) refl
 
-none_in_unit : (i j k : ℕ) → i < 1000 → j ≤ 10 → k < j → list_any (is_sibling (i + 4) (user_name i j)) (users_of i k) ≡ false
+none_in_unit : (i j k : ℕ) → i < 1000 → j ≤ 10 → k < j → list_any (is_sibling (i + 4) (user_name i j)) (users_of i k)
+    ≡ false
 unfolding users_of
 none_in_unit i j zero few least less = refl
 none_in_unit i j (suc k) few least less =
-    let other = apart (user_name i (suc k)) (user_name i j) (λ e. let same = users_differ i (suc k) j few (omega (arith, least, less)) least e in omega (arith, less, same)) in
+    let other = apart (user_name i (suc k)) (user_name i j)
+    (λ e. let same = users_differ i (suc k) j few (omega (arith, least, less)) least e
+    in omega (arith, less, same)) in
     list_any-append (is_sibling (i + 4) (user_name i j)) (users_of i k) (user_draft i (suc k) ∷ [])
     ∙ rw (none_in_unit i j k few least (omega (arith, less)), other, eq-eqb (i + 4) (i + 4) refl) refl
 
-pub user_free : (n i j : ℕ) → i < 1000 → j < 10 → is_taken (upper_drafts n ++ (user_drafts i ++ users_of i j)) (i + 4) (user_name i (suc j)) ≡ false
+pub user_free : (n i j : ℕ) → i < 1000 → j < 10 → is_taken (upper_drafts n ++ (user_drafts i ++ users_of i j)) (i + 4)
+    (user_name i (suc j)) ≡ false
 unfolding is_taken
 user_free n i j few least =
     let name = user_name i (suc j) in
     list_any-append (is_sibling (i + 4) name) (upper_drafts n) (user_drafts i ++ users_of i j)
     ∙ rw (none_above (i + 4) n name (omega arith))
     (list_any-append (is_sibling (i + 4) name) (user_drafts i) (users_of i j)
-    ∙ rw (none_in_others (i + 4) i name (omega arith), none_in_unit i (suc j) j few (omega (arith, least)) (omega arith)) refl)
+    ∙ rw (
+      none_in_others (i + 4) i name (omega arith),
+      none_in_unit i (suc j) j few (omega (arith, least))
+          (omega arith),
+    ) refl)

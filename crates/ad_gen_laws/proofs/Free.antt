@@ -1,5 +1,6 @@
 -- Where the parents of the sample's objects stand, and that no name is taken.
-use Rattle.std.proofs.Common.{◌≡◌, ◌∙◌, inl, inr, ℕ, zero, suc, ◌+◌, ◌<◌, ◌≤◌, ◌&&◌, Bool, true, false, Some, refl, ap, arith, codes}
+use Rattle.std.proofs.Common.{◌≡◌, ◌∙◌, inl, inr, ℕ, zero, suc, ◌+◌, ◌<◌, ◌≤◌, ◌&&◌, Bool, true, false, Some, refl}
+use Rattle.std.proofs.Common.{ap, arith, codes}
 use Rattle.std.proofs.Common.{List, [], ◌∷◌, ◌++◌}
 use Rattle.std.specs.List.{list_any}
 use Rattle.std.specs.Str.{bytes_eq, str_to_ascii_uppercase}
@@ -30,7 +31,8 @@ pub bytes_same : (v : List ℕ) → bytes_eq v v ≡ true
 bytes_same v = (bytes_eq-Decides v v).1 refl
 
 rdn_same : (r : Rdn) → same_rdn r r ≡ true
-rdn_same r = rw (bytes_same (folded r.value)) (ap (λ (b : Bool). b && true) (bytes_same (str_to_ascii_uppercase r.kind)))
+rdn_same r = rw (bytes_same (folded r.value))
+    (ap (λ (b : Bool). b && true) (bytes_same (str_to_ascii_uppercase r.kind)))
 
 pub names_same : (rdns : List Rdn) → same_names rdns rdns ≡ true
 unfolding same_names
@@ -38,17 +40,22 @@ names_same [] = refl
 names_same (r ∷ rdns) = rw (rdn_same r, names_same rdns) refl
 
 pub units_apart : (i k : ℕ) → i < 1000 → k < i → same_folded (unit_name k) (unit_name i) ≡ false
-units_apart i k few less = apart (unit_name k) (unit_name i) (λ e. let same = units_differ k i (omega (arith, few, less)) few e in omega (arith, less, same))
+units_apart i k few less = apart (unit_name k) (unit_name i)
+    (λ e. let same = units_differ k i (omega (arith, few, less)) few e in omega (arith, less, same))
 
 abbrev pub first_of : List ℕ → ℕ
 first_of [] = 0
 first_of (b ∷ bytes) = b
 
 system_apart : (i : ℕ) → i < 1000 → same_folded (codes "System") (unit_name i) ≡ false
-system_apart i few = apart (codes "System") (unit_name i) (λ e. let first : 115 ≡ 111 = ap first_of (words_fold (codes "System") (unit_name i) refl (unit_word i few) e) in omega (arith, first))
+system_apart i few = apart (codes "System") (unit_name i)
+    (λ e. let first : 115 ≡ 111 = ap first_of (words_fold (codes "System") (unit_name i) refl (unit_word i few) e)
+    in omega (arith, first))
 
 administrators_apart : (i : ℕ) → i < 1000 → same_folded (codes "Administrators") (unit_name i) ≡ false
-administrators_apart i few = apart (codes "Administrators") (unit_name i) (λ e. let first : 97 ≡ 111 = ap first_of (words_fold (codes "Administrators") (unit_name i) refl (unit_word i few) e) in omega (arith, first))
+administrators_apart i few = apart (codes "Administrators") (unit_name i)
+    (λ e. let first : 97 ≡ 111 = ap first_of (words_fold (codes "Administrators") (unit_name i) refl (unit_word i few)
+    e) in omega (arith, first))
 
 -- ---- units
 
@@ -66,18 +73,22 @@ unit_free i few = rw (system_apart i few, administrators_apart i few, no_unit_na
 -- the root stands first
 pub below_root : (more : List Draft) (r : Rdn) → parent_of (domain_draft ∷ more) (r ∷ root_rdns) ≡ Some 1
 unfolding parent_of number_named
-below_root more r = ap (option_map (λ place. place + 1)) (position_here (has_name root_rdns) domain_draft more (names_same root_rdns))
+below_root more r = ap (option_map (λ place. place + 1))
+    (position_here (has_name root_rdns) domain_draft more (names_same root_rdns))
 
 pub administrators_free : is_taken (domain_draft ∷ system_draft ∷ []) 1 (codes "Administrators") ≡ false
 unfolding is_taken
-administrators_free = rw (apart (codes "System") (codes "Administrators") (λ e. let first : 115 ≡ 97 = ap first_of (words_fold (codes "System") (codes "Administrators") refl refl e) in omega (arith, first))) refl
+administrators_free = rw (apart (codes "System") (codes "Administrators")
+    (λ e. let first : 115 ≡ 97 = ap first_of (words_fold (codes "System") (codes "Administrators") refl refl e)
+    in omega (arith, first))) refl
 
 -- System stands after it
 no_root : has_name system_rdns domain_draft ≡ false
 unfolding same_names
 no_root = refl
 
-pub below_system : (more : List Draft) (r : Rdn) → parent_of (domain_draft ∷ system_draft ∷ more) (r ∷ system_rdns) ≡ Some 2
+pub below_system : (more : List Draft) (r : Rdn) → parent_of (domain_draft ∷ system_draft ∷ more) (r ∷ system_rdns)
+    ≡ Some 2
 unfolding parent_of number_named
 below_system more r = ap (option_map (λ place. place + 1))
     (position_next (has_name system_rdns) domain_draft (system_draft ∷ more) no_root

@@ -1,5 +1,6 @@
 -- The text of the sample isn't too long.
-use Rattle.std.proofs.Common.{◌≡◌, ℕ, zero, suc, ◌+◌, ◌*◌, ◌<◌, ◌≤◌, true, nat_le, List, [], ◌∷◌, ◌++◌, length, length-append, refl, arith, codes}
+use Rattle.std.proofs.Common.{◌≡◌, ℕ, zero, suc, ◌+◌, ◌*◌, ◌<◌, ◌≤◌, true, nat_le, List, [], ◌∷◌, ◌++◌, length}
+use Rattle.std.proofs.Common.{length-append, refl, arith, codes}
 use Rattle.std.proofs.Common.{decimal}
 use Rattle.std.proofs.lemmas.Bool.{le-leb, leb-true}
 use Rattle.base64.proofs.OnLiterals.{base64_on_literals}
@@ -7,7 +8,8 @@ use Rattle.ad_load_records.specs.Records.{max_text}
 use Rattle.ad_gen.specs.Descriptor.{descriptor_bytes}
 use Rattle.ad_gen.specs.Ldif.{ldif}
 use Rattle.ad_gen.specs.Lines.{encoded_line}
-use Rattle.ad_gen.specs.Objects.{domain_descriptor, protected_descriptor, descriptor_line, domain, containers, administrators, unit, user, users}
+use Rattle.ad_gen.specs.Objects.{domain_descriptor, protected_descriptor, descriptor_line, domain, containers}
+use Rattle.ad_gen.specs.Objects.{administrators, unit, user, users}
 use Rattle.ad_gen.specs.Objects.{units}
 use Rattle.ad_gen.specs.Schema.{schema}
 use Rattle.ad_gen_laws.proofs.Descriptors.{domain_bytes, protected_bytes, domain_is, protected_is}
@@ -32,13 +34,15 @@ protected_line = refl
 domain_few : length domain ≤ 2000
 unfolding domain descriptor_line
 domain_few =
-    let d : length (encoded_line (codes "nTSecurityDescriptor") (descriptor_bytes domain_descriptor) ++ 10 ∷ []) ≤ 1000 = rw domain_is (leb-true _ _ domain_line) in
+    let d : length (encoded_line (codes "nTSecurityDescriptor") (descriptor_bytes domain_descriptor) ++ 10 ∷ [])
+    ≤ 1000 = rw domain_is (leb-true _ _ domain_line) in
     omega (arith, d)
 
 containers_few : length containers ≤ 2000
 unfolding containers descriptor_line
 containers_few =
-    let d : length (encoded_line (codes "nTSecurityDescriptor") (descriptor_bytes protected_descriptor) ++ 10 ∷ []) ≤ 1000 = rw protected_is (leb-true _ _ protected_line) in
+    let d : length (encoded_line (codes "nTSecurityDescriptor") (descriptor_bytes protected_descriptor) ++ 10 ∷ [])
+    ≤ 1000 = rw protected_is (leb-true _ _ protected_line) in
     omega (arith, d)
 
 unit_few : (i : ℕ) → i < 1000 → length (unit i) ≤ 100
@@ -71,7 +75,13 @@ users_few : (i j : ℕ) → i < 1000 → j ≤ 10 → length (users i j) ≤ 200
 unfolding users
 users_few i zero few least = omega arith
 users_few i (suc j) few least =
-    omega (arith, users_few i j few (omega (arith, least)), user_few i (suc j) few least, length-append (users i j) (user i (suc j)))
+    omega (
+      arith,
+      users_few i j few (omega (arith, least)),
+      user_few i (suc j) few least,
+      length-append (users i j)
+          (user i (suc j)),
+    )
 
 units_few : (n : ℕ) → n ≤ 1000 → length (units n) ≤ 2100 * n
 unfolding units

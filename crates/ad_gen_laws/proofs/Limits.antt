@@ -1,5 +1,6 @@
 -- The sample is within the limits.
-use Rattle.std.proofs.Common.{◌≡◌, ◌∙◌, ℕ, zero, suc, ◌+◌, ◌*◌, ◌<◌, ◌≤◌, true, nat_le, List, [], ◌∷◌, ◌++◌, length, length-append, Ok, refl, arith}
+use Rattle.std.proofs.Common.{◌≡◌, ◌∙◌, ℕ, zero, suc, ◌+◌, ◌*◌, ◌<◌, ◌≤◌, true, nat_le, List, [], ◌∷◌, ◌++◌, length}
+use Rattle.std.proofs.Common.{length-append, Ok, refl, arith}
 use Rattle.std.specs.List.{AllByRecursion, list_all}
 use Rattle.std.proofs.lemmas.Bool.{le-leb}
 use Rattle.std.proofs.lemmas.List.Folds.{list_all-append}
@@ -14,8 +15,10 @@ use Rattle.ad_dir_model.specs.Object.{Object}
 use Rattle.ad_dir_model.specs.Weight.{values_weight, all_held_weight, object_weight, objects_weight, weight}
 use Rattle.ad_load.specs.Links.{is_shallow, is_within_limits, unsettled, linked}
 use Rattle.ad_gen_laws.specs.Base.{attributes, classes, rights, base_schema}
-use Rattle.ad_gen_laws.specs.Drafts.{unit_draft, sd_holder_draft, user_draft, unit_drafts, users_of, user_drafts, upper_drafts, drafts}
-use Rattle.ad_gen_laws.specs.Made.{made_unit, sd_holder_object, made_user, made_units, made_users_of, made_users, first_objects, upper_objects, made_objects}
+use Rattle.ad_gen_laws.specs.Drafts.{unit_draft, sd_holder_draft, user_draft, unit_drafts, users_of, user_drafts}
+use Rattle.ad_gen_laws.specs.Drafts.{upper_drafts, drafts}
+use Rattle.ad_gen_laws.specs.Made.{made_unit, sd_holder_object, made_user, made_units, made_users_of, made_users}
+use Rattle.ad_gen_laws.specs.Made.{first_objects, upper_objects, made_objects}
 use Rattle.ad_gen_laws.specs.Before.{unsettled_sample}
 use Rattle.ad_gen_laws.proofs.Closed.{all_of_both}
 use Rattle.ad_gen_laws.proofs.Units.{unit_name_few, user_name_few}
@@ -39,7 +42,8 @@ unfolding object_weight all_held_weight
 unit_weight i = refl
 
 user_weight : (n i j : ℕ) → object_weight base_schema (made_user n i j) ≡ 24 + length (made_user n i j).name + 48
-unfolding object_weight all_held_weight values_weight sid_bytes be_bytes le_bytes attr_named names_of lines_of place_of same_name value_of attributes classes rights base_schema
+unfolding object_weight all_held_weight values_weight sid_bytes be_bytes le_bytes attr_named names_of lines_of
+    place_of same_name value_of attributes classes rights base_schema
 user_weight n i j = refl
 
 units_light : (i : ℕ) → i ≤ 1000 → AllByRecursion IsLight (made_units i)
@@ -48,7 +52,8 @@ units_light zero few = tt
 units_light (suc i) few =
     let name = unit_name_few i (omega (arith, few)) in
     let w = unit_weight i in
-    all_of_both IsLight (made_units i) (made_unit i ∷ []) (units_light i (omega (arith, few))) (omega (arith, name, w), tt)
+    all_of_both IsLight (made_units i) (made_unit i ∷ []) (units_light i (omega (arith, few)))
+    (omega (arith, name, w), tt)
 
 users_light : (n i j : ℕ) → i < 1000 → j ≤ 10 → AllByRecursion IsLight (made_users_of n i j)
 unfolding made_users_of
@@ -56,15 +61,18 @@ users_light n i zero few least = tt
 users_light n i (suc j) few least =
     let name = user_name_few i (suc j) few least in
     let w = user_weight n i (suc j) in
-    all_of_both IsLight (made_users_of n i j) (made_user n i (suc j) ∷ []) (users_light n i j few (omega (arith, least))) (omega (arith, name, w), tt)
+    all_of_both IsLight (made_users_of n i j) (made_user n i (suc j) ∷ [])
+    (users_light n i j few (omega (arith, least))) (omega (arith, name, w), tt)
 
 all_light : (n i : ℕ) → i ≤ 1000 → AllByRecursion IsLight (made_users n i)
 unfolding made_users
 all_light n zero few = tt
-all_light n (suc i) few = all_of_both IsLight (made_users n i) (made_users_of n i 10) (all_light n i (omega (arith, few))) (users_light n i 10 (omega (arith, few)) (omega arith))
+all_light n (suc i) few = all_of_both IsLight (made_users n i) (made_users_of n i 10)
+    (all_light n i (omega (arith, few))) (users_light n i 10 (omega (arith, few)) (omega arith))
 
 first_light : (n : ℕ) → AllByRecursion IsLight (first_objects n)
-unfolding object_weight all_held_weight values_weight sid_bytes be_bytes le_bytes attr_named names_of lines_of place_of same_name value_of attributes classes rights base_schema
+unfolding object_weight all_held_weight values_weight sid_bytes be_bytes le_bytes attr_named names_of lines_of
+    place_of same_name value_of attributes classes rights base_schema
 first_light n = (omega arith, (omega arith, (omega arith, tt)))
 
 holder_light : (n : ℕ) → IsLight (sd_holder_object n)
@@ -79,31 +87,37 @@ objects_light n few =
     (all_light n n few)
 
 objects_many : (n : ℕ) → length (made_objects n) ≡ 11 * n + 4
-objects_many n = let a = upper_many n in let b = all_many n n in let c = length-append (upper_objects n) (made_users n n) in omega (arith, a, b, c)
+objects_many n = let a = upper_many n in let b = all_many n n in let c = length-append (upper_objects n)
+    (made_users n n) in omega (arith, a, b, c)
 
 -- ---- depth
 
 units_shallow : (n i : ℕ) → list_all (is_shallow (drafts n)) (unit_drafts i) ≡ true
 unfolding unit_drafts max_depth
 units_shallow n zero = refl
-units_shallow n (suc i) = list_all-append (is_shallow (drafts n)) (unit_drafts i) (unit_draft i ∷ []) ∙ rw (units_shallow n i) refl
+units_shallow n (suc i) = list_all-append (is_shallow (drafts n)) (unit_drafts i) (unit_draft i ∷ [])
+    ∙ rw (units_shallow n i) refl
 
 users_shallow : (n i j : ℕ) → list_all (is_shallow (drafts n)) (users_of i j) ≡ true
 unfolding users_of max_depth
 users_shallow n i zero = refl
-users_shallow n i (suc j) = list_all-append (is_shallow (drafts n)) (users_of i j) (user_draft i (suc j) ∷ []) ∙ rw (users_shallow n i j) refl
+users_shallow n i (suc j) = list_all-append (is_shallow (drafts n)) (users_of i j) (user_draft i (suc j) ∷ [])
+    ∙ rw (users_shallow n i j) refl
 
 all_shallow : (n i : ℕ) → list_all (is_shallow (drafts n)) (user_drafts i) ≡ true
 unfolding user_drafts
 all_shallow n zero = refl
-all_shallow n (suc i) = list_all-append (is_shallow (drafts n)) (user_drafts i) (users_of i 10) ∙ rw (all_shallow n i, users_shallow n i 10) refl
+all_shallow n (suc i) = list_all-append (is_shallow (drafts n)) (user_drafts i) (users_of i 10)
+    ∙ rw (all_shallow n i, users_shallow n i 10) refl
 
 upper_shallow : (n : ℕ) → list_all (is_shallow (drafts n)) (upper_drafts n) ≡ true
 unfolding max_depth
-upper_shallow n = list_all-append (is_shallow (drafts n)) (unit_drafts n) (sd_holder_draft ∷ []) ∙ rw (units_shallow n n) refl
+upper_shallow n = list_all-append (is_shallow (drafts n)) (unit_drafts n) (sd_holder_draft ∷ [])
+    ∙ rw (units_shallow n n) refl
 
 drafts_shallow : (n : ℕ) → list_all (is_shallow (drafts n)) (drafts n) ≡ true
-drafts_shallow n = list_all-append (is_shallow (drafts n)) (upper_drafts n) (user_drafts n) ∙ rw (upper_shallow n, all_shallow n n) refl
+drafts_shallow n = list_all-append (is_shallow (drafts n)) (upper_drafts n) (user_drafts n)
+    ∙ rw (upper_shallow n, all_shallow n n) refl
 
 -- ---- all limits
 
@@ -128,7 +142,8 @@ rid_within n few = le-leb (10 * n + 1001) 4294967295 (omega (arith, few))
 
 within : (n : ℕ) → n ≤ 1000 → is_within_limits (drafts n) (unsettled_sample n) ≡ true
 unfolding is_within_limits rdns_text max_text
-within n few = rw (objects_within n few, drafts_shallow n, weight_within n few, number_within n few, rid_within n few) refl
+within n few = rw (objects_within n few, drafts_shallow n, weight_within n few, number_within n few, rid_within n few)
+    refl
 
 pub linked_is : (n : ℕ) → 1 ≤ n → n ≤ 1000 → linked base_schema (drafts n) ≡ Ok (unsettled_sample n)
 unfolding linked unsettled

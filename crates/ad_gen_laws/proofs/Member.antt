@@ -1,5 +1,6 @@
 -- The one link of the sample: the member of the administrators.
-use Rattle.std.proofs.Common.{◌≡◌, ◌∙◌, inl, inr, None, ℕ, zero, suc, ◌+◌, ◌||◌, Bool, true, false, Option, Some, List, [], ◌∷◌, ◌++◌, length, length-append, refl, sym, ap, arith, codes}
+use Rattle.std.proofs.Common.{◌≡◌, ◌∙◌, inl, inr, None, ℕ, zero, suc, ◌+◌, ◌||◌, Bool, true, false, Option, Some}
+use Rattle.std.proofs.Common.{List, [], ◌∷◌, ◌++◌, length, length-append, refl, sym, ap, arith, codes}
 use Rattle.std.specs.List.{list_any, position}
 use Rattle.std.specs.Prelude.{option_map}
 use Rattle.std.proofs.lemmas.Bool.{cases_Bool}
@@ -9,7 +10,8 @@ use Rattle.ad_dn.specs.Fold.{folded}
 use Rattle.ad_dir_model.specs.Names.{same_folded}
 use Rattle.ad_load_objects.specs.Drafts.{Draft, same_names, has_name, number_named}
 use Rattle.ad_gen_laws.specs.Sample.{user_name, user}
-use Rattle.ad_gen_laws.specs.Drafts.{unit_draft, unit_drafts, user_draft, users_of, user_drafts, upper_drafts, drafts, sd_holder_draft}
+use Rattle.ad_gen_laws.specs.Drafts.{unit_draft, unit_drafts, user_draft, users_of, user_drafts, upper_drafts, drafts}
+use Rattle.ad_gen_laws.specs.Drafts.{sd_holder_draft}
 use Rattle.ad_gen_laws.proofs.Differ.{words_fold}
 use Rattle.ad_gen_laws.proofs.Free.{apart, first_of, names_same}
 use Rattle.ad_gen_laws.proofs.Found.{units_many}
@@ -19,11 +21,13 @@ both_false : (a b : Bool) → (a || b) ≡ false → (a ≡ false) × (b ≡ fal
 both_false true b e = absurd cc
 both_false false b e = (refl, e)
 
-position_after : {A : Type 0} (p : A → Bool) (xs ys : List A) (k : ℕ) → list_any p xs ≡ false → position p ys ≡ Some k → position p (xs ++ ys) ≡ Some (length xs + k)
+position_after : {A : Type 0} (p : A → Bool) (xs ys : List A) (k : ℕ) → list_any p xs ≡ false → position p ys ≡ Some k
+    → position p (xs ++ ys) ≡ Some (length xs + k)
 position_after p [] ys k none is = is ∙ ap Some (omega arith)
 position_after p (x ∷ xs) ys k none is =
     let parts = both_false (p x) (list_any p xs) none in
-    position_next p x (xs ++ ys) parts.0 ∙ ap (option_map (λ k. suc k)) (position_after p xs ys k parts.1 is) ∙ ap Some (omega arith)
+    position_next p x (xs ++ ys) parts.0 ∙ ap (option_map (λ k. suc k)) (position_after p xs ys k parts.1 is)
+    ∙ ap Some (omega arith)
 
 abbrev is_member : Draft → Bool
 is_member draft = has_name (user 0 1).rdns draft
@@ -37,13 +41,22 @@ other_name : (w : List ℕ) → (folded w ≡ folded (user_name 0 1) → ⊥) �
 other_name w differ = apart w (user_name 0 1) differ
 
 system_other : same_folded (codes "System") (user_name 0 1) ≡ false
-system_other = other_name (codes "System") (λ e. let first : 115 ≡ 117 = ap first_of (words_fold (codes "System") (user_name 0 1) refl (user_word 0 1 (omega arith) (omega arith)) e) in omega (arith, first))
+system_other = other_name (codes "System")
+    (λ e. let first : 115 ≡ 117 = ap first_of
+    (words_fold (codes "System") (user_name 0 1) refl (user_word 0 1 (omega arith) (omega arith)) e)
+    in omega (arith, first))
 
 administrators_other : same_folded (codes "Administrators") (user_name 0 1) ≡ false
-administrators_other = other_name (codes "Administrators") (λ e. let first : 97 ≡ 117 = ap first_of (words_fold (codes "Administrators") (user_name 0 1) refl (user_word 0 1 (omega arith) (omega arith)) e) in omega (arith, first))
+administrators_other = other_name (codes "Administrators")
+    (λ e. let first : 97 ≡ 117 = ap first_of
+    (words_fold (codes "Administrators") (user_name 0 1) refl (user_word 0 1 (omega arith) (omega arith)) e)
+    in omega (arith, first))
 
 holder_other : same_folded (codes "AdminSDHolder") (user_name 0 1) ≡ false
-holder_other = other_name (codes "AdminSDHolder") (λ e. let first : 97 ≡ 117 = ap first_of (words_fold (codes "AdminSDHolder") (user_name 0 1) refl (user_word 0 1 (omega arith) (omega arith)) e) in omega (arith, first))
+holder_other = other_name (codes "AdminSDHolder")
+    (λ e. let first : 97 ≡ 117 = ap first_of
+    (words_fold (codes "AdminSDHolder") (user_name 0 1) refl (user_word 0 1 (omega arith) (omega arith)) e)
+    in omega (arith, first))
 
 no_member_above : (n : ℕ) → list_any is_member (upper_drafts n) ≡ false
 unfolding same_names
@@ -64,13 +77,16 @@ position_front p (x ∷ xs) ys is = elim (cases_Bool (p x)) [
 
 member_first : (n : ℕ) → position is_member (user_drafts (suc n)) ≡ Some 0
 unfolding user_drafts users_of
-member_first zero = position_here is_member (user_draft 0 1) (user_draft 0 2 ∷ user_draft 0 3 ∷ user_draft 0 4 ∷ user_draft 0 5 ∷ user_draft 0 6 ∷ user_draft 0 7 ∷ user_draft 0 8 ∷ user_draft 0 9 ∷ user_draft 0 10 ∷ []) (names_same (user 0 1).rdns)
+member_first zero = position_here is_member (user_draft 0 1) (user_draft 0 2 ∷ user_draft 0 3 ∷ user_draft 0 4
+    ∷ user_draft 0 5 ∷ user_draft 0 6 ∷ user_draft 0 7 ∷ user_draft 0 8 ∷ user_draft 0 9 ∷ user_draft 0 10 ∷ [])
+    (names_same (user 0 1).rdns)
 member_first (suc n) = position_front is_member (user_drafts (suc n)) (users_of (suc n) 10) (member_first n)
 
 pub member_found : (n : ℕ) → number_named (drafts (suc n)) (user 0 1).rdns ≡ Some (suc n + 5)
 unfolding number_named
 member_found n =
-    let place = position_after is_member (upper_drafts (suc n)) (user_drafts (suc n)) 0 (no_member_above (suc n)) (member_first n) in
+    let place = position_after is_member (upper_drafts (suc n)) (user_drafts (suc n)) 0 (no_member_above (suc n))
+    (member_first n) in
     let many = units_many (suc n) in
     let more = length-append (unit_drafts (suc n)) (sd_holder_draft ∷ []) in
     ap (option_map (λ place. place + 1)) place ∙ ap Some (omega (arith, many, more))

@@ -39,7 +39,8 @@ rdns_are [] all = tt
 rdns_are (r ∷ rdns) all = (rdn_is r all.0, rdns_are rdns all.1)
 
 -- such a name reads back
-pub name_read : (rdns : List Rdn) → AllByRecursion IsWordRdn rdns → dn_of (rdns_text rdns) ≡ Some (record { rdns = rdns })
+pub name_read : (rdns : List Rdn) → AllByRecursion IsWordRdn rdns → dn_of (rdns_text rdns)
+    ≡ Some (record { rdns = rdns })
 name_read rdns all = dn_again (rdns_text rdns) (record { rdns = rdns }) (rdns_spelled rdns (rdns_are rdns all))
 
 pub record IsNamed (p : Plain) : Type 0 where
@@ -52,10 +53,12 @@ may_be (Some kind) rdns some = refl
 
 one_named : (k : ℕ) (p : Plain) → IsNamed p → record_of (entry_at k p) ≡ Ok (record_at k p)
 unfolding record_of
-one_named k p is = rw (name_read p.rdns is.words) (rw (may_be (kind_of (fields_from (k + 1) p.lines)) p.rdns is.some) refl)
+one_named k p is = rw (name_read p.rdns is.words)
+    (rw (may_be (kind_of (fields_from (k + 1) p.lines)) p.rdns is.some) refl)
 
 -- the records of entries
-pub all_named : (k : ℕ) (ps : List Plain) → AllByRecursion IsNamed ps → records_of None (entries_from k ps) ≡ Ok (records_from k ps)
+pub all_named : (k : ℕ) (ps : List Plain) → AllByRecursion IsNamed ps → records_of None (entries_from k ps)
+    ≡ Ok (records_from k ps)
 unfolding records_of entries_from records_from
 all_named k [] all = refl
 all_named k (p ∷ ps) all = rw (one_named k p all.0, all_named (next_at k p) ps all.1) refl

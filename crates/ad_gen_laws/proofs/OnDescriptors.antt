@@ -1,6 +1,7 @@
 -- What an answer unfolds to compute the bytes of a descriptor's text.
 use Rattle.std.specs.Prelude.{⊤}
-use Rattle.ad_sddl.specs.Reading.{read_of, rest_at, part_at, once_at, list_at, list_flags_at, list_flag_at, entries_at, entry_at, type_at, end_at}
+use Rattle.ad_sddl.specs.Reading.{read_of, rest_at, part_at, once_at, list_at, list_flags_at, list_flag_at}
+use Rattle.ad_sddl.specs.Reading.{entries_at, entry_at, type_at, end_at}
 use Rattle.ad_sddl.specs.Reading.{codes_at, code_at, guid_at, alias_at, sid_at, hex_at}
 use Rattle.ad_sddl.specs.Words.{begins, flag_codes, right_codes, alias_codes}
 use Rattle.ad_ids.specs.SidFront.{longest}
@@ -12,7 +13,8 @@ use Rattle.ad_acl.specs.Writing.{list_bytes, entry_bytes, behind_header, fixed_b
 use Rattle.ad_ids.specs.Sid.{sid_bytes}
 
 unfoldable on_sddl-1 : ⊤
-unfolding read_of rest_at part_at once_at list_at list_flags_at list_flag_at entries_at entry_at type_at end_at codes_at code_at guid_at alias_at
+unfolding read_of rest_at part_at once_at list_at list_flags_at list_flag_at entries_at entry_at type_at end_at
+    codes_at code_at guid_at alias_at
 on_sddl-1 = tt
 
 unfoldable pub on_sddl : ⊤

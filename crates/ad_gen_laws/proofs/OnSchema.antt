@@ -13,11 +13,13 @@ use Rattle.uuid.specs.Text.{by_index}
 use Rattle.ad_schema.specs.Numbers.{digits_behind, number, number_below, signed_bits, truth_of}
 
 unfoldable on_adding-1 : ⊤
-unfolding all_added records_from fields_from kind_of added checked missing bad_value bad_behind bad_line is_bad field_of has value_of values_of
+unfolding all_added records_from fields_from kind_of added checked missing bad_value bad_behind bad_line is_bad
+    field_of has value_of values_of
 on_adding-1 = tt
 
 unfoldable on_adding-2 : ⊤
-unfolding repeated is_repeated has_name names_of lines_of place_of same_name right_guids right_guid guid_of_text by_index digits_behind number
+unfolding repeated is_repeated has_name names_of lines_of place_of same_name right_guids right_guid guid_of_text
+    by_index digits_behind number
 on_adding-2 = tt
 
 unfoldable pub on_adding : ⊤

@@ -1,5 +1,6 @@
 -- The schema of the sample's records is the base schema.
-use Rattle.std.proofs.Common.{◌≡◌, ◌∙◌, ℕ, zero, suc, ◌+◌, ◌≤◌, List, [], ◌∷◌, ◌++◌, map, None, Ok, refl, ap, append_assoc}
+use Rattle.std.proofs.Common.{◌≡◌, ◌∙◌, ℕ, zero, suc, ◌+◌, ◌≤◌, List, [], ◌∷◌, ◌++◌, map, None, Ok, refl, ap}
+use Rattle.std.proofs.Common.{append_assoc}
 use Rattle.std.specs.List.{AllByRecursion}
 use Rattle.ad_schema_classes.specs.Names.{same_name, place_of}
 use Rattle.ad_schema_classes.specs.Chains.{option_at, ends_within, endless_from, first_endless}
@@ -40,15 +41,18 @@ class_records = map (defined Class) classes
 abbrev right_records : List SchemaRecord
 right_records = map (defined Right) rights
 
-attributes_added : (others : List Plain) → all_added [] (records_from 1 (attributes ++ others)) ≡ all_added attribute_records (records_from 134 others)
+attributes_added : (others : List Plain) → all_added [] (records_from 1 (attributes ++ others))
+    ≡ all_added attribute_records (records_from 134 others)
 unfolding attributes on_adding
 attributes_added others = refl
 
-classes_added : (others : List Plain) → all_added attribute_records (records_from 134 (classes ++ others)) ≡ all_added (attribute_records ++ class_records) (records_from 228 others)
+classes_added : (others : List Plain) → all_added attribute_records (records_from 134 (classes ++ others))
+    ≡ all_added (attribute_records ++ class_records) (records_from 228 others)
 unfolding attributes classes on_adding
 classes_added others = refl
 
-rights_added : (others : List Plain) → all_added (attribute_records ++ class_records) (records_from 228 (rights ++ others)) ≡ all_added base_schema (records_from 270 others)
+rights_added : (others : List Plain) → all_added (attribute_records ++ class_records)
+    (records_from 228 (rights ++ others)) ≡ all_added base_schema (records_from 270 others)
 unfolding attributes classes rights base_schema on_adding
 rights_added others = refl
 
@@ -56,7 +60,8 @@ rights_added others = refl
 abbrev pub IsObject : Plain → Type 0
 IsObject p = (k : ℕ) → kind_of (fields_from k p.lines) ≡ None
 
-none_added : (schema : List SchemaRecord) (k : ℕ) (ps : List Plain) → AllByRecursion IsObject ps → all_added schema (records_from k ps) ≡ Ok schema
+none_added : (schema : List SchemaRecord) (k : ℕ) (ps : List Plain) → AllByRecursion IsObject ps
+    → all_added schema (records_from k ps) ≡ Ok schema
 unfolding all_added records_from
 none_added schema k [] all = refl
 none_added schema k (p ∷ ps) all = rw (all.0 (k + 1)) (none_added schema (next_at k p) ps all.1)
@@ -72,12 +77,14 @@ user_object i j k = refl
 users_objects : (i j : ℕ) → AllByRecursion IsObject (users i j)
 unfolding users
 users_objects i zero = tt
-users_objects i (suc j) = all_of_both IsObject (users i j) (user i (suc j) ∷ []) (users_objects i j) (user_object i (suc j), tt)
+users_objects i (suc j) = all_of_both IsObject (users i j) (user i (suc j) ∷ []) (users_objects i j)
+    (user_object i (suc j), tt)
 
 units_objects : (n : ℕ) → AllByRecursion IsObject (units n)
 unfolding units
 units_objects zero = tt
-units_objects (suc i) = all_of_both IsObject (units i) (unit i ∷ users i 10) (units_objects i) (unit_object i, users_objects i 10)
+units_objects (suc i) = all_of_both IsObject (units i) (unit i ∷ users i 10) (units_objects i)
+    (unit_object i, users_objects i 10)
 
 pub fixed_objects : AllByRecursion IsObject fixed
 unfolding kind_of fields_from same_name
@@ -87,13 +94,17 @@ pub all_objects : (n : ℕ) → AllByRecursion IsObject (objects n)
 all_objects n = all_of_both IsObject fixed (units n) fixed_objects (units_objects n)
 
 pub base_finished : finished base_schema ≡ Ok base_schema
-unfolding attributes classes rights base_schema finished unknown first_unknown unknown_in is_unknown endless first_endless endless_from ends_within option_at superclasses superclass names_of lines_of place_of same_name field_of value_of
+unfolding attributes classes rights base_schema finished unknown first_unknown unknown_in is_unknown endless
+    first_endless endless_from ends_within option_at superclasses superclass names_of lines_of place_of same_name
+    field_of value_of
 base_finished = refl
 
 pub all_are_added : (n : ℕ) → all_added [] (records_from 1 (plains n)) ≡ Ok base_schema
 unfolding base
 all_are_added n =
-    ap (λ (ps : List Plain). all_added [] (records_from 1 ps)) (append_assoc attributes (classes ++ rights) (objects n) ∙ ap (λ (ps : List Plain). attributes ++ ps) (append_assoc classes rights (objects n)))
+    ap (λ (ps : List Plain). all_added [] (records_from 1 ps))
+    (append_assoc attributes (classes ++ rights) (objects n) ∙ ap (λ (ps : List Plain). attributes ++ ps)
+    (append_assoc classes rights (objects n)))
     ∙ attributes_added (classes ++ (rights ++ objects n))
     ∙ classes_added (rights ++ objects n)
     ∙ rights_added (objects n)

@@ -12,21 +12,25 @@ use Rattle.ad_ldap.specs.Limits.{most_levels, most_int}
 use Rattle.ad_ldap.specs.Settings.{settings_of}
 use Rattle.ad_gen.specs.Descriptor.{descriptor_bytes}
 use Rattle.ad_gen.specs.Objects.{domain_descriptor, protected_descriptor}
-use Rattle.ad_gen.specs.Messages.{sequence, octets, list_alone, list_flag, critical_flag, modify_message, wider_list, modify_request, changes}
+use Rattle.ad_gen.specs.Messages.{sequence, octets, list_alone, list_flag, critical_flag, modify_message, wider_list}
+use Rattle.ad_gen.specs.Messages.{modify_request, changes}
 use Rattle.ad_gen.specs.Messages.{attribute_of_change, filter, bounds, search_request, search_message}
 use Rattle.ad_gen_laws.specs.Sent.{wider, domain_sd, protected_sd, change, search}
-use Rattle.ad_gen_laws.proofs.Descriptors.{domain_bytes, protected_bytes, wider_bytes, domain_is, protected_is, wider_is}
+use Rattle.ad_gen_laws.proofs.Descriptors.{domain_bytes, protected_bytes, wider_bytes, domain_is, protected_is}
+use Rattle.ad_gen_laws.proofs.Descriptors.{wider_is}
 use Rattle.ad_gen_laws.proofs.OnMessages.{on_elements, on_reading, on_sd}
 
 pub search_read : message_of search_message ≡ Ok search
-unfolding search_message search_request bounds filter on_elements on_reading assertion_of kind_at filter_item_of filter_of filter_at search_of op_kind_at op_of op_at controls_at id_at body_of message_of most_levels most_int
+unfolding search_message search_request bounds filter on_elements on_reading assertion_of kind_at filter_item_of
+    filter_of filter_at search_of op_kind_at op_of op_at controls_at id_at body_of message_of most_levels most_int
 search_read = refl
 
 -- the same message, with a descriptor of these bytes
 abbrev with_bytes : List ℕ → List ℕ
 with_bytes bytes =
     sequence (number_element 2 1 ++ (element_bytes 0x66 (octets (codes "DC=sample")
-    ++ sequence (sequence (number_element 10 2 ++ sequence (octets (codes "nTSecurityDescriptor") ++ element_bytes 0x31 (octets bytes)))))
+    ++ sequence (sequence (number_element 10 2
+    ++ sequence (octets (codes "nTSecurityDescriptor") ++ element_bytes 0x31 (octets bytes)))))
     ++ element_bytes 0xa0 list_alone))
 
 change_of_bytes : message_of (with_bytes wider_bytes) ≡ Ok (record change {
@@ -35,7 +39,8 @@ change_of_bytes : message_of (with_bytes wider_bytes) ≡ Ok (record change {
     items = record { op = 2; attr = codes "nTSecurityDescriptor"; values = wider_bytes ∷ [] } ∷ [];
   });
 })
-unfolding wider_bytes list_alone list_flag critical_flag on_elements on_reading attribute_of item_of modify_of op_kind_at op_of op_at control_of controls_at id_at body_of message_of most_int
+unfolding wider_bytes list_alone list_flag critical_flag on_elements on_reading attribute_of item_of modify_of
+    op_kind_at op_of op_at control_of controls_at id_at body_of message_of most_int
 change_of_bytes = refl
 
 pub change_read : message_of modify_message ≡ Ok change

@@ -1,5 +1,6 @@
 -- The identifiers of the sample's objects, and that none is used twice.
-use Rattle.std.proofs.Common.{◌≡◌, ◌≢◌, ◌∙◌, ℕ, zero, suc, ◌+◌, ◌*◌, ◌<◌, ◌≤◌, ◌^◌, false, Option, Some, None, refl, sym, ap, arith}
+use Rattle.std.proofs.Common.{◌≡◌, ◌≢◌, ◌∙◌, ℕ, zero, suc, ◌+◌, ◌*◌, ◌<◌, ◌≤◌, ◌^◌, false, Option, Some, None, refl}
+use Rattle.std.proofs.Common.{sym, ap, arith}
 use Rattle.std.proofs.Common.{[], ◌∷◌, ◌++◌}
 use Rattle.std.specs.Option.{option_or}
 use Rattle.std.specs.List.{list_any}
@@ -21,7 +22,8 @@ use Rattle.ad_schema_classes.specs.Names.{place_of, same_name}
 use Rattle.ad_schema.specs.Fields.{value_of}
 use Rattle.ad_schema.specs.Meaning.{attr_of_rule, counts, if_counts}
 use Rattle.ad_gen_laws.specs.Base.{attributes, classes, rights, base_schema}
-use Rattle.ad_gen_laws.specs.Drafts.{domain_sid, domain_draft, system_draft, administrators_draft, unit_draft, sd_holder_draft, user_draft, unit_drafts, users_of, user_drafts, upper_drafts}
+use Rattle.ad_gen_laws.specs.Drafts.{domain_sid, domain_draft, system_draft, administrators_draft, unit_draft}
+use Rattle.ad_gen_laws.specs.Drafts.{sd_holder_draft, user_draft, unit_drafts, users_of, user_drafts, upper_drafts}
 use Rattle.ad_gen_laws.proofs.Differ.{sid_is}
 
 -- ---- bytes of identifiers are read back
@@ -61,10 +63,12 @@ in_domain_again rid small = bytes_again (in_domain rid) (sid_is rid small)
 -- ---- identifiers of objects
 
 pub sid_place : object_sid base_schema ≡ Some 6
-unfolding rule_place attr_of_rule counts if_counts attr_named attrs_of attr_info names_of lines_of place_of same_name value_of attributes classes rights base_schema
+unfolding rule_place attr_of_rule counts if_counts attr_named attrs_of attr_info names_of lines_of place_of same_name
+    value_of attributes classes rights base_schema
 sid_place = refl
 
-pub user_sid : (i j : ℕ) → i < 1000 → j ≤ 10 → draft_sid base_schema (user_draft i j) ≡ Some (in_domain (1000 + 10 * i + j))
+pub user_sid : (i j : ℕ) → i < 1000 → j ≤ 10 → draft_sid base_schema (user_draft i j)
+    ≡ Some (in_domain (1000 + 10 * i + j))
 unfolding draft_sid first_given
 user_sid i j few least = rw sid_place (in_domain_again (1000 + 10 * i + j) (omega (arith, few, least)))
 
@@ -96,33 +100,50 @@ numbers_apart a b differ = rw (ne_eqb a b differ) refl
 units_unused : (sid : SidValue) (n : ℕ) → list_any (has_sid base_schema sid) (unit_drafts n) ≡ false
 unfolding unit_drafts
 units_unused sid zero = refl
-units_unused sid (suc n) = list_any-append (has_sid base_schema sid) (unit_drafts n) (unit_draft n ∷ []) ∙ rw (units_unused sid n, unit_sid n) refl
+units_unused sid (suc n) = list_any-append (has_sid base_schema sid) (unit_drafts n) (unit_draft n ∷ [])
+    ∙ rw (units_unused sid n, unit_sid n) refl
 
-users_unused : (rid i j : ℕ) → i < 1000 → j ≤ 10 → 1000 + 10 * i + j < rid → list_any (has_sid base_schema (in_domain rid)) (users_of i j) ≡ false
+users_unused : (rid i j : ℕ) → i < 1000 → j ≤ 10 → 1000 + 10 * i + j < rid
+    → list_any (has_sid base_schema (in_domain rid)) (users_of i j) ≡ false
 unfolding users_of
 users_unused rid i zero few least less = refl
 users_unused rid i (suc j) few least less =
     list_any-append (has_sid base_schema (in_domain rid)) (users_of i j) (user_draft i (suc j) ∷ [])
-    ∙ rw (users_unused rid i j few (omega (arith, least)) (omega (arith, less)), user_sid i (suc j) few least, numbers_apart (1000 + 10 * i + suc j) rid (λ e. omega (arith, less, e))) refl
+    ∙ rw (
+      users_unused rid i j few (omega (arith, least)) (omega (arith, less)),
+      user_sid i (suc j) few least,
+      numbers_apart (1000 + 10 * i + suc j) rid (λ e. omega (arith, less, e)),
+    ) refl
 
-all_unused : (rid n : ℕ) → n ≤ 1000 → 1000 + 10 * n < rid → list_any (has_sid base_schema (in_domain rid)) (user_drafts n) ≡ false
+all_unused : (rid n : ℕ) → n ≤ 1000 → 1000 + 10 * n < rid → list_any (has_sid base_schema (in_domain rid))
+    (user_drafts n) ≡ false
 unfolding user_drafts
 all_unused rid zero few less = refl
 all_unused rid (suc n) few less =
     list_any-append (has_sid base_schema (in_domain rid)) (user_drafts n) (users_of n 10)
-    ∙ rw (all_unused rid n (omega (arith, few)) (omega (arith, less)), users_unused rid n 10 (omega (arith, few)) (omega arith) (omega (arith, less))) refl
+    ∙ rw (
+      all_unused rid n (omega (arith, few)) (omega (arith, less)),
+      users_unused rid n 10 (omega (arith, few))
+          (omega arith) (omega (arith, less)),
+    ) refl
 
 upper_unused : (rid n : ℕ) → list_any (has_sid base_schema (in_domain rid)) (upper_drafts n) ≡ false
 upper_unused rid n =
     rw (domain_has, system_sid, administrators_have)
-    (list_any-append (has_sid base_schema (in_domain rid)) (unit_drafts n) (sd_holder_draft ∷ []) ∙ rw (units_unused (in_domain rid) n, holder_sid) refl)
+    (list_any-append (has_sid base_schema (in_domain rid)) (unit_drafts n) (sd_holder_draft ∷ [])
+    ∙ rw (units_unused (in_domain rid) n, holder_sid) refl)
 
 -- before the j-th user of a unit
-pub user_unused : (n i j : ℕ) → i < 1000 → j < 10 → is_sid_used base_schema (upper_drafts n ++ (user_drafts i ++ users_of i j)) (Some (in_domain (1000 + 10 * i + suc j))) ≡ false
+pub user_unused : (n i j : ℕ) → i < 1000 → j < 10 → is_sid_used base_schema
+    (upper_drafts n ++ (user_drafts i ++ users_of i j)) (Some (in_domain (1000 + 10 * i + suc j))) ≡ false
 unfolding is_sid_used
 user_unused n i j few least =
     let rid = 1000 + 10 * i + suc j in
     list_any-append (has_sid base_schema (in_domain rid)) (upper_drafts n) (user_drafts i ++ users_of i j)
     ∙ rw (upper_unused rid n)
     (list_any-append (has_sid base_schema (in_domain rid)) (user_drafts i) (users_of i j)
-    ∙ rw (all_unused rid i (omega (arith, few)) (omega arith), users_unused rid i j few (omega (arith, least)) (omega arith)) refl)
+    ∙ rw (
+      all_unused rid i (omega (arith, few)) (omega arith),
+      users_unused rid i j few (omega (arith, least))
+          (omega arith),
+    ) refl)

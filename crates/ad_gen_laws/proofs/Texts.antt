@@ -1,5 +1,6 @@
 -- The text of a record that stands as data, and that it is read back.
-use Rattle.std.proofs.Common.{◌≡◌, ◌∙◌, ℕ, ◌+◌, ◌||◌, Bool, true, if◌then◌else◌, List, [], ◌∷◌, ◌++◌, map, refl, sym, ap, append_assoc, arith, codes}
+use Rattle.std.proofs.Common.{◌≡◌, ◌∙◌, ℕ, ◌+◌, ◌||◌, Bool, true, if◌then◌else◌, List, [], ◌∷◌, ◌++◌, map, refl, sym}
+use Rattle.std.proofs.Common.{ap, append_assoc, arith, codes}
 use Rattle.std.proofs.Common.{length, None, Result, Ok}
 use Rattle.std.specs.List.{AllByRecursion, list_all}
 use Rattle.std.specs.Str.{bytes_eq}
@@ -16,10 +17,12 @@ use Rattle.ad_gen_laws.proofs.Blocks.{is_plain, flat, behind, block_of, next_of,
 
 -- lines of these names stand in base64
 abbrev pub is_encoded : List ℕ → Bool
-is_encoded name = bytes_eq name (codes "schemaIDGUID") || bytes_eq name (codes "attributeSecurityGUID") || bytes_eq name (codes "nTSecurityDescriptor")
+is_encoded name = bytes_eq name (codes "schemaIDGUID") || bytes_eq name (codes "attributeSecurityGUID")
+    || bytes_eq name (codes "nTSecurityDescriptor")
 
 abbrev pub raw : Line → List ℕ
-raw l = if is_encoded l.name then l.name ++ (codes ":: " ++ encode_of standard l.value) else l.name ++ (codes ": " ++ l.value)
+raw l = if is_encoded l.name then l.name ++ (codes ":: " ++ encode_of standard l.value) else l.name
+    ++ (codes ": " ++ l.value)
 
 abbrev pub dn_line : List Rdn → List ℕ
 dn_line rdns = codes "dn: " ++ rdns_text rdns
@@ -35,7 +38,8 @@ texts (p ∷ ps) = text_of p ++ texts ps
 pub texts_both : (ps qs : List Plain) → texts (ps ++ qs) ≡ texts ps ++ texts qs
 unfolding texts
 texts_both [] qs = refl
-texts_both (p ∷ ps) qs = ap (λ (more : List ℕ). text_of p ++ more) (texts_both ps qs) ∙ sym (append_assoc (text_of p) (texts ps) (texts qs))
+texts_both (p ∷ ps) qs = ap (λ (more : List ℕ). text_of p ++ more) (texts_both ps qs)
+    ∙ sym (append_assoc (text_of p) (texts ps) (texts qs))
 
 -- ---- what is known of a record whose text is read back
 
@@ -57,7 +61,8 @@ unfolding story_from story_of lines_from physical logical blocks
 at_end k = refl
 
 -- the story of the texts of records is that of the records
-pub all_told : (k : ℕ) (ps : List Plain) → AllByRecursion Reads ps → story_from k (texts ps) ≡ record { records = entries_from k ps; stop = None }
+pub all_told : (k : ℕ) (ps : List Plain) → AllByRecursion Reads ps → story_from k (texts ps)
+    ≡ record { records = entries_from k ps; stop = None }
 unfolding texts entries_from
 all_told k [] all = at_end k
 all_told k (p ∷ ps) all =

@@ -16,21 +16,26 @@ use Rattle.ad_gen_laws.specs.Sent.{protected_sd}
 use Rattle.ad_gen_laws.proofs.Sent.{protected_read}
 
 unfoldable on_values-1 : ⊤
-unfolding fields_from through with_sd is_dropped with_ordinary with_line with_lines same_name place_of attr_named names_of lines_of line_value_of
+unfolding fields_from through with_sd is_dropped with_ordinary with_line with_lines same_name place_of attr_named
+    names_of lines_of line_value_of
 on_values-1 = tt
 
 unfoldable on_values : ⊤
-unfolding on_values-1 naming_of naming_by first_along option_at chain chain_within superclasses superclass own_namings own_naming cn_of attributes classes rights base_schema
+unfolding on_values-1 naming_of naming_by first_along option_at chain chain_within superclasses superclass own_namings
+    own_naming cn_of attributes classes rights base_schema
 on_values = tt
 
-pub unit_values : (drafts : List Draft) (i k : ℕ) → with_lines base_schema drafts 2 (fields_from k (unit i).lines) ≡ Ok nothing_kept
+pub unit_values : (drafts : List Draft) (i k : ℕ) → with_lines base_schema drafts 2 (fields_from k (unit i).lines)
+    ≡ Ok nothing_kept
 unfolding on_values
 unit_values drafts i k = refl
 
-pub system_values : (drafts : List Draft) (k : ℕ) → with_lines base_schema drafts 3 (fields_from k system.lines) ≡ Ok nothing_kept
+pub system_values : (drafts : List Draft) (k : ℕ) → with_lines base_schema drafts 3 (fields_from k system.lines)
+    ≡ Ok nothing_kept
 unfolding on_values
 system_values drafts k = refl
 
-pub holder_values : (drafts : List Draft) (k : ℕ) → with_lines base_schema drafts 3 (fields_from k sd_holder.lines) ≡ Ok (record { given = []; sd = Some protected_sd })
+pub holder_values : (drafts : List Draft) (k : ℕ) → with_lines base_schema drafts 3 (fields_from k sd_holder.lines)
+    ≡ Ok (record { given = []; sd = Some protected_sd })
 unfolding on_values
 holder_values drafts k = rw protected_read refl

@@ -1,5 +1,6 @@
 -- Words of letters, digits and hyphens: as values of names, and as texts of lines.
-use Rattle.std.proofs.Common.{◌≡◌, ◌∙◌, ℕ, zero, suc, ◌^◌, ◌<◌, ◌==◌, ◌||◌, Bool, true, false, eqb, nat_lt, List, [], ◌∷◌, ◌++◌, refl, subst, arith}
+use Rattle.std.proofs.Common.{◌≡◌, ◌∙◌, ℕ, zero, suc, ◌^◌, ◌<◌, ◌==◌, ◌||◌, Bool, true, false, eqb, nat_lt, List, []}
+use Rattle.std.proofs.Common.{◌∷◌, ◌++◌, refl, subst, arith}
 use Rattle.std.proofs.Common.{inl, inr, decimal}
 use Rattle.std.specs.List.{list_all, list_any, flat_map}
 use Rattle.std.specs.Str.{IsAscii}
@@ -18,7 +19,8 @@ use Rattle.ad_gen_laws.proofs.Blocks.{is_inner}
 -- a byte that isn't in a word is none of its bytes
 not_that : (b c : ℕ) → is_type_byte b ≡ true → is_type_byte c ≡ false → (b == c) ≡ false
 not_that b c word other = elim (cases_Bool (eqb b c)) [
-  | inl is ↦ let bad : is_type_byte c ≡ true = subst (λ (x : ℕ). is_type_byte x ≡ true) (eqb-true b c is) word in absurd cc
+  | inl is ↦ let bad : is_type_byte c ≡ true = subst (λ (x : ℕ). is_type_byte x ≡ true) (eqb-true b c is) word
+      in absurd cc
   | inr differs ↦ differs
 ]
 
@@ -64,7 +66,16 @@ word_no_nul (b ∷ bytes) word =
 
 reserved_no : (b : ℕ) → is_type_byte b ≡ true → is_reserved b ≡ false
 reserved_no b word =
-    rw (not_that b 34 word refl, not_that b 43 word refl, not_that b 44 word refl, not_that b 59 word refl, not_that b 60 word refl, not_that b 62 word refl, not_that b 92 word refl) refl
+    rw (
+      not_that b 34 word refl,
+      not_that b 43 word refl,
+      not_that b 44 word refl,
+      not_that b 59 word refl,
+      not_that b
+          60 word refl,
+      not_that b 62 word refl,
+      not_that b 92 word refl,
+    ) refl
 
 piece_plain : (b : ℕ) → is_type_byte b ≡ true → piece_of b ≡ plain b
 piece_plain b word = rw (not_that b 0 word refl, reserved_no b word) refl

@@ -108,7 +108,8 @@ user_guid = 0xba ∷ 0x7a ∷ 0x96 ∷ 0xbf ∷ 0xe6 ∷ 0x0d ∷ 0xd0 ∷ 0x11 
 
 -- bf967a86-0de6-11d0-a285-00aa003049e2
 abbrev pub computer_guid : List ℕ
-computer_guid = 0x86 ∷ 0x7a ∷ 0x96 ∷ 0xbf ∷ 0xe6 ∷ 0x0d ∷ 0xd0 ∷ 0x11 ∷ 0xa2 ∷ 0x85 ∷ 0 ∷ 0xaa ∷ 0 ∷ 0x30 ∷ 0x49 ∷ 0xe2 ∷ []
+computer_guid = 0x86 ∷ 0x7a ∷ 0x96 ∷ 0xbf ∷ 0xe6 ∷ 0x0d ∷ 0xd0 ∷ 0x11 ∷ 0xa2 ∷ 0x85 ∷ 0 ∷ 0xaa ∷ 0 ∷ 0x30 ∷ 0x49
+    ∷ 0xe2 ∷ []
 
 unfoldable pub classes : List Plain
 classes =
@@ -126,8 +127,10 @@ classes =
     ∷ class (guid 0xc0 2) (codes "domainDNS") (below (codes "top") (codes "dc") ++ may (codes "objectSid") ∷ [])
     ∷ class (guid 0xc0 3) (codes "organizationalUnit")
     (below (codes "top") (codes "ou") ++ superior (codes "domainDNS") ∷ superior (codes "organizationalUnit") ∷ [])
-    ∷ class (guid 0xc0 4) (codes "container") (below (codes "top") (codes "cn") ++ may (codes "dSHeuristics") ∷ in_containers)
-    ∷ class (guid 0xc0 5) (codes "group") (below (codes "top") (codes "cn") ++ must (codes "objectSid") ∷ may (codes "member") ∷ in_containers)
+    ∷ class (guid 0xc0 4) (codes "container") (below (codes "top") (codes "cn") ++ may (codes "dSHeuristics")
+    ∷ in_containers)
+    ∷ class (guid 0xc0 5) (codes "group") (below (codes "top") (codes "cn") ++ must (codes "objectSid")
+    ∷ may (codes "member") ∷ in_containers)
     ∷ class user_guid (codes "user")
     (below (codes "top") (codes "cn")
     ++ must (codes "objectSid")
@@ -138,7 +141,8 @@ classes =
     ∷ may (codes "streetAddress")
     ∷ may (codes "secretCode")
     ∷ in_containers)
-    ∷ class computer_guid (codes "computer") (below (codes "user") (codes "cn") ++ may (codes "dNSHostName") ∷ in_containers)
+    ∷ class computer_guid (codes "computer") (below (codes "user") (codes "cn") ++ may (codes "dNSHostName")
+    ∷ in_containers)
     ∷ []
 
 -- ---- the rights
@@ -154,7 +158,8 @@ rights =
     right (codes "Personal") (codes "50000000-0000-4000-8000-000000000001") (codes "48") of_users
     ∷ right (codes "User-Change-Password") (codes "ab721a53-1e2f-11d0-9819-00aa0040529b") (codes "256") of_users
     ∷ right (codes "User-Force-Change-Password") (codes "00299570-246d-11d0-a768-00aa006e0529") (codes "256") of_users
-    ∷ right (codes "Self-Membership") (codes "bf9679c0-0de6-11d0-a285-00aa003049e2") (codes "8") (codes "c0000000-0000-4000-8000-000000000005")
+    ∷ right (codes "Self-Membership") (codes "bf9679c0-0de6-11d0-a285-00aa003049e2") (codes "8")
+    (codes "c0000000-0000-4000-8000-000000000005")
     ∷ right (codes "Validated-SPN") (codes "f3a64788-5306-11d1-a9c5-0000f80367c1") (codes "8") of_computers
     ∷ right (codes "Validated-DNS-Host-Name") (codes "72e39547-7b18-11d1-adef-00c04fd8d5cd") (codes "8") of_computers
     ∷ []

@@ -31,7 +31,14 @@ given_sid k sid = record { line = k; spelled = codes "objectSid"; attr = 6; valu
 -- ---- objects
 
 abbrev pub domain_draft : Draft
-domain_draft = record { rdns = domain.rdns; parent = 0; class = 1; given = given_sid 272 domain_sid ∷ []; sd = Some domain_sd }
+domain_draft = record {
+  rdns = domain.rdns;
+  parent = 0;
+  class = 1;
+  given = given_sid 272 domain_sid ∷ [];
+  sd
+      = Some domain_sd;
+}
 
 abbrev pub system_draft : Draft
 system_draft = record { rdns = system.rdns; parent = 1; class = 3; given = []; sd = None }

@@ -24,7 +24,15 @@ default_sd = record {
 }
 
 abbrev pub domain_object : Object
-domain_object = record { number = 1; parent = 0; class = 1; name = codes "sample"; values = held_sid domain_sid ∷ []; sd = domain_sd }
+domain_object = record {
+  number = 1;
+  parent = 0;
+  class = 1;
+  name = codes "sample";
+  values = held_sid domain_sid
+      ∷ [];
+  sd = domain_sd;
+}
 
 abbrev pub system_object : Object
 system_object = record { number = 2; parent = 1; class = 3; name = codes "System"; values = []; sd = default_sd }
@@ -44,7 +52,15 @@ abbrev pub made_unit : ℕ → Object
 made_unit i = record { number = i + 4; parent = 1; class = 2; name = unit_name i; values = []; sd = default_sd }
 
 abbrev pub sd_holder_object : ℕ → Object
-sd_holder_object n = record { number = n + 4; parent = 2; class = 3; name = codes "AdminSDHolder"; values = []; sd = protected_sd }
+sd_holder_object n = record {
+  number = n + 4;
+  parent = 2;
+  class = 3;
+  name = codes "AdminSDHolder";
+  values = [];
+  sd
+      = protected_sd;
+}
 
 -- of n units in all, the j-th user of the unit i + 1
 abbrev pub made_user : ℕ → ℕ → ℕ → Object

@@ -63,8 +63,8 @@ change = record {
   controls = record { oid = sd_flags; critical = true; value = Some (0x30 ∷ 3 ∷ 2 ∷ 1 ∷ 4 ∷ []) } ∷ [];
 }
 
--- Message 2 searches the whole tree (2) below the domain for users, without a limit of entries (0), and asks for their
--- cn.
+-- Message 2 searches the whole tree (2) below the domain for users, without a limit of entries (0), and asks for
+-- their cn.
 abbrev pub search : MessageValue
 search = record {
   id = 2;

@@ -46,7 +46,8 @@ pub fn the_descriptors_of_the_sample()
 
 /// The sample's text, as LDIF, is these records from its first line on, and has no fault.
 pub fn the_story_of_the_sample()
-    ensures { (n : ℕ) → n ≤ 1000 → story (ldif n) ≡ record { records = entries_from 1 (plains n); stop = None } }
+    ensures { (n : ℕ) → n ≤ 1000 → story (ldif n)
+        ≡ record { records = entries_from 1 (plains n); stop = None } }
 {}
 
 /// The first phase of loading the sample gives these records, each with its name.
@@ -68,7 +69,8 @@ pub fn the_order_of_the_sample()
 /// What tells the sample's units and users apart: no two units have one name after folding, nor have two users of a
 /// unit, and the identifier of each user is the domain's with its number.
 pub fn the_users_of_the_sample()
-    ensures units { (i k : ℕ) → i < 1000 → k < 1000 → folded (unit_name i) ≡ folded (unit_name k) → i ≡ k }
+    ensures units { (i k : ℕ) → i < 1000 → k < 1000 → folded (unit_name i) ≡ folded (unit_name k)
+        → i ≡ k }
     ensures names { (i j k : ℕ) → i < 1000 → j ≤ 10 → k ≤ 10
         → folded (user_name i j) ≡ folded (user_name i k) → j ≡ k }
     ensures identifiers { (i j : ℕ) → i < 1000 → j ≤ 10
@@ -88,11 +90,12 @@ pub fn the_classes_of_the_sample()
 /// The third phase of loading gives these objects: each unit below the domain, each user below its unit, the
 /// administrators with their one member, and each with its identifier.
 pub fn the_drafts_of_the_sample()
-    ensures { (n : ℕ) → n ≤ 1000 → drafts_of base_schema (records_from 1 (plains n)) ≡ Ok (drafts n) }
+    ensures { (n : ℕ) → n ≤ 1000 → drafts_of base_schema (records_from 1 (plains n))
+        ≡ Ok (drafts n) }
 {}
 
-/// The fourth phase of loading makes these objects of them, with their numbers, their values and the one link, and the
-/// default descriptor of its class where an object has none of its own. Of no unit there is nobody to be linked.
+/// The fourth phase of loading makes these objects of them, with their numbers, their values and the one link, and
+/// the default descriptor of its class where an object has none of its own. Of no unit there is nobody to be linked.
 pub fn the_objects_of_the_sample()
     ensures { (n : ℕ) → 1 ≤ n → n ≤ 1000 → objects_of base_schema (drafts n) ≡ Ok (made_objects n) }
 {}

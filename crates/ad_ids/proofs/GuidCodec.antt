@@ -1,5 +1,6 @@
 -- The reader of a GUID is that of its encoding.
-use Rattle.std.proofs.Common.{◌≡◌, ℕ, ◌≤◌, false, ltb, List, ◌++◌, length, take, drop, Ok, refl, sym, ap, subst, ◌∙◌, arith}
+use Rattle.std.proofs.Common.{◌≡◌, ℕ, ◌≤◌, false, ltb, List, ◌++◌, length, take, drop, Ok, refl, sym, ap, subst, ◌∙◌}
+use Rattle.std.proofs.Common.{arith}
 use Rattle.std.proofs.lemmas.Bool.{ltb-false}
 use Rattle.std.proofs.lemmas.List.{length-take}
 use Rattle.ad_bytes.specs.Reading.{IsBytes, TakesFront, IsReaderOf}
@@ -13,7 +14,8 @@ use Rattle.ad_ids.specs.Guid.{SpellsGuid, guid_at}
 pub length_part : (n : ℕ) (bytes part rest : List ℕ) → part_at n bytes ≡ Ok (part, rest) → length part ≡ n
 unfolding part_at
 length_part n bytes part rest e =
-    from_guard (ltb (length bytes) n) short (take n bytes, drop n bytes) (part, rest) e (λ (long : ltb (length bytes) n ≡ false) (same : (take n bytes, drop n bytes) ≡ (part, rest)).
+    from_guard (ltb (length bytes) n) short (take n bytes, drop n bytes) (part, rest) e
+    (λ (long : ltb (length bytes) n ≡ false) (same : (take n bytes, drop n bytes) ≡ (part, rest)).
     let le : n ≤ length bytes = ltb-false _ _ long in
     let taken : length (take n bytes) ≡ n = omega (arith, length-take n bytes) in
     ap (λ (p : List ℕ × List ℕ). length p.0) (sym same) ∙ taken)
@@ -21,10 +23,12 @@ length_part n bytes part rest e =
 abbrev guid : List ℕ → Guid
 guid bytes = record { bytes = bytes }
 
-guid_takes : (bytes : List ℕ) (g : Guid) (rest : List ℕ) → IsBytes bytes → guid_at bytes ≡ Ok (g, rest) → TakesFront SpellsGuid bytes g rest
+guid_takes : (bytes : List ℕ) (g : Guid) (rest : List ℕ) → IsBytes bytes → guid_at bytes ≡ Ok (g, rest)
+    → TakesFront SpellsGuid bytes g rest
 unfolding guid_at
 guid_takes bytes g rest fits e =
-    from_bind (part_at 16 bytes) _ (g, rest) e (λ (part : List ℕ × List ℕ) (e1 : part_at 16 bytes ≡ Ok part) (e2 : Ok (guid part.0, part.1) ≡ Ok (g, rest)).
+    from_bind (part_at 16 bytes) _ (g, rest) e
+    (λ (part : List ℕ × List ℕ) (e1 : part_at 16 bytes ≡ Ok part) (e2 : Ok (guid part.0, part.1) ≡ Ok (g, rest)).
     let t : TakesFront (SpellsPart 16) bytes part.0 part.1 = (part_reader 16).takes bytes part.0 part.1 fits e1 in
     let parts : bytes ≡ part.0 ++ part.1 = t.parts ∙ ap (λ (text : List ℕ). text ++ part.1) t.spelled.1 in
     let same : (guid part.0, part.1) ≡ (g, rest) = from_ok (guid part.0, part.1) (g, rest) e2 in

@@ -1,5 +1,6 @@
 -- A GUID is read from a text as the toolchain's reader of all forms reads it.
-use Rattle.std.proofs.Common.{Bool, eqb, true, false, if◌then◌else◌, Option, Some, None, unwrap_or, ◌≡◌, ℕ, List, length, refl, sym, ap, ◌∙◌, arith}
+use Rattle.std.proofs.Common.{Bool, eqb, true, false, if◌then◌else◌, Option, Some, None, unwrap_or, ◌≡◌, ℕ, List}
+use Rattle.std.proofs.Common.{length, refl, sym, ap, ◌∙◌, arith}
 use Rattle.std.specs.Prelude.{option_map}
 use Rattle.std.proofs.lemmas.Bool.Decides.{nat_tests}
 use Rattle.uuid.specs.Text.{lower, hyphenated_text, parsed, parsed_hyphenated}
@@ -31,13 +32,15 @@ sixteen_read s xs e =
     ap length (some_one xs _ inner) ∙ by_index_length 16 _
 
 -- bytes that are read are encoded by the text
-pub spelled_by : (s xs bytes : List ℕ) → length s ≡ 36 → Some xs ≡ parsed s → bytes ≡ swap_fields xs → SpellsGuidText (guid bytes) s
+pub spelled_by : (s xs bytes : List ℕ) → length s ≡ 36 → Some xs ≡ parsed s → bytes ≡ swap_fields xs
+    → SpellsGuidText (guid bytes) s
 spelled_by s xs bytes len e same =
     let read : Some xs ≡ parsed_hyphenated s = e ∙ parsed_at_36 s len in
     rw same (refl, sym read ∙ ap Some (sym (swap_twice xs (sixteen_read s xs read))))
 
 -- what the text encodes is what is read
-pub read_once : (s xs bytes : List ℕ) (g : Guid) → length s ≡ 36 → Some xs ≡ parsed s → bytes ≡ swap_fields xs → SpellsGuidText g s → Some (guid bytes) ≡ Some g
+pub read_once : (s xs bytes : List ℕ) (g : Guid) → length s ≡ 36 → Some xs ≡ parsed s → bytes ≡ swap_fields xs
+    → SpellsGuidText g s → Some (guid bytes) ≡ Some g
 read_once s xs bytes g len e same spelled =
     let first : xs ≡ swap_fields g.bytes = some_one xs (swap_fields g.bytes) (e ∙ parsed_at_36 s len ∙ spelled.1) in
     ap (λ (b : List ℕ). Some (guid b)) (same ∙ ap swap_fields first ∙ swap_twice g.bytes spelled.0)
@@ -46,7 +49,8 @@ read_once s xs bytes g len e same spelled =
 pub length-guid_text : (g : Guid) → length (guid_text g) ≡ 36
 length-guid_text g = by_index_length 36 _
 
-pub spelled_by_text : (g : Guid) (xs text : List ℕ) → length g.bytes ≡ 16 → xs ≡ swap_fields g.bytes → text ≡ hyphenated_text lower xs → Some xs ≡ parsed text → SpellsGuidText g text
+pub spelled_by_text : (g : Guid) (xs text : List ℕ) → length g.bytes ≡ 16 → xs ≡ swap_fields g.bytes → text
+    ≡ hyphenated_text lower xs → Some xs ≡ parsed text → SpellsGuidText g text
 spelled_by_text g xs text sixteen bytes same e =
     let whole : text ≡ guid_text g = same ∙ ap (hyphenated_text lower) bytes in
     let len : length text ≡ 36 = ap length whole ∙ length-guid_text g in
@@ -54,10 +58,12 @@ spelled_by_text g xs text sixteen bytes same e =
 
 -- ---- as a function of the text
 
-none_spelled : (read : Option (List ℕ)) (text : List ℕ) → parsed_hyphenated text ≡ read → ((g : Guid) → SpellsGuidText g text → ⊥)
+none_spelled : (read : Option (List ℕ)) (text : List ℕ) → parsed_hyphenated text ≡ read
+    → ((g : Guid) → SpellsGuidText g text → ⊥)
     → None ≡ option_map (λ bytes. guid (swap_fields bytes)) read
 none_spelled None text e none = refl
-none_spelled (Some xs) text e none = absurd (none (guid (swap_fields xs)) (refl, e ∙ ap Some (sym (swap_twice xs (sixteen_read text xs (sym e))))))
+none_spelled (Some xs) text e none = absurd
+    (none (guid (swap_fields xs)) (refl, e ∙ ap Some (sym (swap_twice xs (sixteen_read text xs (sym e))))))
 
 -- a text that is read whole is the function's
 pub value_read : (g : Guid) (text : List ℕ) → SpellsGuidText g text → Some g ≡ guid_of_text text

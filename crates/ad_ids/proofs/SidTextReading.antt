@@ -1,5 +1,7 @@
 -- An identifier's text takes its reader step by step to the identifier.
-use Rattle.std.proofs.Common.{Bool, eqb, nat_le, nat_lt, ◌≡◌, inl, inr, ℕ, zero, suc, ◌+◌, ◌-◌, ◌*◌, ◌/◌, ◌%◌, ◌^◌, ◌<◌, ◌≤◌, true, false, Option, Some, List, [], ◌∷◌, ◌++◌, length, refl, sym, ap, subst, ◌∙◌, append_assoc, arith, codes, decimal}
+use Rattle.std.proofs.Common.{Bool, eqb, nat_le, nat_lt, ◌≡◌, inl, inr, ℕ, zero, suc, ◌+◌, ◌-◌, ◌*◌, ◌/◌, ◌%◌, ◌^◌}
+use Rattle.std.proofs.Common.{◌<◌, ◌≤◌, true, false, Option, Some, List, [], ◌∷◌, ◌++◌, length, refl, sym, ap, subst}
+use Rattle.std.proofs.Common.{◌∙◌, append_assoc, arith, codes, decimal}
 use Rattle.std.specs.Prelude.{◌&&◌, ◌||◌}
 use Rattle.std.proofs.lemmas.Bool.{cases_Bool, eqb-true}
 use Rattle.std.proofs.lemmas.Bool.Decides.{nat_tests}
@@ -14,7 +16,8 @@ use Rattle.ad_ids.specs.declared.sid.reading.Before.TheVariants.{Front, Decimal,
 use Rattle.ad_ids.specs.SidGrammar.{IsFront, SpellsHex, SpellsAuthority, SpellsSidText}
 use Rattle.ad_ids.specs.SidValue.{SidValue}
 use Rattle.ad_ids.specs.SidText.{others_text}
-use Rattle.ad_ids.specs.SidSteps.{state, is_digit, more_digits, with_number, step, step_from, hex_step, from_there, start, finished}
+use Rattle.ad_ids.specs.SidSteps.{state, is_digit, more_digits, with_number, step, step_from, hex_step, from_there}
+use Rattle.ad_ids.specs.SidSteps.{start, finished}
 
 -- the machine of the texts
 pub run_append : (o : Option State) (xs ys : List ℕ) → from_there o (xs ++ ys) ≡ from_there (from_there o xs) ys
@@ -22,7 +25,12 @@ run_append o xs ys = machine.run_append step o xs ys
 
 pub front_read : (f : List ℕ) → IsFront f → from_there (Some start) f ≡ Some (state Front 0 0 [])
 unfolding step_from
-front_read f h = ap (from_there (Some start)) h.parts ∙ elim h.is_s [ inl e ↦ ap (λ (l : ℕ). from_there (Some start) (l ∷ codes "-1-")) e ∙ refl | inr e ↦ ap (λ (l : ℕ). from_there (Some start) (l ∷ codes "-1-")) e ∙ refl ]
+front_read f h = ap (from_there (Some start)) h.parts
+    ∙ elim h.is_s [
+      | inl e ↦ ap (λ (l : ℕ). from_there (Some start) (l ∷ codes "-1-")) e ∙ refl
+      | inr e
+          ↦ ap (λ (l : ℕ). from_there (Some start) (l ∷ codes "-1-")) e ∙ refl
+    ]
 
 pub digit_more : (n : ℕ) → 10 ≤ n → n < 2 ^ 32 → more_digits (n / 10) (48 + n % 10) ≡ Some n
 digit_more n low high =
@@ -58,7 +66,8 @@ Leads s before authority done n ds = n < 2 ^ 32 → from_there (Some s) ds ≡ S
 -- the digits of a number, from a state where its first digit may stand
 pub digits_read : (s : State) (before : Before) (authority : ℕ) (done : List ℕ)
     → ((d : ℕ) → d < 10 → step s (48 + d) ≡ Some (state before authority d done))
-    → ((n d : ℕ) → 0 < n → d < 10 → step (state before authority n done) (48 + d) ≡ with_number (state before authority n done) (more_digits n (48 + d)))
+    → ((n d : ℕ) → 0 < n → d < 10 → step (state before authority n done) (48 + d)
+    ≡ with_number (state before authority n done) (more_digits n (48 + d)))
     → (n : ℕ) → n < 2 ^ 32 → from_there (Some s) (decimal n) ≡ Some (state before authority n done)
 digits_read s before authority done first more n small =
     decimal_by_steps (Leads s before authority done) one next n (omega arith) small
@@ -66,11 +75,13 @@ digits_read s before authority done first more n small =
     one : (n : ℕ) → n < 10 → Leads s before authority done n ((48 + n) ∷ [])
     one n lt small = ap (λ (o : Option State). from_there o []) (first n lt)
 
-    next : (n : ℕ) (ds : List ℕ) → 10 ≤ n → Leads s before authority done (n / 10) ds → Leads s before authority done n (ds ++ (48 + n % 10) ∷ [])
+    next : (n : ℕ) (ds : List ℕ) → 10 ≤ n → Leads s before authority done (n / 10) ds → Leads s before authority done
+        n (ds ++ (48 + n % 10) ∷ [])
     next n ds low so_far small =
         run_append (Some s) ds ((48 + n % 10) ∷ [])
         ∙ ap (λ (o : Option State). from_there o ((48 + n % 10) ∷ [])) (so_far (omega arith))
-        ∙ ap (λ (o : Option State). from_there o []) (more (n / 10) (n % 10) (omega arith) (omega arith) ∙ ap (with_number (state before authority (n / 10) done)) (digit_more n low small))
+        ∙ ap (λ (o : Option State). from_there o []) (more (n / 10) (n % 10) (omega arith) (omega arith)
+        ∙ ap (with_number (state before authority (n / 10) done)) (digit_more n low small))
 
 is_digit_of : (d : ℕ) → d < 10 → is_digit (48 + d) ≡ true
 is_digit_of d lt = grind (arith, nat_tests)
@@ -82,20 +93,24 @@ back : (d : ℕ) → 48 + d - 48 ≡ d
 back d = omega arith
 
 -- an authority in decimal
-pub decimal_read : (n : ℕ) → n < 2 ^ 32 → from_there (Some (state Front 0 0 [])) (decimal n) ≡ Some (state Decimal 0 n [])
+pub decimal_read : (n : ℕ) → n < 2 ^ 32 → from_there (Some (state Front 0 0 [])) (decimal n)
+    ≡ Some (state Decimal 0 n [])
 unfolding step_from
 decimal_read = digits_read (state Front 0 0 []) Decimal 0 []
     (λ d lt. rw (is_digit_of d lt, back d) refl)
-    (λ n d some lt. let positive : eqb n 0 ≡ false = grind (arith, nat_tests) in rw (no_hyphen d, positive, and_false (eqb (48 + d) 120)) refl)
+    (λ n d some lt. let positive : eqb n 0 ≡ false = grind (arith, nat_tests)
+    in rw (no_hyphen d, positive, and_false (eqb (48 + d) 120)) refl)
 
 -- a sub-authority
-pub number_read : (authority m : ℕ) (done : List ℕ) (n : ℕ) → n < 2 ^ 32 → from_there (Some (state Hyphen authority m done)) (decimal n) ≡ Some (state Number authority n done)
+pub number_read : (authority m : ℕ) (done : List ℕ) (n : ℕ) → n < 2 ^ 32
+    → from_there (Some (state Hyphen authority m done)) (decimal n) ≡ Some (state Number authority n done)
 unfolding step_from
 number_read authority m done = digits_read (state Hyphen authority m done) Number authority done
     (λ d lt. rw (is_digit_of d lt, back d) refl)
     (λ n d some lt. rw (no_hyphen d) refl)
 
-hex_more : (k n last : ℕ) → is_hex_digit last ≡ true → value_of last ≡ n % 16 → n < 2 ^ 48 → suc k ≤ 12 → (4 ≤ suc k → 16 ^ (suc k - 4) ≤ n) → step (state (Hex k) (n / 16) 0 []) last ≡ Some (state (Hex (suc k)) n 0 [])
+hex_more : (k n last : ℕ) → is_hex_digit last ≡ true → value_of last ≡ n % 16 → n < 2 ^ 48 → suc k ≤ 12
+    → (4 ≤ suc k → 16 ^ (suc k - 4) ≤ n) → step (state (Hex k) (n / 16) 0 []) last ≡ Some (state (Hex (suc k)) n 0 [])
 unfolding step_from hex_step
 hex_more k n last digit remainder small high large =
     let whole : n / 16 * 16 + value_of last ≡ n = omega (arith, remainder) in
@@ -105,23 +120,33 @@ hex_more k n last digit remainder small high large =
     rw (not_all, digit, bounds, whole, some) (ap (λ (i : ℕ). Some (state (Hex i) n 0 [])) (omega arith))
 
 -- the digits of an authority in hexadecimal
-pub hex_read : (k n : ℕ) (ds : List ℕ) → SpellsHex k n ds → n < 2 ^ 48 → k ≤ 12 → (4 ≤ k → 16 ^ (k - 4) ≤ n) → from_there (Some (state (Hex 0) 0 0 [])) ds ≡ Some (state (Hex k) n 0 [])
+pub hex_read : (k n : ℕ) (ds : List ℕ) → SpellsHex k n ds → n < 2 ^ 48 → k ≤ 12 → (4 ≤ k → 16 ^ (k - 4) ≤ n)
+    → from_there (Some (state (Hex 0) 0 0 [])) ds ≡ Some (state (Hex k) n 0 [])
 hex_read zero n ds s small high large = rw (s.0, s.1) refl
 hex_read (suc k) n ds s small high large =
-    let so_far = hex_read k (n / 16) s.front s.before (omega arith) (omega arith) (λ le. sixteenth k n (large (omega arith)) le) in
+    let so_far = hex_read k (n / 16) s.front s.before (omega arith) (omega arith)
+    (λ le. sixteenth k n (large (omega arith)) le) in
     ap (from_there (Some (state (Hex 0) 0 0 []))) s.parts
     ∙ run_append (Some (state (Hex 0) 0 0 [])) s.front (s.last ∷ [])
     ∙ ap (λ (o : Option State). from_there o (s.last ∷ [])) so_far
     ∙ ap (λ (o : Option State). from_there o []) (hex_more k n s.last s.digit s.remainder small high large)
 
 -- an authority and the hyphen after it
-pub authority_read : (n : ℕ) (text : List ℕ) → SpellsAuthority n text → n < 2 ^ 48 → (m : ℕ) × (from_there (Some (state Front 0 0 [])) (text ++ 45 ∷ []) ≡ Some (state Hyphen n m []))
+pub authority_read : (n : ℕ) (text : List ℕ) → SpellsAuthority n text → n < 2 ^ 48 → (m : ℕ)
+    × (from_there (Some (state Front 0 0 [])) (text ++ 45 ∷ []) ≡ Some (state Hyphen n m []))
 unfolding step_from hex_step
-authority_read n text (inl s) small =
-    (n, run_append (Some (state Front 0 0 [])) text (45 ∷ []) ∙ ap (λ (o : Option State). from_there o (45 ∷ [])) (ap (from_there (Some (state Front 0 0 []))) s.1 ∙ decimal_read n s.0))
+authority_read n text (inl s) small = (
+  n,
+  run_append (Some (state Front 0 0 [])) text (45 ∷ []) ∙ ap (λ (o : Option State). from_there o (45 ∷ []))
+      (ap (from_there (Some (state Front 0 0 []))) s.1 ∙ decimal_read n s.0),
+)
 authority_read n text (inr s) small =
-    let digits = hex_read 12 n s.digits s.spelled small (omega arith) (λ _. s.large) in
-    (0, ap (λ (t : List ℕ). from_there (Some (state Front 0 0 [])) (t ++ 45 ∷ [])) s.parts ∙ run_append (Some (state (Hex 0) 0 0 [])) s.digits (45 ∷ []) ∙ ap (λ (o : Option State). from_there o (45 ∷ [])) digits)
+    let digits = hex_read 12 n s.digits s.spelled small (omega arith) (λ _. s.large) in (
+      0,
+      ap (λ (t : List ℕ). from_there (Some (state Front 0 0 [])) (t ++ 45 ∷ [])) s.parts
+          ∙ run_append (Some (state (Hex 0) 0 0 [])) s.digits (45 ∷ [])
+          ∙ ap (λ (o : Option State). from_there o (45 ∷ [])) digits,
+    )
 
 -- the steps end with the whole identifier
 pub record Finishes (o : Option State) (v : SidValue) : Type 0 where
@@ -133,23 +158,28 @@ abbrev sid : ℕ → List ℕ → SidValue
 sid authority others = record { authority = authority; sub_authorities = others }
 
 -- the last sub-authority, and one before others
-number_last : (authority n : ℕ) (done : List ℕ) → authority < 2 ^ 48 → length done + 1 ≤ 15 → finished (state Number authority n done) ≡ Some (sid authority (done ++ n ∷ []))
+number_last : (authority n : ℕ) (done : List ℕ) → authority < 2 ^ 48 → length done + 1 ≤ 15
+    → finished (state Number authority n done) ≡ Some (sid authority (done ++ n ∷ []))
 number_last authority n done small room =
     let bounds : nat_le (2 ^ 48) authority || nat_le 15 (length done) ≡ false = grind (arith, nat_tests) in
     rw bounds refl
 
-number_next : (authority n : ℕ) (done : List ℕ) → length done + 1 < 15 → step (state Number authority n done) 45 ≡ Some (state Hyphen authority n (done ++ n ∷ []))
+number_next : (authority n : ℕ) (done : List ℕ) → length done + 1 < 15 → step (state Number authority n done) 45
+    ≡ Some (state Hyphen authority n (done ++ n ∷ []))
 unfolding step_from
 number_next authority n done room =
     let bounds : nat_le 14 (length done) ≡ false = grind (arith, nat_tests) in
     rw bounds refl
 
 -- the sub-authorities
-pub others_read : (authority m : ℕ) (done : List ℕ) (x : ℕ) (xs : List ℕ) → authority < 2 ^ 48 → AllByRecursion (λ n. n < 2 ^ 32) (x ∷ xs) → length done + length (x ∷ xs) ≤ 15
-    → Finishes (from_there (Some (state Hyphen authority m done)) (decimal x ++ others_text xs)) (sid authority (done ++ x ∷ xs))
+pub others_read : (authority m : ℕ) (done : List ℕ) (x : ℕ) (xs : List ℕ) → authority < 2 ^ 48
+    → AllByRecursion (λ n. n < 2 ^ 32) (x ∷ xs) → length done + length (x ∷ xs) ≤ 15
+    → Finishes (from_there (Some (state Hyphen authority m done)) (decimal x ++ others_text xs))
+    (sid authority (done ++ x ∷ xs))
 others_read authority m done x [] small all room = record {
   last = state Number authority x done;
-  steps = ap (from_there (Some (state Hyphen authority m done))) (append-nil (decimal x)) ∙ number_read authority m done x all.0;
+  steps = ap (from_there (Some (state Hyphen authority m done))) (append-nil (decimal x)) ∙ number_read authority m
+      done x all.0;
   whole = number_last authority x done small room;
 }
 others_read authority m done x (y ∷ ys) small all room =
@@ -167,7 +197,8 @@ others_read authority m done x (y ∷ ys) small all room =
     }
 
 -- the prefix, the authority and the sub-authorities
-parts_read : (front authority : List ℕ) (n : ℕ) (others : List ℕ) → IsFront front → SpellsAuthority n authority → n < 2 ^ 48 → 1 ≤ length others → length others ≤ 15 → AllByRecursion (λ n. n < 2 ^ 32) others
+parts_read : (front authority : List ℕ) (n : ℕ) (others : List ℕ) → IsFront front → SpellsAuthority n authority → n
+    < 2 ^ 48 → 1 ≤ length others → length others ≤ 15 → AllByRecursion (λ n. n < 2 ^ 32) others
     → Finishes (from_there (Some start) (front ++ (authority ++ others_text others))) (sid n others)
 parts_read front authority n [] f s small some room all = absurd (omega arith)
 parts_read front authority n (x ∷ xs) f s small some room all =
@@ -189,5 +220,11 @@ parts_read front authority n (x ∷ xs) f s small some room all =
 -- each text of the grammar is read, with its value
 pub text_read : (v : SidValue) (text : List ℕ) → SpellsSidText v text → machine.Finishes step start finished v text
 text_read v text s =
-    let p = parts_read s.front s.authority v.authority v.sub_authorities s.is_front s.spelled s.is_sid.authority s.is_sid.at_least_one s.is_sid.at_most_15 s.is_sid.sub_authorities in
-    record { last = p.last; steps = ap (from_there (Some start)) (s.parts ∙ append_assoc s.front s.authority (others_text v.sub_authorities)) ∙ p.steps; whole = p.whole }
+    let p = parts_read s.front s.authority v.authority v.sub_authorities s.is_front s.spelled s.is_sid.authority
+    s.is_sid.at_least_one s.is_sid.at_most_15 s.is_sid.sub_authorities in
+    record {
+      last = p.last;
+      steps = ap (from_there (Some start))
+          (s.parts ∙ append_assoc s.front s.authority (others_text v.sub_authorities)) ∙ p.steps;
+      whole = p.whole;
+    }

@@ -1,5 +1,6 @@
 -- The text that is written of an identifier is in the grammar.
-use Rattle.std.proofs.Common.{Bool, ltb, ◌≡◌, inl, inr, ℕ, zero, suc, ◌/◌, ◌%◌, ◌^◌, ◌<◌, true, if◌then◌else◌, ◌++◌, refl, ap, arith, codes, decimal}
+use Rattle.std.proofs.Common.{Bool, ltb, ◌≡◌, inl, inr, ℕ, zero, suc, ◌/◌, ◌%◌, ◌^◌, ◌<◌, true, if◌then◌else◌, ◌++◌}
+use Rattle.std.proofs.Common.{refl, ap, arith, codes, decimal}
 use Rattle.std.proofs.lemmas.Bool.{cases_Bool, ltb-true, ltb-false}
 use Rattle.std.proofs.lemmas.Bool.Decides.{nat_tests}
 use Rattle.uuid.specs.Text.{lower, is_hex_digit, value_of}
@@ -21,11 +22,23 @@ unfolding hex_digits
 hex_written zero n small = (omega (arith, small), refl)
 hex_written (suc k) n small =
     let d = digit_read (n % 16) (omega arith) in
-    record { front = hex_digits k (n / 16); last = hex_digit (n % 16); digit = d.0; remainder = d.1; parts = refl; before = hex_written k (n / 16) (omega (arith, small)) }
+    record {
+      front = hex_digits k (n / 16);
+      last = hex_digit (n % 16);
+      digit = d.0;
+      remainder = d.1;
+      parts
+          = refl;
+      before = hex_written k (n / 16) (omega (arith, small));
+    }
 
 authority_written : (n : ℕ) → n < 2 ^ 48 → SpellsAuthority n (authority_text n)
 authority_written n small = elim (cases_Bool (ltb n (2 ^ 32))) [
-  | inl below ↦ inl (ltb-true n (2 ^ 32) below, ap (λ (c : Bool). if c then decimal n else codes "0x" ++ hex_digits 12 n) below)
+  | inl below ↦ inl (
+    ltb-true n (2 ^ 32) below,
+    ap (λ (c : Bool). if c then decimal n else codes "0x"
+        ++ hex_digits 12 n) below,
+  )
   | inr large ↦ inr (record {
     large = ltb-false n (2 ^ 32) large;
     digits = hex_digits 12 n;

@@ -25,11 +25,13 @@ fields_of v = record {
 
 pub fields_of-value_of : (s : Inside) → IsPadded s → fields_of (value_of s) ≡ s
 fields_of-value_of s h =
-    let count : length (take s.count s.places) ≡ s.count = omega (arith, length-take s.count s.places, h.places, h.at_most_15) in
+    let count : length (take s.count s.places) ≡ s.count
+    = omega (arith, length-take s.count s.places, h.places, h.at_most_15) in
     let places : take s.count s.places ++ replicate (15 - length (take s.count s.places)) 0
     ≡ s.places = ap (λ (n : ℕ). take s.count s.places ++ replicate (15 - n) 0) count
     ∙ ap (λ (xs : List ℕ). take s.count s.places ++ xs) (sym h.padded) ∙ take-append-drop s.count s.places in
-    ap (λ (n : ℕ). fields n (take s.count s.places ++ replicate (15 - length (take s.count s.places)) 0)) count ∙ ap (λ (xs : List ℕ). fields s.count xs) places
+    ap (λ (n : ℕ). fields n (take s.count s.places ++ replicate (15 - length (take s.count s.places)) 0)) count
+    ∙ ap (λ (xs : List ℕ). fields s.count xs) places
   where
     fields : ℕ → List ℕ → Inside
     fields n xs = record { authority = s.authority; count = n; places = xs }

@@ -1,5 +1,6 @@
 -- Which texts encode a security identifier, and where a text that encodes none goes wrong.
-use Rattle.std.specs.Prelude.{◌≡◌, ◌⊎◌, ℕ, zero, suc, ◌/◌, ◌%◌, ◌^◌, ◌<◌, ◌≤◌, true, List, [], ◌∷◌, ◌++◌, codes, decimal}
+use Rattle.std.specs.Prelude.{◌≡◌, ◌⊎◌, ℕ, zero, suc, ◌/◌, ◌%◌, ◌^◌, ◌<◌, ◌≤◌, true, List, [], ◌∷◌, ◌++◌, codes}
+use Rattle.std.specs.Prelude.{decimal}
 use Rattle.uuid.specs.Text.{is_hex_digit, value_of}
 use Rattle.ad_bytes.specs.Prefix.{BeginsOne, IsFaultOffset}
 use Rattle.ad_ids.specs.SidValue.{SidValue}

@@ -1,6 +1,7 @@
 -- The index of a list of identifiers: for each of its buckets, and for each identifier, where the last one before
 -- stands.
-use Rattle.std.specs.Prelude.{◌≡◌, ℕ, zero, suc, ◌-◌, ◌*◌, ◌/◌, ◌%◌, ◌<◌, ◌==◌, if◌then◌else◌, List, [], ◌++◌, fold, length, get_or, Option, Some, None}
+use Rattle.std.specs.Prelude.{◌≡◌, ℕ, zero, suc, ◌-◌, ◌*◌, ◌/◌, ◌%◌, ◌<◌, ◌==◌, if◌then◌else◌, List, [], ◌++◌, fold}
+use Rattle.std.specs.Prelude.{length, get_or, Option, Some, None}
 use Rattle.std.specs.Hash as fed
 use Rattle.std.specs.Hash.DefaultHasher as sip
 use Rattle.ad_ids.specs.declared.sid_index.SidIndex.{SidIndex}
@@ -17,7 +18,8 @@ bucket_by_end s = bucket_of_word (get_or s.sub_authorities (length s.sub_authori
 -- the bucket by all of the identifier, under a key
 unfoldable pub bucket_by_all : ℕ → SidValue → ℕ
 bucket_by_all key s =
-    (sip.finish (fold sip.write (fold sip.write sip.initial (fed.u64 key)) (fed.u64 s.authority ++ fed.slice fed.u32 s.sub_authorities))) % 1024
+    (sip.finish (fold sip.write (fold sip.write sip.initial (fed.u64 key))
+    (fed.u64 s.authority ++ fed.slice fed.u32 s.sub_authorities))) % 1024
 
 -- The bucket of an identifier: by its end, and in a list of which many have one end by all of it.
 abbrev pub bucket_of : Option ℕ → SidValue → ℕ

@@ -41,12 +41,14 @@ numbers_of (text ∷ texts) = option_and_then (λ n. option_map (λ ns. n ∷ ns
 
 -- 1 to 15 sub-authorities
 abbrev pub with_numbers : ℕ → List ℕ → Option SidValue
-with_numbers authority numbers = checked (nat_le 1 (length numbers) && nat_le (length numbers) 15) (record { authority = authority; sub_authorities = numbers })
+with_numbers authority numbers = checked (nat_le 1 (length numbers) && nat_le (length numbers) 15)
+    (record { authority = authority; sub_authorities = numbers })
 
 -- the authority, and then the sub-authorities
 abbrev pub sid_of_parts : List (List ℕ) → Option SidValue
 sid_of_parts [] = None
-sid_of_parts (authority ∷ others) = option_and_then (λ n. option_and_then (with_numbers n) (numbers_of others)) (authority_of authority)
+sid_of_parts (authority ∷ others) = option_and_then (λ n. option_and_then (with_numbers n) (numbers_of others))
+    (authority_of authority)
 
 -- with S in either case
 abbrev pub begins_sid : List ℕ → Bool

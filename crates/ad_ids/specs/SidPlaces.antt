@@ -10,5 +10,6 @@ pub record HoldsPlaces (count : ℕ) (places others : List ℕ) : Type 0 where
   pub padded : drop count places ≡ replicate (15 - count) 0
 
 abbrev pub ReadsPlaces : ℕ → Result (List ℕ) Short → List ℕ → Reading (List ℕ) Short → Type 0
-ReadsPlaces count (Ok places) left read = (others : List ℕ) × (read ≡ Ok (others, left)) × HoldsPlaces count places others
+ReadsPlaces count (Ok places) left read = (others : List ℕ) × (read ≡ Ok (others, left)) × HoldsPlaces count places
+    others
 ReadsPlaces count (Err e) left read = read ≡ Err e

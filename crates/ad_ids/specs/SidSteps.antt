@@ -6,7 +6,8 @@ use Rattle.ad_bytes.specs.Machine.{run, StopsAt}
 use Rattle.ad_ids.specs.SidValue.{SidValue}
 use Rattle.ad_ids.specs.declared.sid.reading.State.{State}
 use Rattle.ad_ids.specs.declared.sid.reading.Before.{Before}
-use Rattle.ad_ids.specs.declared.sid.reading.Before.TheVariants.{Nothing, Letter, LetterHyphen, Revision, Front, Decimal, Hex, Hyphen, Number}
+use Rattle.ad_ids.specs.declared.sid.reading.Before.TheVariants.{Nothing, Letter, LetterHyphen, Revision, Front}
+use Rattle.ad_ids.specs.declared.sid.reading.Before.TheVariants.{Decimal, Hex, Hyphen, Number}
 
 abbrev pub is_digit : ℕ → Bool
 is_digit b = nat_le 48 b && nat_le b 57
@@ -17,7 +18,8 @@ state before authority number done = record { before = before; authority = autho
 
 -- a number with one more digit: none begins with 0, and none is 2^32 or above
 abbrev pub more_digits : ℕ → ℕ → Option ℕ
-more_digits n b = if is_digit b && nat_lt 0 n && nat_lt (n * 10 + (b - 48)) (2 ^ 32) then Some (n * 10 + (b - 48)) else None
+more_digits n b = if is_digit b && nat_lt 0 n && nat_lt (n * 10 + (b - 48)) (2 ^ 32) then Some (n * 10 + (b - 48))
+    else None
 
 abbrev pub with_number : State → Option ℕ → Option State
 with_number s (Some n) = Some (state s.before s.authority n s.done)

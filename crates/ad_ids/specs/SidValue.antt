@@ -26,4 +26,5 @@ same_sid_alike = fed.and-Alike (fed.on_Alike (λ (s : SidValue). s.authority)
     (fed.items_Alike (fed.same_Alike fed.u32 unsigned_Decides)))
 
 pub same_sid_laws : IsEquivalence same_sid
-same_sid_laws = and_equiv (on_equiv (λ (s : SidValue). s.authority) nat_eq_equiv) (on_equiv (λ (s : SidValue). s.sub_authorities) nat_list_eq_equiv)
+same_sid_laws = and_equiv (on_equiv (λ (s : SidValue). s.authority) nat_eq_equiv)
+    (on_equiv (λ (s : SidValue). s.sub_authorities) nat_list_eq_equiv)

@@ -65,7 +65,8 @@ pub record SpellsWithMarks (lists : Lists) (text : List ℕ) : Type 0 where
   pub count : length marked ≤ 1024
   pub groups : lists.groups ≡ enabled_of marked
   pub deny_only : lists.deny_only ≡ deny_only_of marked
-  pub text_is : StartsWith (SpellsBe 2) (length marked) (StartsWith (SpellsEach SpellsMarked) marked (SpellsSids lists.restricting)) text
+  pub text_is : StartsWith (SpellsBe 2) (length marked)
+      (StartsWith (SpellsEach SpellsMarked) marked (SpellsSids lists.restricting)) text
 
 -- by the version
 abbrev pub SpellsLists : ℕ → Lists → List ℕ → Type 0

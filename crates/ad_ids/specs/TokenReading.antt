@@ -1,5 +1,6 @@
 -- How an access token is read, with the fault that stands first.
-use Rattle.std.specs.Prelude.{ℕ, zero, suc, Bool, true, false, List, [], length, ◌==◌, ◌||◌, nat_lt, nat_le, if◌then◌else◌, Result, Ok, Err}
+use Rattle.std.specs.Prelude.{ℕ, zero, suc, Bool, true, false, List, [], length, ◌==◌, ◌||◌, nat_lt, nat_le}
+use Rattle.std.specs.Prelude.{if◌then◌else◌, Result, Ok, Err}
 use Rattle.ad_bytes.specs.Reading.{Reading, ◌>>=◌, need, fault_as, or_fault, many_at}
 use Rattle.ad_bytes.specs.Numbers.{byte_at, be_at}
 use Rattle.ad_ids.specs.declared.token.Token.{Token}

@@ -32,5 +32,6 @@ pub fn a_sid_has_8_bytes_and_4_for_each()
 
 /// No encoding of a token begins another: bytes that begin with one are that token's, and end where it does.
 pub fn no_token_begins_another()
-    ensures { (a b : TokenValue) (x y r s : List ℕ) → SpellsToken a x → SpellsToken b y → x ++ r ≡ y ++ s → (a ≡ b) × (x ≡ y) }
+    ensures { (a b : TokenValue) (x y r s : List ℕ) → SpellsToken a x → SpellsToken b y → x ++ r ≡ y
+        ++ s → (a ≡ b) × (x ≡ y) }
 {}

@@ -1,6 +1,7 @@
 //! A security identifier as a value, and its bytes.
 
-ghost use Rattle.std.specs.Prelude.{◌≡◌, ◌<◌, ◌≤◌, ◌^◌, ◌+◌, ◌*◌, ◌++◌, length, take, drop, List, ℕ, OnOk, OnErr, IfOk, IfErr, Ok, Err};
+ghost use Rattle.std.specs.Prelude.{◌≡◌, ◌<◌, ◌≤◌, ◌^◌, ◌+◌, ◌*◌, ◌++◌, length, take, drop, List, ℕ, OnOk, OnErr};
+ghost use Rattle.std.specs.Prelude.{IfOk, IfErr, Ok, Err};
 ghost use Rattle.std.specs.List.{flat_map, AllByRecursion};
 ghost use Rattle.ad_bytes.specs.Reading.{Reads, TakesFront, many_at};
 ghost use Rattle.ad_bytes.specs.Numbers.{le_at, be_bytes, le_bytes};
@@ -142,7 +143,8 @@ impl Sid {
     /// Whether it is the identifier with the one sub-authority below the authority, which is below 2^48.
     pub fn is_well_known(&self, authority: u64, sub_authority: u32) -> bool
         requires { authority < 2 ^ 48 }
-        ensures { result ≡ same_sid self.now (record { authority = authority; sub_authorities = sub_authority ∷ [] }) }
+        ensures { result ≡ same_sid self.now
+            (record { authority = authority; sub_authorities = sub_authority ∷ [] }) }
     {
         if self.count != 1 {
             return false;
@@ -220,10 +222,12 @@ impl Sid {
     /// the second is 0 or above 15, and `Short` where the bytes end before the identifier does.
     pub fn from_bytes(bytes: &[u8]) -> Result<(Sid, usize), SidFault>
         // What is read is encoded so, and the rest stands after it.
-        ensures found { IfOk result (λ found. TakesFront SpellsSid bytes.now found.0 (drop found.1 bytes.now)) }
+        ensures found { IfOk result
+            (λ found. TakesFront SpellsSid bytes.now found.0 (drop found.1 bytes.now)) }
         ensures within { IfOk result (λ found. found.1 ≤ length bytes.now) }
         // Whatever is encoded so is read.
-        ensures only { (sid : SidValue) (text rest : List ℕ) → SpellsSid sid text → bytes.now ≡ text ++ rest → result ≡ Ok (sid, length text) }
+        ensures only { (sid : SidValue) (text rest : List ℕ) → SpellsSid sid text → bytes.now ≡ text
+            ++ rest → result ≡ Ok (sid, length text) }
         // Which fault it is.
         ensures fault { IfErr result (λ fault. sid_at bytes.now ≡ Err fault) }
     {
@@ -284,7 +288,8 @@ fn authority_bytes(authority: u64) -> [u8; 6]
 // Puts the bytes after a text that was written at the start.
 fn put(into: &mut [u8], at: usize, bytes: &[u8])
     requires { at + length bytes.now ≤ length into.old }
-    ensures { (old text : List ℕ) → length text ≡ at → into.old ≡ text ++ drop at old → into.new ≡ (text ++ bytes.now) ++ drop (at + length bytes.now) old }
+    ensures { (old text : List ℕ) → length text ≡ at → into.old ≡ text ++ drop at old → into.new
+        ≡ (text ++ bytes.now) ++ drop (at + length bytes.now) old }
 {
     into[at..at + bytes.len()].copy_from_slice(bytes);
 }
@@ -293,7 +298,8 @@ fn put(into: &mut [u8], at: usize, bytes: &[u8])
 fn put_words(into: &mut [u8], at: usize, words: &[u32])
     requires { at + 4 * length words.now ≤ length into.old }
     ensures put { (old text : List ℕ) → length text ≡ at → into.old ≡ text ++ drop at old
-        → into.new ≡ (text ++ flat_map (le_bytes 4) words.now) ++ drop (at + 4 * length words.now) old }
+        → into.new ≡ (text ++ flat_map (le_bytes 4) words.now) ++ drop (at + 4 * length words.now)
+        old }
     ensures fit { AllByRecursion (λ n. n < 2 ^ 32) words.now }
 {
     for (i, word) in words.iter().enumerate() {

@@ -22,7 +22,8 @@ pub(crate) fn word_at(bytes: &[u8], at: usize) -> u32
 // Whether the number of sub-authorities and the last of them are those that the bytes say.
 #[inline]
 fn may_begin(words: &[u32], bytes: &[u8]) -> bool
-    ensures { (sid : SidValue) → sid.sub_authorities ≡ words.now → begins_with bytes.now sid ≡ true → result ≡ true }
+    ensures { (sid : SidValue) → sid.sub_authorities ≡ words.now → begins_with bytes.now sid ≡ true
+        → result ≡ true }
 {
     let count = words.len();
     if count == 0 {
@@ -71,7 +72,11 @@ impl Sid {
     #[inline]
     pub fn may_be_well_known(bytes: &[u8]) -> bool
         ensures { (authority sub_authority : ℕ) →
-            begins_with bytes.now (record { authority = authority; sub_authorities = sub_authority ∷ [] }) ≡ true →
+            begins_with bytes.now (record {
+              authority = authority;
+              sub_authorities = sub_authority
+                  ∷ [];
+            }) ≡ true →
             result ≡ true }
     {
         bytes.len() >= 8 && bytes[1] == 1
@@ -82,7 +87,8 @@ impl Sid {
     #[inline]
     pub fn well_known_begins(authority: u64, sub_authority: u32, bytes: &[u8]) -> bool
         requires { authority < 2 ^ 48 }
-        ensures { result ≡ begins_with bytes.now (record { authority = authority; sub_authorities = sub_authority ∷ [] }) }
+        ensures { result ≡ begins_with bytes.now
+            (record { authority = authority; sub_authorities = sub_authority ∷ [] }) }
     {
         if !may_begin(&[sub_authority], bytes) {
             return false;

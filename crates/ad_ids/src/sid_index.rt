@@ -104,7 +104,8 @@ fn contains_in(key: Option<u64>, items: &[Sid], heads: &[u16], before: &[u16], s
 
 // The bucket of the identifier that the bytes begin with, by its last number.
 fn end_begun(bytes: &[u8]) -> usize
-    ensures value { (sid : SidValue) (rest : List ℕ) → sid_at bytes.now ≡ Ok (sid, rest) → result ≡ bucket_by_end sid }
+    ensures value { (sid : SidValue) (rest : List ℕ) → sid_at bytes.now ≡ Ok (sid, rest) → result
+        ≡ bucket_by_end sid }
     ensures below { result < 1024 }
 {
     if bytes.len() < 8 {
@@ -119,7 +120,8 @@ fn end_begun(bytes: &[u8]) -> usize
 
 // The same by all of it.
 fn all_begun(key: u64, bytes: &[u8]) -> usize
-    ensures value { (sid : SidValue) (rest : List ℕ) → sid_at bytes.now ≡ Ok (sid, rest) → result ≡ bucket_by_all key sid }
+    ensures value { (sid : SidValue) (rest : List ℕ) → sid_at bytes.now ≡ Ok (sid, rest) → result
+        ≡ bucket_by_all key sid }
     ensures below { result < 1024 }
 {
     let mut input = Input::new(bytes);
@@ -131,7 +133,8 @@ fn all_begun(key: u64, bytes: &[u8]) -> usize
 
 // The bucket of the identifier that the bytes begin with.
 fn bucket_begun(key: Option<u64>, bytes: &[u8]) -> usize
-    ensures value { (sid : SidValue) (rest : List ℕ) → sid_at bytes.now ≡ Ok (sid, rest) → result ≡ bucket_of key sid }
+    ensures value { (sid : SidValue) (rest : List ℕ) → sid_at bytes.now ≡ Ok (sid, rest) → result
+        ≡ bucket_of key sid }
     ensures below { result < 1024 }
 {
     match key {
@@ -186,7 +189,8 @@ fn key_for(items: &[Sid]) -> Option<u64> {
 
 fn make(alloc: Global, key: Option<u64>, items: &[Sid]) -> Result<SidIndex, AllocError>
     requires { length items.now < 65536 }
-    ensures { IfOk result (λ index. IsIndexOf index.key index.heads.items index.before.items items.now) }
+    ensures { IfOk result (λ index. IsIndexOf index.key index.heads.items index.before.items
+        items.now) }
 {
     let mut heads = vec![in alloc; 0u16; BUCKETS]?;
     let mut before = Vec::with_capacity(alloc, items.len())?;
@@ -201,7 +205,8 @@ fn make(alloc: Global, key: Option<u64>, items: &[Sid]) -> Result<SidIndex, Allo
 impl SidIndex {
     /// The index of a long list; none of a short one, and where there is no memory for one.
     pub(crate) fn of(alloc: Global, items: &[Sid]) -> Option<SidIndex>
-        ensures { IfSome result (λ index. IsIndexOf index.key index.heads.items index.before.items items.now) }
+        ensures { IfSome result (λ index. IsIndexOf index.key index.heads.items index.before.items
+            items.now) }
     {
         if items.len() <= FEW || items.len() > MOST {
             return None;

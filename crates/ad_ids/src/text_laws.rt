@@ -23,5 +23,6 @@ pub fn the_longest_front_is_the_longest_prefix()
 /// The identifier that a text encodes, as a function: it gives that identifier where there is one, and nothing
 /// where there is none.
 pub fn what_a_sid_s_text_spells()
-    ensures { (sid : SidValue) (text : List ℕ) → (sid_of_text text ≡ Some sid) ↔ SpellsSidText sid text }
+    ensures { (sid : SidValue) (text : List ℕ) → (sid_of_text text ≡ Some sid)
+        ↔ SpellsSidText sid text }
 {}

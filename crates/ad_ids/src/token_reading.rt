@@ -105,7 +105,8 @@ fn put_group(
 
 // Reads that many groups with their marks.
 fn groups(alloc: Global, input: &mut Input<'_>, count: u16) -> Result<(Sids, Sids), TokenFault>
-    ensures { ReadsUnless is_memory (λ groups. (groups.0, groups.1)) result input.new (groups_at count input.old) }
+    ensures { ReadsUnless is_memory (λ groups. (groups.0, groups.1)) result input.new
+        (groups_at count input.old) }
 {
     let mut enabled = Sids::new(alloc);
     let mut deny_only = Sids::new(alloc);
@@ -213,7 +214,8 @@ impl Token {
         // What is read is encoded so.
         ensures found { IfOk result (λ token. SpellsToken token bytes.now) }
         // Whatever is encoded so is read, unless it is out of memory.
-        ensures only { (token : TokenValue) → SpellsToken token bytes.now → GivesUnless is_memory (λ token. token) result (Ok token) }
+        ensures only { (token : TokenValue) → SpellsToken token bytes.now
+            → GivesUnless is_memory (λ token. token) result (Ok token) }
         // Which fault it is.
         ensures fault { GivesUnless is_memory (λ token. token) result (token_of bytes.now) }
     {

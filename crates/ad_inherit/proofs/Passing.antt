@@ -27,26 +27,32 @@ pub explicit-append : (xs ys : List Entry) → explicit_entries (xs ++ ys) ≡ e
 explicit-append xs ys = filter-append is_explicit xs ys
 
 -- explicit entries are explicit
-pub explicit-explicit : (entries : List Entry) → list_all is_explicit entries ≡ true → explicit_entries entries ≡ entries
+pub explicit-explicit : (entries : List Entry) → list_all is_explicit entries ≡ true → explicit_entries entries
+    ≡ entries
 explicit-explicit [] all = refl
 explicit-explicit (e ∷ es) all =
     let both = both_true (is_explicit e) (list_all is_explicit es) all in
-    ap (λ (b : Bool). cond b (e ∷ explicit_entries es) (explicit_entries es)) both.0 ∙ ap (λ (xs : List Entry). e ∷ xs) (explicit-explicit es both.1)
+    ap (λ (b : Bool). cond b (e ∷ explicit_entries es) (explicit_entries es)) both.0
+    ∙ ap (λ (xs : List Entry). e ∷ xs) (explicit-explicit es both.1)
 
 -- taking the explicit ones twice
 pub explicit-twice : (entries : List Entry) → explicit_entries (explicit_entries entries) ≡ explicit_entries entries
-explicit-twice entries = explicit-explicit (explicit_entries entries) (list_all-from_AllPass is_explicit (explicit_entries entries) (filter_passes is_explicit entries))
+explicit-twice entries = explicit-explicit (explicit_entries entries)
+    (list_all-from_AllPass is_explicit (explicit_entries entries) (filter_passes is_explicit entries))
 
 -- what one entry passes, and the others
-pub passed-cons : (e : Entry) (es : List Entry) (class : Guid) (owner group : SidValue) → passed (e ∷ es) class owner group ≡ cond (passes e) (copies e class owner group) [] ++ passed es class owner group
+pub passed-cons : (e : Entry) (es : List Entry) (class : Guid) (owner group : SidValue) → passed (e ∷ es) class owner
+    group ≡ cond (passes e) (copies e class owner group) [] ++ passed es class owner group
 passed-cons e es class owner group = kept (passes e)
   where
-    kept : (b : Bool) → flat_map (λ x. copies x class owner group) (cond b (e ∷ filter passes es) (filter passes es)) ≡ cond b (copies e class owner group) [] ++ passed es class owner group
+    kept : (b : Bool) → flat_map (λ x. copies x class owner group) (cond b (e ∷ filter passes es) (filter passes es))
+        ≡ cond b (copies e class owner group) [] ++ passed es class owner group
     kept true = refl
     kept false = refl
 
 -- what is passed is inherited
-pub explicit-passed : (entries : List Entry) (class : Guid) (owner group : SidValue) → explicit_entries (passed entries class owner group) ≡ []
+pub explicit-passed : (entries : List Entry) (class : Guid) (owner group : SidValue)
+    → explicit_entries (passed entries class owner group) ≡ []
 explicit-passed [] class owner group = refl
 explicit-passed (e ∷ es) class owner group =
     ap explicit_entries (passed-cons e es class owner group)

@@ -101,7 +101,8 @@ fn both(entry: &Ace) -> Ace
 /// Puts the copies of a passing entry at the end of the list.
 #[tactic(auto, unfolding(crate::specs::Copies::copies))]
 pub(crate) fn put_copies(aces: &mut Aces, entry: &Ace, heir: &Heir) -> Result<(), AllocError>
-    ensures { OnOk result (aces.new ≡ aces.old ++ copies entry.now heir.now.class heir.now.owner heir.now.group) }
+    ensures { OnOk result (aces.new ≡ aces.old ++ copies entry.now heir.now.class heir.now.owner
+        heir.now.group) }
 {
     if !fits(entry, &heir.class) {
         if propagates_no_further(entry) {

@@ -20,7 +20,9 @@ fn explicit_or(
     first: Option<&AceList>,
     second: Option<&AceList>,
 ) -> Result<AceList, AllocError>
-    ensures { IfOk result (λ list. list ≡ explicit_list (list_or_empty (option_or (option_copied first.entry) (option_copied second.entry)))) }
+    ensures { IfOk result (λ list. list
+        ≡ explicit_list (list_or_empty
+        (option_or (option_copied first.entry) (option_copied second.entry)))) }
 {
     match first.or(second) {
         Some(list) => Ok(AceList {
@@ -34,10 +36,10 @@ fn explicit_or(
     }
 }
 
-/// The descriptor of a new object of the class below the parent ([MS-DTYP] 2.5.3.4): each part is the given one; else a
-/// list is the default one, and else empty and not protected, and the owner and the group are these. What is inherited
-/// is as in [`whole`](crate::whole): entries of the given and of the default lists that carry the flag of inherited
-/// ones count for nothing.
+/// The descriptor of a new object of the class below the parent ([MS-DTYP] 2.5.3.4): each part is the given one; else
+/// a list is the default one, and else empty and not protected, and the owner and the group are these. What is
+/// inherited is as in [`whole`](crate::whole): entries of the given and of the default lists that carry the flag of
+/// inherited ones count for nothing.
 ///
 /// # Errors
 ///
@@ -52,7 +54,8 @@ pub fn create(
     owner: Sid,
     group: Sid,
 ) -> Result<Sd, AllocError>
-    ensures { IfOk result (λ sd. sd ≡ whole (seen parent.entry) (chosen (option_copied given.entry) default.now owner group) class) }
+    ensures { IfOk result (λ sd. sd ≡ whole (seen parent.entry)
+        (chosen (option_copied given.entry) default.now owner group) class) }
 {
     let heir = Heir {
         class,

@@ -43,7 +43,8 @@ pub(crate) fn explicit_of(alloc: Global, entries: &[Ace]) -> Result<Aces, AllocE
 
 /// Puts what the parent's entries pass down at the end of the list.
 fn put_passed(aces: &mut Aces, parent: Entries<'_>, heir: &Heir) -> Result<(), AllocError>
-    ensures { OnOk result (aces.new ≡ aces.old ++ passed (entries_left parent.entry) heir.now.class heir.now.owner heir.now.group) }
+    ensures { OnOk result (aces.new ≡ aces.old ++ passed (entries_left parent.entry) heir.now.class
+        heir.now.owner heir.now.group) }
 {
     for ace in parent {
         if passes(&ace) {

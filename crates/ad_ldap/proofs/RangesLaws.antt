@@ -3,16 +3,19 @@ use Rattle.std.proofs.Common.{◌≡◌, ℕ, ◌≤◌, List, [], ◌∷◌}
 use Rattle.std.specs.List.{AllByRecursion}
 use Rattle.ad_bytes.specs.Reading.{SpellsEach}
 use Rattle.ad_ldap.specs.declared.items.Item.{Item}
-use Rattle.ad_ldap.specs.MessageValue.{OpValue, Bind, Unbind, SearchOf, ModifyOf, AddOf, DeleteOf, RenameOf, CompareOf, Abandon, Extended, MessageValue}
+use Rattle.ad_ldap.specs.MessageValue.{OpValue, Bind, Unbind, SearchOf, ModifyOf, AddOf, DeleteOf, RenameOf}
+use Rattle.ad_ldap.specs.MessageValue.{CompareOf, Abandon, Extended, MessageValue}
 use Rattle.ad_ldap.specs.Requests.{SpellsItem, SpellsNew, SpellsOp}
 use Rattle.ad_ldap.specs.Messages.{SpellsMessage}
 use Rattle.ad_ldap.specs.Ranges.{HasOpRanges, HasRanges}
 
-items_in : (items : List Item) (text : List ℕ) → SpellsEach SpellsItem items text → AllByRecursion (λ (item : Item). item.op ≤ 2) items
+items_in : (items : List Item) (text : List ℕ) → SpellsEach SpellsItem items text
+    → AllByRecursion (λ (item : Item). item.op ≤ 2) items
 items_in [] text s = tt
 items_in (item ∷ items) text s = (s.spelled.inside.spelled.0, items_in items s.behind s.follows)
 
-attrs_in : (attrs : List (List ℕ × List (List ℕ))) (text : List ℕ) → SpellsEach SpellsNew attrs text → AllByRecursion (λ (attr : List ℕ × List (List ℕ)). attr.1 ≡ [] → ⊥) attrs
+attrs_in : (attrs : List (List ℕ × List (List ℕ))) (text : List ℕ) → SpellsEach SpellsNew attrs text
+    → AllByRecursion (λ (attr : List ℕ × List (List ℕ)). attr.1 ≡ [] → ⊥) attrs
 attrs_in [] text s = tt
 attrs_in (attr ∷ attrs) text s = (s.spelled.0, attrs_in attrs s.behind s.follows)
 

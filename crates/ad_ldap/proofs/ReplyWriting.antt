@@ -3,14 +3,16 @@ use Rattle.std.proofs.Common.{◌≡◌, ℕ, ◌+◌, List, ◌++◌, length, s
 use Rattle.ad_ber.specs.Writing.{header, element_bytes, number_element}
 use Rattle.ad_ldap.specs.Reply.{values_bytes, attr_body, attr_bytes, attrs_bytes, entry_body, message_bytes}
 
-pub element_length : (tag : ℕ) (body : List ℕ) (len h : ℕ) → length body ≡ len → h ≡ length (header tag len) → h + len ≡ length (element_bytes tag body)
+pub element_length : (tag : ℕ) (body : List ℕ) (len h : ℕ) → length body ≡ len → h ≡ length (header tag len) → h + len
+    ≡ length (element_bytes tag body)
 unfolding element_bytes
 element_length tag body len h is is_header =
     let front : h ≡ length (header tag (length body)) = is_header ∙ ap (λ (n : ℕ). length (header tag n)) (sym is) in
     omega (arith, length-append (header tag (length body)) body)
 
 -- what stands before a body, and the body
-pub message_joined : (id tag inner len number response : ℕ) (front body : List ℕ) → length body ≡ len → number ≡ length (number_element 2 id) → response ≡ length (element_bytes tag body) → inner ≡ number + response
+pub message_joined : (id tag inner len number response : ℕ) (front body : List ℕ) → length body ≡ len → number
+    ≡ length (number_element 2 id) → response ≡ length (element_bytes tag body) → inner ≡ number + response
     → front ≡ (header 48 inner ++ number_element 2 id) ++ header tag len → front ++ body ≡ message_bytes id tag body
 unfolding element_bytes
 message_joined id tag inner len number response front body is is_number is_response is_inner is_front =
@@ -24,8 +26,10 @@ message_joined id tag inner len number response front body is is_number is_respo
     ∙ append_assoc (header 48 (length (N ++ R))) N R
 
 -- an attribute
-pub attr_joined : (old new name : List ℕ) (values : List (List ℕ)) (body set : ℕ) → body ≡ length (attr_body (name, values)) → set ≡ length (values_bytes values)
-    → new ≡ (((old ++ header 48 body) ++ element_bytes 4 name) ++ header 49 set) ++ values_bytes values → new ≡ old ++ attr_bytes (name, values)
+pub attr_joined : (old new name : List ℕ) (values : List (List ℕ)) (body set : ℕ) → body
+    ≡ length (attr_body (name, values)) → set ≡ length (values_bytes values)
+    → new ≡ (((old ++ header 48 body) ++ element_bytes 4 name) ++ header 49 set) ++ values_bytes values → new ≡ old
+    ++ attr_bytes (name, values)
 unfolding element_bytes
 attr_joined old new name values body set is_body is_set is_new =
     let V = values_bytes values in
@@ -39,7 +43,8 @@ attr_joined old new name values body set is_body is_set is_new =
     ∙ append_assoc old (header 48 (length (A ++ S))) (A ++ S)
 
 -- an entry
-pub entry_joined : (front new dn : List ℕ) (attrs : List (List ℕ × List (List ℕ))) (list : ℕ) → list ≡ length (attrs_bytes attrs)
+pub entry_joined : (front new dn : List ℕ) (attrs : List (List ℕ × List (List ℕ))) (list : ℕ) → list
+    ≡ length (attrs_bytes attrs)
     → new ≡ ((front ++ element_bytes 4 dn) ++ header 48 list) ++ attrs_bytes attrs → new ≡ front ++ entry_body dn attrs
 unfolding element_bytes
 entry_joined front new dn attrs list is_list is_new =

@@ -1,5 +1,6 @@
 -- What a message is made of: elements (BER) with the tags that RFC 4511 gives them.
-use Rattle.std.specs.Prelude.{◌≡◌, ℕ, ◌<◌, ◌≤◌, Bool, true, false, not, nat_eq, List, [], ◌∷◌, Option, None, Some, ℤ, pos, Ok, ◌⊎◌}
+use Rattle.std.specs.Prelude.{◌≡◌, ℕ, ◌<◌, ◌≤◌, Bool, true, false, not, nat_eq, List, [], ◌∷◌, Option, None, Some, ℤ}
+use Rattle.std.specs.Prelude.{pos, Ok, ◌⊎◌}
 use Rattle.ad_bytes.specs.Reading.{StartsWith, SpellsEach}
 use Rattle.ad_ber.specs.Element.{SpellsElement}
 use Rattle.ad_ber.specs.Integer.{integer_of}

@@ -1,12 +1,14 @@
 -- How a filter is read, with the fault that stands first.
-use Rattle.std.specs.Prelude.{ℕ, zero, suc, ◌-◌, ◌==◌, not, nat_eq, List, [], ◌∷◌, length, Option, None, Some, Result, Ok, Err, if◌then◌else◌}
+use Rattle.std.specs.Prelude.{ℕ, zero, suc, ◌-◌, ◌==◌, not, nat_eq, List, [], ◌∷◌, length, Option, None, Some, Result}
+use Rattle.std.specs.Prelude.{Ok, Err, if◌then◌else◌}
 use Rattle.ad_bytes.specs.Reading.{Reading, ◌>>=◌, need}
 use Rattle.ad_value.specs.declared.pattern.Pattern.{Pattern}
 use Rattle.ad_ldap.specs.declared.fault.LdapFault.{LdapFault}
 use Rattle.ad_ldap.specs.declared.fault.LdapFault.TheVariants as fault
 use Rattle.ad_ldap.specs.declared.filter_reading.FilterKind.{FilterKind}
 use Rattle.ad_ldap.specs.declared.filter_reading.FilterKind.TheVariants as kind
-use Rattle.ad_ldap.specs.FilterValue.{FilterValue, filters_of, And, Or, Not, Equal, Pieces, AtLeast, AtMost, Present, Like, Extensible}
+use Rattle.ad_ldap.specs.FilterValue.{FilterValue, filters_of, And, Or, Not, Equal, Pieces, AtLeast, AtMost, Present}
+use Rattle.ad_ldap.specs.FilterValue.{Like, Extensible}
 use Rattle.ad_ldap.specs.Reading.{form, begins, ok_or, body_at, ended, some, option_at, default_at, inside_at, each_of}
 
 -- ---- the parts of an item
@@ -22,7 +24,8 @@ assertion_of end bytes = do
 unfoldable pub middle_within : ℕ → ℕ → List ℕ → Reading (List (List ℕ)) LdapFault
 middle_within zero end bytes = Ok ([], bytes)
 middle_within (suc n) end bytes =
-    if begins 129 bytes then (body_at 129 end bytes >>= λ first. middle_within n end first.1 >>= λ others. Ok (first.0 ∷ others.0, others.1))
+    if begins 129 bytes then (body_at 129 end bytes >>= λ first. middle_within n end first.1 >>= λ others.
+    Ok (first.0 ∷ others.0, others.1))
     else Ok ([], bytes)
 
 unfoldable pub middle_of : ℕ → List ℕ → Reading (List (List ℕ)) LdapFault
@@ -46,7 +49,8 @@ substrings_of end bytes = do
 
 -- an octet string with this tag, where one begins here, is passed over
 unfoldable pub passed_at : ℕ → ℕ → List ℕ → Reading (Unit {0}) LdapFault
-passed_at tag end bytes = if begins tag bytes then (body_at tag end bytes >>= λ body. Ok (tt, body.1)) else Ok (tt, bytes)
+passed_at tag end bytes = if begins tag bytes then (body_at tag end bytes >>= λ body. Ok (tt, body.1))
+    else Ok (tt, bytes)
 
 unfoldable pub extensible_of : ℕ → List ℕ → Result (Unit {0}) LdapFault
 extensible_of end bytes = do
@@ -110,7 +114,8 @@ item_of _ end bytes = do
   Ok (Extensible, x.1)
 
 -- a filter of this kind, whose inner filters are read so
-unfoldable pub filter_of : (ℕ → List ℕ → Reading FilterValue LdapFault) → FilterKind → ℕ → List ℕ → Reading FilterValue LdapFault
+unfoldable pub filter_of : (ℕ → List ℕ → Reading FilterValue LdapFault) → FilterKind → ℕ → List ℕ
+    → Reading FilterValue LdapFault
 filter_of inner kind.And end bytes = do
   fs ← inside_at 160 (each_of inner) end bytes
   Ok (And (filters_of fs.0), fs.1)

@@ -2,7 +2,8 @@
 use Rattle.std.specs.Prelude.{◌≡◌, ℕ, ◌≤◌, Bool, List, [], ◌++◌, Option, None}
 use Rattle.ad_bytes.specs.Reading.{StartsWith, SpellsEach}
 use Rattle.ad_value.specs.declared.pattern.Pattern.{Pattern}
-use Rattle.ad_ldap.specs.FilterValue.{FilterValue, FilterList, And, Or, Not, Equal, Pieces, AtLeast, AtMost, Present, Like, Extensible, none, more, depth}
+use Rattle.ad_ldap.specs.FilterValue.{FilterValue, FilterList, And, Or, Not, Equal, Pieces, AtLeast, AtMost, Present}
+use Rattle.ad_ldap.specs.FilterValue.{Like, Extensible, none, more, depth}
 use Rattle.ad_ldap.specs.Elements.{IsEmpty, Tagged, SpellsOctets, SpellsOption, SpellsBoolean, SpellsDefault}
 
 -- one part of a text, and then another
@@ -24,11 +25,13 @@ HasPieces p = ¬ ((p.first ≡ None) × (p.middle ≡ []) × (p.last ≡ None))
 -- the initial piece, the middle ones and the final one, of which there is one at least
 pub record SpellsPieces (p : Pattern) (text : List ℕ) : Type 0 where
   pub some : HasPieces p
-  pub text_is : StartsWith (SpellsOption 128) p.first (StartsWith (SpellsEach (SpellsOctets 129)) p.middle (SpellsOption 130 p.last)) text
+  pub text_is : StartsWith (SpellsOption 128) p.first
+      (StartsWith (SpellsEach (SpellsOctets 129)) p.middle (SpellsOption 130 p.last)) text
 
 -- an attribute's name and pieces
 abbrev pub SpellsSubstrings : List ℕ → Pattern → List ℕ → Type 0
-SpellsSubstrings attr p text = StartsWith (SpellsOctets 4) attr (λ rest. Joined (Tagged 48 (SpellsPieces p)) IsEmpty rest) text
+SpellsSubstrings attr p text = StartsWith (SpellsOctets 4) attr
+    (λ rest. Joined (Tagged 48 (SpellsPieces p)) IsEmpty rest) text
 
 -- an extensible match: a rule and a type that may be left out, a value, and a truth value that may be left out
 pub record SpellsExtensible (text : List ℕ) : Type 0 where
@@ -36,7 +39,8 @@ pub record SpellsExtensible (text : List ℕ) : Type 0 where
   pub type : Option (List ℕ)
   pub value : List ℕ
   pub in_names : Bool
-  pub text_is : StartsWith (SpellsOption 129) rule (StartsWith (SpellsOption 130) type (StartsWith (SpellsOctets 131) value (SpellsDefault 132 in_names))) text
+  pub text_is : StartsWith (SpellsOption 129) rule
+      (StartsWith (SpellsOption 130) type (StartsWith (SpellsOctets 131) value (SpellsDefault 132 in_names))) text
 
 -- Each filter is an element, whose tag says what it is. An and and an or may have no filters.
 abbrev mutual

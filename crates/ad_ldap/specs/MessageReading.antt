@@ -18,7 +18,8 @@ control_of end bytes = do
 
 -- the controls, where they begin here
 unfoldable pub controls_at : ℕ → List ℕ → Reading (List Control) LdapFault
-controls_at end bytes = if begins 160 bytes then inside_at 160 (each_of (inside_at 48 control_of)) end bytes else Ok ([], bytes)
+controls_at end bytes = if begins 160 bytes then inside_at 160 (each_of (inside_at 48 control_of)) end bytes
+    else Ok ([], bytes)
 
 -- the number of a message, which isn't 0
 unfoldable pub id_at : ℕ → List ℕ → Reading ℕ LdapFault

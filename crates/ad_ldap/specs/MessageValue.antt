@@ -37,7 +37,15 @@ pub record MessageValue : Type 0 where
   pub controls : List Control
 
 abbrev pub search_seen : Search → SearchValue
-search_seen s = record { base = s.base; scope = s.scope; size = s.size; types_only = s.types_only; filter = filter_seen s.filter; attrs = s.attrs }
+search_seen s = record {
+  base = s.base;
+  scope = s.scope;
+  size = s.size;
+  types_only = s.types_only;
+  filter
+      = filter_seen s.filter;
+  attrs = s.attrs;
+}
 
 abbrev pub op_seen : Op → OpValue
 op_seen code.Bind = Bind

@@ -9,7 +9,8 @@ use Rattle.ad_ldap.specs.Requests.{SpellsOp}
 
 -- the identifier, whether it is critical, which may be left out where it isn't, and a value, which may be left out
 abbrev pub SpellsControl : Control → List ℕ → Type 0
-SpellsControl c text = Tagged 48 (StartsWith (SpellsOctets 4) c.oid (StartsWith (SpellsDefault 1) c.critical (SpellsOption 4 c.value))) text
+SpellsControl c text = Tagged 48 (StartsWith (SpellsOctets 4) c.oid
+    (StartsWith (SpellsDefault 1) c.critical (SpellsOption 4 c.value))) text
 
 -- the controls, which may be left out where there is none
 abbrev pub SpellsControls : List Control → List ℕ → Type 0

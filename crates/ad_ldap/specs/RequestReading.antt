@@ -1,5 +1,6 @@
 -- How a request is read, with the fault that stands first.
-use Rattle.std.specs.Prelude.{ℕ, ◌==◌, not, nat_eq, List, [], ◌∷◌, length, Option, None, Some, Result, Ok, Err, if◌then◌else◌}
+use Rattle.std.specs.Prelude.{ℕ, ◌==◌, not, nat_eq, List, [], ◌∷◌, length, Option, None, Some, Result, Ok, Err}
+use Rattle.std.specs.Prelude.{if◌then◌else◌}
 use Rattle.ad_bytes.specs.Reading.{Reading, ◌>>=◌, need}
 use Rattle.ad_ldap.specs.declared.fault.LdapFault.{LdapFault}
 use Rattle.ad_ldap.specs.declared.items.Item.{Item}
@@ -10,8 +11,10 @@ use Rattle.ad_ldap.specs.declared.requests.Compare.{Compare}
 use Rattle.ad_ldap.specs.declared.request_reading.OpKind.{OpKind}
 use Rattle.ad_ldap.specs.declared.request_reading.OpKind.TheVariants as kind
 use Rattle.ad_ldap.specs.Limits.{most_levels, most_int}
-use Rattle.ad_ldap.specs.MessageValue.{SearchValue, OpValue, Bind, Unbind, SearchOf, ModifyOf, AddOf, DeleteOf, RenameOf, CompareOf, Abandon, Extended}
-use Rattle.ad_ldap.specs.Reading.{form, ok_or, body_at, ended, some, number_at, boolean_at, option_at, inside_at, each_of, values_of}
+use Rattle.ad_ldap.specs.MessageValue.{SearchValue, OpValue, Bind, Unbind, SearchOf, ModifyOf, AddOf, DeleteOf}
+use Rattle.ad_ldap.specs.MessageValue.{RenameOf, CompareOf, Abandon, Extended}
+use Rattle.ad_ldap.specs.Reading.{form, ok_or, body_at, ended, some, number_at, boolean_at, option_at, inside_at}
+use Rattle.ad_ldap.specs.Reading.{each_of, values_of}
 use Rattle.ad_ldap.specs.FilterReading.{assertion_of, filter_at}
 
 unfoldable pub search_of : ℕ → List ℕ → Result SearchValue LdapFault
@@ -25,7 +28,15 @@ search_of end bytes = do
   filter ← filter_at most_levels end types_only.1
   attrs ← inside_at 48 values_of end filter.1
   _ ← ended end attrs.1
-  Ok (record { base = base.0; scope = scope.0; size = size.0; types_only = types_only.0; filter = filter.0; attrs = attrs.0 })
+  Ok (record {
+    base = base.0;
+    scope = scope.0;
+    size = size.0;
+    types_only = types_only.0;
+    filter = filter.0;
+    attrs
+        = attrs.0;
+  })
 
 -- an attribute with its values
 unfoldable pub attribute_of : ℕ → List ℕ → Result (List ℕ × List (List ℕ)) LdapFault

@@ -7,8 +7,10 @@ use Rattle.ad_ldap.specs.declared.requests.Add.{Add}
 use Rattle.ad_ldap.specs.declared.requests.Rename.{Rename}
 use Rattle.ad_ldap.specs.declared.requests.Compare.{Compare}
 use Rattle.ad_ldap.specs.Limits.{most_levels, most_int}
-use Rattle.ad_ldap.specs.MessageValue.{SearchValue, OpValue, Bind, Unbind, SearchOf, ModifyOf, AddOf, DeleteOf, RenameOf, CompareOf, Abandon, Extended}
-use Rattle.ad_ldap.specs.Elements.{IsEmpty, Tagged, SpellsOctets, SpellsNumber, SpellsBoolean, SpellsOption, SpellsValues}
+use Rattle.ad_ldap.specs.MessageValue.{SearchValue, OpValue, Bind, Unbind, SearchOf, ModifyOf, AddOf, DeleteOf}
+use Rattle.ad_ldap.specs.MessageValue.{RenameOf, CompareOf, Abandon, Extended}
+use Rattle.ad_ldap.specs.Elements.{IsEmpty, Tagged, SpellsOctets, SpellsNumber, SpellsBoolean, SpellsOption}
+use Rattle.ad_ldap.specs.Elements.{SpellsValues}
 use Rattle.ad_ldap.specs.Filters.{Joined, SpellsAssertion, SpellsWithin}
 
 -- The base, the scope, how aliases are treated, the size limit, the time limit, whether values are left out, the
@@ -28,11 +30,13 @@ pub record SpellsSearch (s : SearchValue) (text : List ℕ) : Type 0 where
 
 -- an attribute's name and its values
 abbrev pub SpellsAttribute : List ℕ → List (List ℕ) → List ℕ → Type 0
-SpellsAttribute attr values text = StartsWith (SpellsOctets 4) attr (Joined (Tagged 49 (SpellsValues values)) IsEmpty) text
+SpellsAttribute attr values text = StartsWith (SpellsOctets 4) attr (Joined (Tagged 49 (SpellsValues values)) IsEmpty)
+    text
 
 -- one change: how, and an attribute with values, of which there may be none
 abbrev pub SpellsItem : Item → List ℕ → Type 0
-SpellsItem item text = Tagged 48 (StartsWith (SpellsNumber 10 2) item.op (Joined (Tagged 48 (SpellsAttribute item.attr item.values)) IsEmpty)) text
+SpellsItem item text = Tagged 48 (StartsWith (SpellsNumber 10 2) item.op
+    (Joined (Tagged 48 (SpellsAttribute item.attr item.values)) IsEmpty)) text
 
 abbrev pub SpellsModify : Modify → List ℕ → Type 0
 SpellsModify m text = StartsWith (SpellsOctets 4) m.dn (Joined (Tagged 48 (SpellsEach SpellsItem m.items)) IsEmpty) text
@@ -50,7 +54,8 @@ SpellsRename r text = StartsWith (SpellsOctets 4) r.dn (StartsWith (SpellsOctets
     (StartsWith (SpellsBoolean 1) (not r.keep) (SpellsOption 128 r.superior))) text
 
 abbrev pub SpellsCompare : Compare → List ℕ → Type 0
-SpellsCompare c text = StartsWith (SpellsOctets 4) c.dn (Joined (Tagged 48 (SpellsAssertion c.attr c.value)) IsEmpty) text
+SpellsCompare c text = StartsWith (SpellsOctets 4) c.dn (Joined (Tagged 48 (SpellsAssertion c.attr c.value)) IsEmpty)
+    text
 
 -- anything
 abbrev pub IsAny : List ℕ → Type 0

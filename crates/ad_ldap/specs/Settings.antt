@@ -53,7 +53,8 @@ alone tag bytes = if_alone tag (element_at bytes)
 
 -- the four low bits of an integer of one to eight bytes, which are those of its last byte
 abbrev pub low_bits_of : List ℕ → Option ℕ
-low_bits_of digits = if nat_lt 0 (length digits) && nat_le (length digits) 8 then Some (slice_index digits (length digits - 1) % 16) else None
+low_bits_of digits = if nat_lt 0 (length digits) && nat_le (length digits) 8
+    then Some (slice_index digits (length digits - 1) % 16) else None
 
 abbrev pub low_bits_in : Option (List ℕ) → Option ℕ
 low_bits_in None = None
@@ -122,4 +123,5 @@ settings_by (Some code) s = Err code
 settings_by None s = Ok s
 
 unfoldable pub settings_of : MessageValue → Result Settings ℕ
-settings_of m = settings_by (first_fault m.op [] m.controls) (record { sd_flags = flags_among m.op m.controls; tree = tree_among m.op m.controls })
+settings_of m = settings_by (first_fault m.op [] m.controls)
+    (record { sd_flags = flags_among m.op m.controls; tree = tree_among m.op m.controls })

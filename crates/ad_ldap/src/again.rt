@@ -40,7 +40,8 @@ fn among_few(controls: &[Control]) -> Option<usize>
 
 // Whether one of the earlier controls has the identifier: none has where its digest is new.
 fn stands(is_new: bool, earlier: &[Control], oid: &Bytes) -> bool
-    ensures { (is_new ≡ true → stands earlier.now oid.now ≡ false) → result ≡ stands earlier.now oid.now }
+    ensures { (is_new ≡ true → stands earlier.now oid.now ≡ false) → result
+        ≡ stands earlier.now oid.now }
 {
     if is_new {
         return false;

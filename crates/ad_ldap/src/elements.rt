@@ -3,7 +3,8 @@
 ghost use Rattle.std.specs.Prelude.{◌≡◌, ◌-◌, ◌<◌, ◌≤◌, length, IfOk, IfSome, OnOk};
 ghost use Rattle.ad_bytes.specs.Reading.{Reads, ReadsUnless, GivesUnless};
 ghost use Rattle.ad_ldap.specs.Reading as spec;
-ghost use Rattle.ad_ldap.specs.Reading.{is_memory, IsWithin, body_at, number_at, boolean_at, option_at, default_at, values_of};
+ghost use Rattle.ad_ldap.specs.Reading.{is_memory, IsWithin, body_at, number_at, boolean_at, option_at, default_at};
+ghost use Rattle.ad_ldap.specs.Reading.{values_of};
 
 use crate::fault::LdapFault;
 use ad_ber::{Tagged, integer};
@@ -54,7 +55,8 @@ pub(crate) fn octets(
     end: usize,
     tag: u8,
 ) -> Result<Bytes, LdapFault>
-    ensures read { ReadsUnless is_memory (λ octets. octets) result input.new (body_at tag end input.old) }
+    ensures read { ReadsUnless is_memory (λ octets. octets) result input.new
+        (body_at tag end input.old) }
     ensures left { OnOk result (length input.new < length input.old) }
 {
     let body = body(input, end, tag)?;
@@ -146,7 +148,8 @@ pub(crate) fn option(
     end: usize,
     tag: u8,
 ) -> Result<Option<Bytes>, LdapFault>
-    ensures read { ReadsUnless is_memory (λ octets. octets) result input.new (option_at tag end input.old) }
+    ensures read { ReadsUnless is_memory (λ octets. octets) result input.new
+        (option_at tag end input.old) }
     ensures left { OnOk result (length input.new ≤ length input.old) }
 {
     if !begins(input, tag) {

@@ -53,7 +53,8 @@ impl Filters {
 
     /// Puts a filter at the end.
     pub fn push(&mut self, filter: Filter) -> Result<(), AllocError>
-        ensures ok { OnOk result (filters_seen self.new ≡ filters_seen self.old ++ filter_seen filter ∷ []) }
+        ensures ok { OnOk result (filters_seen self.new ≡ filters_seen self.old
+            ++ filter_seen filter ∷ []) }
         ensures err { OnErr result (filters_seen self.new ≡ filters_seen self.old) }
     {
         self.items.push(filter)?;

@@ -54,7 +54,8 @@ pub(crate) fn assertion_inside(
     end: usize,
     tag: u8,
 ) -> Result<(Bytes, Bytes), LdapFault>
-    ensures read { ReadsUnless is_memory (λ x. (x.0, x.1)) result input.new (inside_at tag assertion_of end input.old) }
+    ensures read { ReadsUnless is_memory (λ x. (x.0, x.1)) result input.new
+        (inside_at tag assertion_of end input.old) }
     ensures left { OnOk result (length input.new < length input.old) }
 {
     let mut body = body(input, end, tag)?;
@@ -92,7 +93,8 @@ fn pieces(alloc: Global, input: &mut Input<'_>, end: usize) -> Result<Pattern, L
 
 #[tactic(auto, unfolding(crate::specs::Reading::inside_at))]
 fn pieces_inside(alloc: Global, input: &mut Input<'_>, end: usize) -> Result<Pattern, LdapFault>
-    ensures { ReadsUnless is_memory (λ pattern. pattern) result input.new (inside_at 48 pieces_of end input.old) }
+    ensures { ReadsUnless is_memory (λ pattern. pattern) result input.new
+        (inside_at 48 pieces_of end input.old) }
 {
     let mut body = body(input, end, 48)?;
     let inner_end = end_of(input, end);
@@ -119,7 +121,8 @@ fn substrings_inside(
     input: &mut Input<'_>,
     end: usize,
 ) -> Result<(Bytes, Pattern), LdapFault>
-    ensures read { ReadsUnless is_memory (λ x. (x.0, x.1)) result input.new (inside_at 164 substrings_of end input.old) }
+    ensures read { ReadsUnless is_memory (λ x. (x.0, x.1)) result input.new
+        (inside_at 164 substrings_of end input.old) }
     ensures left { OnOk result (length input.new < length input.old) }
 {
     let mut body = body(input, end, 164)?;
@@ -282,7 +285,8 @@ fn filters_inside(
     tag: u8,
     levels: u8,
 ) -> Result<Filters, LdapFault>
-    ensures read { ReadsUnless is_memory filters_seen result input.new (inside_at tag (each_of (filter_at levels)) end input.old) }
+    ensures read { ReadsUnless is_memory filters_seen result input.new
+        (inside_at tag (each_of (filter_at levels)) end input.old) }
     ensures left { OnOk result (length input.new < length input.old) }
 {
     let mut body = body(input, end, tag)?;
@@ -298,7 +302,8 @@ fn alone_inside(
     end: usize,
     levels: u8,
 ) -> Result<Filter, LdapFault>
-    ensures read { ReadsUnless is_memory filter_seen result input.new (inside_at 162 (alone_of (filter_at levels)) end input.old) }
+    ensures read { ReadsUnless is_memory filter_seen result input.new
+        (inside_at 162 (alone_of (filter_at levels)) end input.old) }
     ensures left { OnOk result (length input.new < length input.old) }
 {
     let mut body = body(input, end, 162)?;
@@ -316,7 +321,8 @@ fn filter_of_kind(
     end: usize,
     levels: u8,
 ) -> Result<Filter, LdapFault>
-    ensures read { ReadsUnless is_memory filter_seen result input.new (filter_of (filter_at levels) kind end input.old) }
+    ensures read { ReadsUnless is_memory filter_seen result input.new
+        (filter_of (filter_at levels) kind end input.old) }
     ensures left { OnOk result (length input.new < length input.old) }
 {
     match kind {
@@ -341,7 +347,8 @@ fn filter_of_kind(
 #[cycle(reading)]
 #[tactic(auto, unfolding(crate::specs::FilterReading::filter_at))]
 fn filter(alloc: Global, input: &mut Input<'_>, end: usize, levels: u8) -> Result<Filter, LdapFault>
-    ensures read { ReadsUnless is_memory filter_seen result input.new (filter_at levels end input.old) }
+    ensures read { ReadsUnless is_memory filter_seen result input.new
+        (filter_at levels end input.old) }
     ensures left { OnOk result (length input.new < length input.old) }
 {
     let kind = kind(input, end)?;
@@ -365,7 +372,8 @@ pub(crate) fn search_filter(
     input: &mut Input<'_>,
     end: usize,
 ) -> Result<Filter, LdapFault>
-    ensures read { ReadsUnless is_memory filter_seen result input.new (filter_at most_levels end input.old) }
+    ensures read { ReadsUnless is_memory filter_seen result input.new
+        (filter_at most_levels end input.old) }
     ensures left { OnOk result (length input.new < length input.old) }
 {
     filter(alloc, input, end, most_levels())

@@ -60,7 +60,8 @@ fn role_in(op: &Op, oid: &Bytes) -> Role
 
 // The body of the element with this tag, where the bytes are one.
 fn body_alone(bytes: &[u8], tag: u8) -> Option<&[u8]>
-    ensures { MatchOption result (alone tag bytes.now ≡ None) (λ body. alone tag bytes.now ≡ Some body.now) }
+    ensures { MatchOption result (alone tag bytes.now ≡ None)
+        (λ body. alone tag bytes.now ≡ Some body.now) }
 {
     let mut input = Input::new(bytes);
     match Tagged::read(&mut input) {
@@ -142,7 +143,8 @@ fn first_own_fault(op: &Op, controls: &[Control]) -> Option<u8>
     None
 }
 
-// The fault of the first faulty control, where the one at this place stands again: what stands before it decides first.
+// The fault of the first faulty control, where the one at this place stands again: what stands before it decides
+// first.
 fn fault_up_to(op: &Op, controls: &[Control], place: usize) -> Option<u8>
     requires { IsAgainAt place controls.now }
     ensures { result ≡ first_fault (op_seen op.now) [] controls.now }

@@ -17,6 +17,8 @@ pub fn what_a_message_has()
 
 /// What a contract sees of an and and of an or: those of their filters.
 pub fn what_is_seen_of_filters()
-    ensures all { (filters : FiltersValue) → filter_seen (code.And filters) ≡ value.And (filters_of (filters_seen filters)) }
-    ensures any { (filters : FiltersValue) → filter_seen (code.Or filters) ≡ value.Or (filters_of (filters_seen filters)) }
+    ensures all { (filters : FiltersValue) → filter_seen (code.And filters)
+        ≡ value.And (filters_of (filters_seen filters)) }
+    ensures any { (filters : FiltersValue) → filter_seen (code.Or filters)
+        ≡ value.Or (filters_of (filters_seen filters)) }
 {}

@@ -33,7 +33,8 @@ fn control(alloc: Global, input: &mut Input<'_>, end: usize) -> Result<Control, 
 
 #[tactic(auto, unfolding(crate::specs::Reading::inside_at))]
 fn control_inside(alloc: Global, input: &mut Input<'_>, end: usize) -> Result<Control, LdapFault>
-    ensures read { ReadsUnless is_memory (λ control. control) result input.new (inside_at 48 control_of end input.old) }
+    ensures read { ReadsUnless is_memory (λ control. control) result input.new
+        (inside_at 48 control_of end input.old) }
     ensures left { OnOk result (length input.new < length input.old) }
 {
     let mut body = body(input, end, 48)?;
@@ -43,7 +44,8 @@ fn control_inside(alloc: Global, input: &mut Input<'_>, end: usize) -> Result<Co
 
 // The controls up to the end.
 fn controls(alloc: Global, input: &mut Input<'_>, end: usize) -> Result<List<Control>, LdapFault>
-    ensures { GivesUnless is_memory (λ controls. controls) result (each_of (inside_at 48 control_of) end input.old) }
+    ensures { GivesUnless is_memory (λ controls. controls) result
+        (each_of (inside_at 48 control_of) end input.old) }
 {
     let mut controls = List::new(alloc);
     'each: while !input.is_empty() {
@@ -55,7 +57,8 @@ fn controls(alloc: Global, input: &mut Input<'_>, end: usize) -> Result<List<Con
 
 // The same, with where an identifier stands again.
 fn all_controls(alloc: Global, input: &mut Input<'_>, end: usize) -> Result<Controls, LdapFault>
-    ensures { GivesUnless is_memory (λ controls. controls) result (each_of (inside_at 48 control_of) end input.old) }
+    ensures { GivesUnless is_memory (λ controls. controls) result
+        (each_of (inside_at 48 control_of) end input.old) }
 {
     let list = controls(alloc, input, end)?;
     let controls = Controls::of(alloc, list)?;
@@ -65,7 +68,8 @@ fn all_controls(alloc: Global, input: &mut Input<'_>, end: usize) -> Result<Cont
 // The controls, where they begin here.
 #[tactic(auto, unfolding(crate::specs::MessageReading::controls_at, crate::specs::Reading::inside_at))]
 fn option_controls(alloc: Global, input: &mut Input<'_>, end: usize) -> Result<Controls, LdapFault>
-    ensures { ReadsUnless is_memory (λ controls. controls) result input.new (controls_at end input.old) }
+    ensures { ReadsUnless is_memory (λ controls. controls) result input.new
+        (controls_at end input.old) }
 {
     if !begins(input, 160) {
         return Ok(Controls::new(alloc));
@@ -129,7 +133,8 @@ pub fn read_message(alloc: Global, bytes: &[u8]) -> Result<Message, LdapFault>
     // What is read is encoded so.
     ensures found { IfOk result (λ m. SpellsMessage (message_seen m) bytes.now) }
     // Whatever is encoded so is read, unless memory ran out.
-    ensures only { (m : MessageValue) → SpellsMessage m bytes.now → GivesUnless is_memory message_seen result (Ok m) }
+    ensures only { (m : MessageValue) → SpellsMessage m bytes.now
+        → GivesUnless is_memory message_seen result (Ok m) }
     // Which fault it is.
     ensures fault { GivesUnless is_memory message_seen result (message_of bytes.now) }
 {

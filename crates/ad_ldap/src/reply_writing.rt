@@ -2,7 +2,8 @@
 
 ghost use Rattle.std.specs.Prelude.{◌≡◌, ◌+◌, ◌++◌, List, ℕ, length, IfOk, OnOk};
 ghost use Rattle.ad_ber.specs.Writing.{element_bytes, number_element};
-ghost use Rattle.ad_ldap.specs.Reply.{values_bytes, attr_body, attr_bytes, attrs_bytes, entry_body, result_body, notice_body, message_bytes, reply_bytes};
+ghost use Rattle.ad_ldap.specs.Reply.{values_bytes, attr_body, attr_bytes, attrs_bytes, entry_body, result_body};
+ghost use Rattle.ad_ldap.specs.Reply.{notice_body, message_bytes, reply_bytes};
 
 use crate::reply::Reply;
 use ad_ber::{header_len, number_len, put, put_header, put_number};
@@ -23,7 +24,8 @@ fn plus(a: usize, b: usize) -> Result<usize, AllocError>
 
 // The number of bytes of an element with a body of so many.
 fn element_len(len: usize) -> Result<usize, AllocError>
-    ensures { IfOk result (λ n. (tag : ℕ) (body : List ℕ) → length body ≡ len → n ≡ length (element_bytes tag body)) }
+    ensures { IfOk result (λ n. (tag : ℕ) (body : List ℕ) → length body ≡ len → n
+        ≡ length (element_bytes tag body)) }
 {
     plus(header_len(len), len)
 }
@@ -95,7 +97,8 @@ fn put_attrs(into: &mut Vec<u8>, attrs: &[(Bytes, List<Bytes>)]) -> Result<(), A
 
 // A buffer with room for a message, and what stands before its response's body: of so many bytes, with this tag.
 fn message_front(alloc: Global, id: u32, tag: u8, len: usize) -> Result<Vec<u8>, AllocError>
-    ensures { IfOk result (λ front. (body : List ℕ) → length body ≡ len → front.items ++ body ≡ message_bytes id tag body) }
+    ensures { IfOk result (λ front. (body : List ℕ) → length body ≡ len → front.items ++ body
+        ≡ message_bytes id tag body) }
 {
     let response = element_len(len)?;
     let inner = plus(number_len(id), response)?;
@@ -113,7 +116,8 @@ fn entry(
     dn: &[u8],
     attrs: &[(Bytes, List<Bytes>)],
 ) -> Result<Vec<u8>, AllocError>
-    ensures { IfOk result (λ bytes. bytes.items ≡ message_bytes id 100 (entry_body dn.now attrs.now)) }
+    ensures { IfOk result (λ bytes. bytes.items
+        ≡ message_bytes id 100 (entry_body dn.now attrs.now)) }
 {
     let list = attrs_len(attrs)?;
     let name = element_len(dn.len())?;
@@ -136,7 +140,8 @@ fn result_len(code: u8, matched: &[u8], text: &[u8]) -> Result<usize, AllocError
 
 // Puts what every result has at the end.
 fn put_result(into: &mut Vec<u8>, code: u8, matched: &[u8], text: &[u8]) -> Result<(), AllocError>
-    ensures { OnOk result (into.new.items ≡ into.old.items ++ result_body code matched.now text.now) }
+    ensures { OnOk result (into.new.items ≡ into.old.items ++ result_body code matched.now
+        text.now) }
 {
     put_number(into, 10, u32::from(code))?;
     put(into, 4, matched)?;
@@ -152,7 +157,8 @@ fn done(
     matched: &[u8],
     text: &[u8],
 ) -> Result<Vec<u8>, AllocError>
-    ensures { IfOk result (λ bytes. bytes.items ≡ message_bytes id tag (result_body code matched.now text.now)) }
+    ensures { IfOk result (λ bytes. bytes.items
+        ≡ message_bytes id tag (result_body code matched.now text.now)) }
 {
     let len = result_len(code, matched, text)?;
     let mut bytes = message_front(alloc, id, tag, len)?;

@@ -51,7 +51,8 @@ fn values_inside(
     end: usize,
     tag: u8,
 ) -> Result<List<Bytes>, LdapFault>
-    ensures { ReadsUnless is_memory (λ values. values) result input.new (inside_at tag values_of end input.old) }
+    ensures { ReadsUnless is_memory (λ values. values) result input.new
+        (inside_at tag values_of end input.old) }
 {
     let mut body = body(input, end, tag)?;
     let inner_end = end_of(input, end);
@@ -103,7 +104,8 @@ fn attribute_inside(
     input: &mut Input<'_>,
     end: usize,
 ) -> Result<(Bytes, List<Bytes>), LdapFault>
-    ensures { ReadsUnless is_memory (λ x. (x.0, x.1)) result input.new (inside_at 48 attribute_of end input.old) }
+    ensures { ReadsUnless is_memory (λ x. (x.0, x.1)) result input.new
+        (inside_at 48 attribute_of end input.old) }
 {
     let mut body = body(input, end, 48)?;
     let inner_end = end_of(input, end);
@@ -123,7 +125,8 @@ fn item(alloc: Global, input: &mut Input<'_>, end: usize) -> Result<Item, LdapFa
 
 #[tactic(auto, unfolding(crate::specs::Reading::inside_at))]
 fn item_inside(alloc: Global, input: &mut Input<'_>, end: usize) -> Result<Item, LdapFault>
-    ensures read { ReadsUnless is_memory (λ item. item) result input.new (inside_at 48 item_of end input.old) }
+    ensures read { ReadsUnless is_memory (λ item. item) result input.new
+        (inside_at 48 item_of end input.old) }
     ensures left { OnOk result (length input.new < length input.old) }
 {
     let mut body = body(input, end, 48)?;
@@ -133,7 +136,8 @@ fn item_inside(alloc: Global, input: &mut Input<'_>, end: usize) -> Result<Item,
 
 // The changes up to the end.
 fn items(alloc: Global, input: &mut Input<'_>, end: usize) -> Result<List<Item>, LdapFault>
-    ensures { GivesUnless is_memory (λ items. items) result (each_of (inside_at 48 item_of) end input.old) }
+    ensures { GivesUnless is_memory (λ items. items) result
+        (each_of (inside_at 48 item_of) end input.old) }
 {
     let mut items = List::new(alloc);
     'each: while !input.is_empty() {
@@ -145,7 +149,8 @@ fn items(alloc: Global, input: &mut Input<'_>, end: usize) -> Result<List<Item>,
 
 #[tactic(auto, unfolding(crate::specs::Reading::inside_at))]
 fn items_inside(alloc: Global, input: &mut Input<'_>, end: usize) -> Result<List<Item>, LdapFault>
-    ensures { ReadsUnless is_memory (λ items. items) result input.new (inside_at 48 (each_of (inside_at 48 item_of)) end input.old) }
+    ensures { ReadsUnless is_memory (λ items. items) result input.new
+        (inside_at 48 (each_of (inside_at 48 item_of)) end input.old) }
 {
     let mut body = body(input, end, 48)?;
     let inner_end = end_of(input, end);
@@ -177,7 +182,8 @@ fn some_values_inside(
     input: &mut Input<'_>,
     end: usize,
 ) -> Result<List<Bytes>, LdapFault>
-    ensures { ReadsUnless is_memory (λ values. values) result input.new (inside_at 49 some_values_of end input.old) }
+    ensures { ReadsUnless is_memory (λ values. values) result input.new
+        (inside_at 49 some_values_of end input.old) }
 {
     let mut body = body(input, end, 49)?;
     let inner_end = end_of(input, end);
@@ -205,7 +211,8 @@ fn new_inside(
     input: &mut Input<'_>,
     end: usize,
 ) -> Result<(Bytes, List<Bytes>), LdapFault>
-    ensures read { ReadsUnless is_memory (λ x. (x.0, x.1)) result input.new (inside_at 48 new_of end input.old) }
+    ensures read { ReadsUnless is_memory (λ x. (x.0, x.1)) result input.new
+        (inside_at 48 new_of end input.old) }
     ensures left { OnOk result (length input.new < length input.old) }
 {
     let mut body = body(input, end, 48)?;
@@ -219,7 +226,8 @@ fn attrs(
     input: &mut Input<'_>,
     end: usize,
 ) -> Result<List<(Bytes, List<Bytes>)>, LdapFault>
-    ensures { GivesUnless is_memory (λ attrs. attrs) result (each_of (inside_at 48 new_of) end input.old) }
+    ensures { GivesUnless is_memory (λ attrs. attrs) result
+        (each_of (inside_at 48 new_of) end input.old) }
 {
     let mut attrs = List::new(alloc);
     'each: while !input.is_empty() {
@@ -235,7 +243,8 @@ fn attrs_inside(
     input: &mut Input<'_>,
     end: usize,
 ) -> Result<List<(Bytes, List<Bytes>)>, LdapFault>
-    ensures { ReadsUnless is_memory (λ attrs. attrs) result input.new (inside_at 48 (each_of (inside_at 48 new_of)) end input.old) }
+    ensures { ReadsUnless is_memory (λ attrs. attrs) result input.new
+        (inside_at 48 (each_of (inside_at 48 new_of)) end input.old) }
 {
     let mut body = body(input, end, 48)?;
     let inner_end = end_of(input, end);

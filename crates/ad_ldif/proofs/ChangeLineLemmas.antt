@@ -1,5 +1,6 @@
 -- The searches of a change record's line, on lists.
-use Rattle.std.proofs.Common.{◌≡◌, inl, inr, ℕ, suc, ◌+◌, ◌<◌, ◌≤◌, Bool, true, false, cond, ltb, not, ◌&&◌, List, [], ◌∷◌, length, Option, Some, None, refl, sym, ap, ◌∙◌, arith}
+use Rattle.std.proofs.Common.{◌≡◌, inl, inr, ℕ, suc, ◌+◌, ◌<◌, ◌≤◌, Bool, true, false, cond, ltb, not, ◌&&◌, List, []}
+use Rattle.std.proofs.Common.{◌∷◌, length, Option, Some, None, refl, sym, ap, ◌∙◌, arith}
 use Rattle.std.specs.Option.{is_some}
 use Rattle.std.specs.List.{list_all, position, position_or_len}
 use Rattle.std.proofs.lemmas.Grind.{common_steps}
@@ -24,14 +25,16 @@ none_of : (b : Bool) (n : ℕ) → not (is_some (cond b (Some n) None)) ≡ not 
 none_of true n = refl
 none_of false n = refl
 
-all_by : (p : Bool) (rest : Bool) (n m : ℕ) → rest ≡ not (ltb n m) → (p && rest) ≡ not (ltb (cond (not (not p)) (1 + n) 0) (suc m))
+all_by : (p : Bool) (rest : Bool) (n m : ℕ) → rest ≡ not (ltb n m) → (p && rest)
+    ≡ not (ltb (cond (not (not p)) (1 + n) 0) (suc m))
 all_by true rest n m e = elim (cases_lt n m) [
   | inl lt ↦ e ∙ ap not (lt-ltb n m lt ∙ sym (lt-ltb (1 + n) (suc m) (omega (arith, lt))))
   | inr le ↦ e ∙ ap not (le-ltb n m le ∙ sym (le-ltb (1 + n) (suc m) (omega (arith, le))))
 ]
 all_by false rest n m e = sym (ap not (lt-ltb 0 (suc m) (omega arith)))
 
-all_names : (xs : List ℕ) → list_all is_name_byte xs ≡ not (ltb (position_or_len (λ b. not (is_name_byte b)) xs) (length xs))
+all_names : (xs : List ℕ) → list_all is_name_byte xs
+    ≡ not (ltb (position_or_len (λ b. not (is_name_byte b)) xs) (length xs))
 all_names [] = refl
 all_names (x ∷ xs) = all_by (is_name_byte x) (list_all is_name_byte xs) _ _ (all_names xs)
 

@@ -11,7 +11,8 @@ on_err (Ok x) P p = tt
 on_err (Err e) P p = p
 
 -- a step that fails, and what would come after it
-pub fails_first : {A B : Type 0} (e : LdifFault) (read : Result A Fault) (next : A → Result B Fault) → Fails e read → Fails e (read >>= next)
+pub fails_first : {A B : Type 0} (e : LdifFault) (read : Result A Fault) (next : A → Result B Fault) → Fails e read
+    → Fails e (read >>= next)
 fails_first faults.Memory read next h = tt
 fails_first (faults.Bad n k) read next h = ap (λ r. r >>= next) h
 

@@ -10,11 +10,13 @@ pub no_story : (blocks : List Block) → blocks ≡ [] → story_of blocks ≡ n
 unfolding story_of
 no_story blocks is = rw is refl
 
-pub one_told : (blocks others after : List Block) (block : Block) (entry : Entry) → blocks ≡ block ∷ others → record_of block ≡ Ok entry → others ≡ after → story_of blocks ≡ told (Ok entry) (story_of after)
+pub one_told : (blocks others after : List Block) (block : Block) (entry : Entry) → blocks ≡ block ∷ others
+    → record_of block ≡ Ok entry → others ≡ after → story_of blocks ≡ told (Ok entry) (story_of after)
 unfolding story_of
 one_told blocks others after block entry is read left = rw (is, read, left) refl
 
-pub fault_told : (blocks others : List Block) (block : Block) (e : LdifFault) (after : Story) → blocks ≡ block ∷ others → Fails e (record_of block) → Tells (story_of blocks) (Err e) after
+pub fault_told : (blocks others : List Block) (block : Block) (e : LdifFault) (after : Story) → blocks ≡ block
+    ∷ others → Fails e (record_of block) → Tells (story_of blocks) (Err e) after
 unfolding story_of
 fault_told blocks others block faults.Memory after is h = tt
 fault_told blocks others block (faults.Bad n k) after is h = rw (is, h) refl

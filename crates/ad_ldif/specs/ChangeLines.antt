@@ -1,5 +1,6 @@
 -- What one line of a change record says.
-use Rattle.std.specs.Prelude.{ℕ, Bool, true, false, ◌&&◌, ◌||◌, ◌==◌, not, nat_le, List, [], ◌∷◌, take, drop, codes, Option, Some, None, Result, Ok, Err, if◌then◌else◌}
+use Rattle.std.specs.Prelude.{ℕ, Bool, true, false, ◌&&◌, ◌||◌, ◌==◌, not, nat_le, List, [], ◌∷◌, take, drop, codes}
+use Rattle.std.specs.Prelude.{Option, Some, None, Result, Ok, Err, if◌then◌else◌}
 use Rattle.std.specs.List.{position_or_len}
 use Rattle.std.specs.Str.{bytes_eq, str_eq_ignore_ascii_case}
 use Rattle.ad_bytes.specs.Reading.{◌>>=◌, need}
@@ -43,7 +44,8 @@ control_by oid (Some critical) = Some (record { oid = oid; critical = critical }
 
 -- the control that a value encodes: digits and dots, and ` true`, ` false` or nothing after them
 unfoldable pub control_of : List ℕ → Option LdifControl
-control_of value = if oid_len value == 0 then None else control_by (take (oid_len value) value) (critical_of (drop (oid_len value) value))
+control_of value = if oid_len value == 0 then None else control_by (take (oid_len value) value)
+    (critical_of (drop (oid_len value) value))
 
 unfoldable pub control_at : ℕ → List ℕ → Result LdifControl Fault
 control_at n behind = do
@@ -71,8 +73,10 @@ type_at n behind = do
 unfoldable pub opening_at : Line → Result Opening Fault
 opening_at line = do
   name ← name_at line
-  if str_eq_ignore_ascii_case name (codes "control") then (control_at line.number (behind_colon line.text) >>= λ c. Ok (opening.Control c)) else
-      (if str_eq_ignore_ascii_case name (codes "changetype") then (type_at line.number (behind_colon line.text) >>= λ t. Ok (opening.Type t)) else
+  if str_eq_ignore_ascii_case name (codes "control")
+      then (control_at line.number (behind_colon line.text) >>= λ c. Ok (opening.Control c)) else
+      (if str_eq_ignore_ascii_case name (codes "changetype")
+      then (type_at line.number (behind_colon line.text) >>= λ t. Ok (opening.Type t)) else
       Err (fault line.number kind.ChangeType))
 
 -- ---- lines of one name
@@ -92,7 +96,8 @@ value_in name line = do
 
 -- 0 (48) or 1 (49)
 unfoldable pub flag_of : List ℕ → Option Bool
-flag_of value = if bytes_eq value (codes "0") then Some false else (if bytes_eq value (codes "1") then Some true else None)
+flag_of value = if bytes_eq value (codes "0") then Some false
+    else (if bytes_eq value (codes "1") then Some true else None)
 
 -- the flag in a line of this name
 unfoldable pub flag_in : List ℕ → Line → Result Bool Fault

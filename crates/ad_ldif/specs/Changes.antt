@@ -38,8 +38,8 @@ stopped_at f = record { changes = []; stop = Some f }
 abbrev pub untold_changes : State → Changes
 untold_changes state = elim state.stop [ None ↦ changes_in (blocks false state.lines) | Some f ↦ stopped_at f ]
 
--- What a reader answered, from the changes that it had to tell to those that it has then: the next one, the end, or the
--- fault. Want of memory may come in place of a record or a fault.
+-- What a reader answered, from the changes that it had to tell to those that it has then: the next one, the end, or
+-- the fault. Want of memory may come in place of a record or a fault.
 abbrev pub TellsChange : Changes → Result (Option LdifChange) LdifFault → Changes → Type 0
 TellsChange before (Ok None) after = before ≡ no_changes
 TellsChange before (Ok (Some c)) after = before ≡ changed (Ok (change_seen c)) after

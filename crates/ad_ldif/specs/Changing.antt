@@ -1,6 +1,7 @@
 -- What the lines of one change record say: `version: 1` perhaps, `dn`, controls, `changetype`, and what its kind
 -- asks for.
-use Rattle.std.specs.Prelude.{◌≡◌, ℕ, Bool, List, [], ◌∷◌, ◌++◌, codes, Option, Some, None, Result, Ok, Err, if◌then◌else◌}
+use Rattle.std.specs.Prelude.{◌≡◌, ℕ, Bool, List, [], ◌∷◌, ◌++◌, codes, Option, Some, None, Result, Ok, Err}
+use Rattle.std.specs.Prelude.{if◌then◌else◌}
 use Rattle.ad_bytes.specs.Reading.{◌>>=◌}
 use Rattle.ad_ldif.specs.declared.change.LdifControl.{LdifControl}
 use Rattle.ad_ldif.specs.declared.change.LdifItem.{LdifItem}
@@ -93,10 +94,12 @@ item_and item others = others >>= λ items. Ok (item ∷ items)
 unfoldable pub items_from : Option Begun → List Line → Result (List LdifItem) Fault
 items_from None [] = Ok []
 items_from (Some begun) [] = Err (fault begun.line kind.Line)
-items_from None (line ∷ lines) = item_at line >>= λ item. items_from (Some (record { item = item; line = line.number })) lines
+items_from None (line ∷ lines) = item_at line >>= λ item.
+    items_from (Some (record { item = item; line = line.number })) lines
 items_from (Some begun) (line ∷ lines) =
     if ends_item line then item_and begun.item (items_from None lines) else
-    (value_in begun.item.name line >>= λ value. items_from (Some (record { item = with_value begun.item value; line = line.number })) lines)
+    (value_in begun.item.name line >>= λ value.
+    items_from (Some (record { item = with_value begun.item value; line = line.number })) lines)
 
 -- the same, after those that were read before
 unfoldable pub items_behind : List LdifItem → List Line → Result (List LdifItem) Fault

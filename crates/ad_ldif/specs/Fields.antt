@@ -10,7 +10,8 @@ use Rattle.ad_ldif.specs.Lines.{begins_with, is_empty, behind_first}
 
 -- a letter, a digit, `-` (45) or `;` (59)
 abbrev pub is_name_byte : ℕ → Bool
-is_name_byte b = nat_le 97 b && nat_le b 122 || nat_le 65 b && nat_le b 90 || nat_le 48 b && nat_le b 57 || b == 45 || b == 59
+is_name_byte b = nat_le 97 b && nat_le b 122 || nat_le 65 b && nat_le b 90 || nat_le 48 b && nat_le b 57 || b == 45
+    || b == 59
 
 abbrev pub is_name : List ℕ → Bool
 is_name name = not (is_empty name) && list_all is_name_byte name

@@ -3,7 +3,8 @@ use Rattle.std.specs.Prelude.{ℕ, true, false, List, length}
 use Rattle.ad_ldif.specs.declared.cursor.Cursor.{Cursor}
 use Rattle.ad_ldif.specs.Lines.{Line, Block, physical, logical, lines_from, lines_before_empty, blocks}
 
--- the logical lines that are left; and where a line stands before that may be continued, those after its continuations
+-- the logical lines that are left; and where a line stands before that may be continued, those after its
+-- continuations
 abbrev pub lines_left : Cursor → List Line
 lines_left at = lines_from at.number at.rest.now
 

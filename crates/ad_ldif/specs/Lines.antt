@@ -73,4 +73,5 @@ unfoldable pub blocks : Bool → List Line → List Block
 blocks inside [] = []
 blocks inside (line ∷ lines) =
     if is_empty line.text then blocks false lines else
-    (if inside then blocks true lines else record { first = line; others = lines_before_empty lines } ∷ blocks true lines)
+    (if inside then blocks true lines else record { first = line; others = lines_before_empty lines }
+    ∷ blocks true lines)

@@ -4,7 +4,8 @@ use Rattle.std.specs.Prelude.{◌≡◌, ◌⊎◌, ℕ, ◌+◌, ◌==◌, List
 -- A text ends with an empty line that isn't its first, by LF (10) or by CR LF (13, 10). What follows begins with
 -- another record.
 abbrev pub EndsRecord : List ℕ → Type 0
-EndsRecord text = ((front : List ℕ) × (text ≡ front ++ 10 ∷ 10 ∷ [])) ⊎ ((front : List ℕ) × (text ≡ front ++ 10 ∷ 13 ∷ 10 ∷ []))
+EndsRecord text = ((front : List ℕ) × (text ≡ front ++ 10 ∷ 10 ∷ []))
+    ⊎ ((front : List ℕ) × (text ≡ front ++ 10 ∷ 13 ∷ 10 ∷ []))
 
 -- how many lines end with LF
 abbrev pub one_end : ℕ → ℕ

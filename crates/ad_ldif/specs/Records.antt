@@ -1,5 +1,6 @@
 -- What the lines of one record say: `version: 1` perhaps, `dn`, `changetype: add` perhaps, and the attributes' lines.
-use Rattle.std.specs.Prelude.{ℕ, Bool, true, false, nat_le, List, [], ◌∷◌, ◌++◌, length, map, codes, Result, Ok, Err, if◌then◌else◌}
+use Rattle.std.specs.Prelude.{ℕ, Bool, true, false, nat_le, List, [], ◌∷◌, ◌++◌, length, map, codes, Result, Ok, Err}
+use Rattle.std.specs.Prelude.{if◌then◌else◌}
 use Rattle.std.specs.Str.{bytes_eq, str_eq_ignore_ascii_case}
 use Rattle.ad_bytes.specs.Reading.{◌>>=◌, need, fault_as}
 use Rattle.ad_ldif.specs.declared.fault.LdifKind.{LdifKind}

@@ -62,8 +62,8 @@ abbrev pub Gives : {X Y : Type 0} → (X → Y) → Result X LdifFault → Resul
 Gives view (Ok x) read = read ≡ Ok (view x)
 Gives view (Err e) read = Fails e read
 
--- What a reader answered, from the story that it had to tell to the one that it has then: the next record, the end, or
--- the fault. Want of memory may come in place of a record or a fault.
+-- What a reader answered, from the story that it had to tell to the one that it has then: the next record, the end,
+-- or the fault. Want of memory may come in place of a record or a fault.
 abbrev pub Tells : Story → Result (Option LdifRecord) LdifFault → Story → Type 0
 Tells before (Ok None) after = before ≡ nothing
 Tells before (Ok (Some r)) after = before ≡ told (Ok (entry_of r)) after

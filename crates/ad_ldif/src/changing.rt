@@ -34,7 +34,13 @@ fn read_openings<'a>(
     first: u32,
     controls: &mut List<LdifControl>,
 ) -> Result<(ChangeType, u32), LdifFault>
-    ensures opened { Gives (λ t. record { controls = controls.new; type = t.0; line = t.1; others = record_left at.new }) result
+    ensures opened { Gives (λ t. record {
+      controls = controls.new;
+      type = t.0;
+      line = t.1;
+      others
+          = record_left at.new;
+    }) result
         (opened_behind controls.old first (record_left at.old)) }
     ensures others { OnOk result (others_left at.old ≡ others_left at.new) }
 {
@@ -111,7 +117,8 @@ fn next_value<'a>(
     name: &[u8],
     number: u32,
 ) -> Result<(Bytes, u32), LdifFault>
-    ensures value { Gives (λ v. record { value = v.0; line = v.1; others = record_left at.new }) result
+    ensures value { Gives (λ v. record { value = v.0; line = v.1; others = record_left at.new })
+        result
         (next_of (value_in name.now) number (record_left at.old)) }
     ensures others { OnOk result (others_left at.old ≡ others_left at.new) }
 {
@@ -133,7 +140,8 @@ fn next_flag<'a>(
     name: &[u8],
     number: u32,
 ) -> Result<(bool, u32), LdifFault>
-    ensures value { Gives (λ v. record { value = v.0; line = v.1; others = record_left at.new }) result
+    ensures value { Gives (λ v. record { value = v.0; line = v.1; others = record_left at.new })
+        result
         (next_of (flag_in name.now) number (record_left at.old)) }
     ensures others { OnOk result (others_left at.old ≡ others_left at.new) }
 {
@@ -192,7 +200,8 @@ fn read_values<'a>(
     first: u32,
     item: &mut LdifItem,
 ) -> Result<(), LdifFault>
-    ensures values { GoesOn result (items_from (Some (record { item = item.old; line = first })) (record_left at.old))
+    ensures values { GoesOn result (items_from (Some (record { item = item.old; line = first }))
+        (record_left at.old))
         (item_and item.new (items_from None (record_left at.new))) }
     ensures others { OnOk result (others_left at.old ≡ others_left at.new) }
     ensures shorter { OnOk result (bytes_left at.new ≤ bytes_left at.old) }
@@ -289,7 +298,8 @@ pub(crate) fn read_next_change<'a>(
     at: &mut Cursor<'a>,
     last: &mut Kept,
 ) -> Result<Option<LdifChange>, LdifFault>
-    ensures told { TellsChange (changes_in (records_left at.old)) result (changes_in (records_left at.new)) }
+    ensures told { TellsChange (changes_in (records_left at.old)) result
+        (changes_in (records_left at.new)) }
     ensures end { records_left at.old ≡ [] → result ≡ Ok None }
 {
     let Some(first) = at.next_record(alloc, last)? else {

@@ -75,7 +75,8 @@ fn both(a: bool, b: bool) -> bool
 /// The length of the name at the start, where a colon is the first byte after it.
 fn named(text: &[u8]) -> Option<usize>
     ensures none { result ≡ None → is_line text.now ≡ false }
-    ensures line { IfSome result (λ n. is_line text.now ≡ not (list_any is_nul (drop (n + 1) text.now))) }
+    ensures line { IfSome result (λ n. is_line text.now
+        ≡ not (list_any is_nul (drop (n + 1) text.now))) }
     ensures name { IfSome result (λ n. name_of text.now ≡ take n text.now) }
     ensures behind { IfSome result (λ n. behind_colon text.now ≡ drop (n + 1) text.now) }
     ensures within { IfSome result (λ n. n < length text.now) }

@@ -47,7 +47,8 @@ fn behind<'b>(text: &'b [u8], front: &[u8]) -> Option<&'b [u8]>
 
 // Whether a text ends with the end of a line: then its lines are the same whatever stands after it.
 fn is_whole(text: &[u8]) -> bool
-    ensures { result ≡ true → (after : List ℕ) → physical (text.now ++ after) ≡ physical text.now ++ physical after }
+    ensures { result ≡ true → (after : List ℕ) → physical (text.now ++ after) ≡ physical text.now
+        ++ physical after }
 {
     if text.is_empty() {
         return false;

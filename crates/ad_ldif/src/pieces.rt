@@ -18,7 +18,8 @@ fn ends_record(text: &[u8]) -> bool
     either(text.ends_with(b"\n\n"), text.ends_with(b"\n\r\n"))
 }
 
-/// The length of the prefix of a text up to the end of its last empty line that isn't its first; 0 where there is none.
+/// The length of the prefix of a text up to the end of its last empty line that isn't its first; 0 where there is
+/// none.
 pub fn end_of_records(text: &[u8]) -> usize
     ensures within { result ≤ length text.now }
     ensures ends { 0 < result → EndsRecord (take result text.now) }

@@ -1,5 +1,6 @@
 -- What stands before the first byte of a kind and after it, and the first line of a text.
-use Rattle.std.proofs.Common.{◌≡◌, ℕ, suc, ◌+◌, ◌-◌, ◌<◌, ◌≤◌, false, List, [], ◌∷◌, length, take, drop, Option, Some, None, refl, sym, subst, ap, ◌∙◌, inl, inr, arith}
+use Rattle.std.proofs.Common.{◌≡◌, ℕ, suc, ◌+◌, ◌-◌, ◌<◌, ◌≤◌, false, List, [], ◌∷◌, length, take, drop, Option, Some}
+use Rattle.std.proofs.Common.{None, refl, sym, subst, ap, ◌∙◌, inl, inr, arith}
 use Rattle.std.specs.Prelude.{◌==◌}
 use Rattle.std.specs.Option.{option_map}
 use Rattle.std.specs.List.{position_from}
@@ -20,13 +21,15 @@ record Divides (byte from place : ℕ) (bytes : List ℕ) : Type 0 where
   within : offset < length bytes
   parts : divided byte bytes ≡ Some (take offset bytes, drop (suc offset) bytes)
 
-divides : (byte from place : ℕ) (bytes : List ℕ) → position_from (λ b. b == byte) from bytes ≡ Some place → Divides byte from place bytes
+divides : (byte from place : ℕ) (bytes : List ℕ) → position_from (λ b. b == byte) from bytes ≡ Some place
+    → Divides byte from place bytes
 unfolding divided
 divides byte from place [] is = absurd (none-some place is)
 divides byte from place (b ∷ bytes) is = elim (cases_Bool (b == byte)) [
   | inl here ↦ (let sum : from ≡ place = same_Some from place (rw here at is) in
       record { offset = 0; sum = omega (arith, sum); within = omega arith; parts = rw here refl })
-  | inr other ↦ (let rest = divides byte (from + 1) place bytes (rw other at is) in let sum = rest.sum in let within = rest.within in
+  | inr other ↦ (let rest = divides byte (from + 1) place bytes (rw other at is) in let sum = rest.sum in let within
+      = rest.within in
       record {
         offset = suc rest.offset;
         sum = omega (arith, sum);
@@ -41,11 +44,15 @@ divided_at byte place bytes is =
     let d = divides byte 0 place bytes is in
     let same : d.offset ≡ place = omega (arith, d.sum) in
     let next : suc d.offset ≡ place + 1 = omega (arith, d.sum) in
-    let short : length (drop (place + 1) bytes) ≤ length bytes - (place + 1) = omega (arith, length-drop (place + 1) bytes) in
-    ap (λ (behind : List ℕ). Some (take place bytes, behind)) (take_all (length bytes - (place + 1)) (drop (place + 1) bytes) short)
-    ∙ sym (d.parts ∙ ap (λ (n : ℕ). Some (take n bytes, drop (suc d.offset) bytes)) same ∙ ap (λ (n : ℕ). Some (take place bytes, drop n bytes)) next)
+    let short : length (drop (place + 1) bytes) ≤ length bytes - (place + 1)
+    = omega (arith, length-drop (place + 1) bytes) in
+    ap (λ (behind : List ℕ). Some (take place bytes, behind))
+    (take_all (length bytes - (place + 1)) (drop (place + 1) bytes) short)
+    ∙ sym (d.parts ∙ ap (λ (n : ℕ). Some (take n bytes, drop (suc d.offset) bytes)) same
+    ∙ ap (λ (n : ℕ). Some (take place bytes, drop n bytes)) next)
 
-pub divided_nowhere : (byte from : ℕ) (bytes : List ℕ) → position_from (λ b. b == byte) from bytes ≡ None → None ≡ divided byte bytes
+pub divided_nowhere : (byte from : ℕ) (bytes : List ℕ) → position_from (λ b. b == byte) from bytes ≡ None → None
+    ≡ divided byte bytes
 unfolding divided
 divided_nowhere byte from [] is = refl
 divided_nowhere byte from (b ∷ bytes) is = elim (cases_Bool (b == byte)) [
@@ -58,7 +65,8 @@ divided_nowhere byte from (b ∷ bytes) is = elim (cases_Bool (b == byte)) [
 abbrev Ended : List ℕ → List ℕ × List ℕ → Type 0
 Ended text parts = IsFirstLine text parts.0 parts.1
 
-ended_more : (b : ℕ) (text : List ℕ) (parts : List ℕ × List ℕ) (rest : Option (List ℕ × List ℕ)) → ((p : List ℕ × List ℕ) → rest ≡ Some p → Ended text p)
+ended_more : (b : ℕ) (text : List ℕ) (parts : List ℕ × List ℕ) (rest : Option (List ℕ × List ℕ))
+    → ((p : List ℕ × List ℕ) → rest ≡ Some p → Ended text p)
     → b == 10 ≡ false → option_map (with_byte b) rest ≡ Some parts → Ended (b ∷ text) parts
 unfolding lines_of
 ended_more b text parts None first other is = absurd (none-some parts is)
@@ -72,7 +80,8 @@ ended : (text : List ℕ) (parts : List ℕ × List ℕ) → divided 10 text ≡
 unfolding divided lines_of
 ended [] parts is = absurd (none-some parts is)
 ended (b ∷ text) parts is = elim (cases_Bool (b == 10)) [
-  | inl here ↦ subst (Ended (b ∷ text)) (same_Some ([], text) parts (rw here at is)) (record { lines = rw here refl; shorter = omega arith })
+  | inl here ↦ subst (Ended (b ∷ text)) (same_Some ([], text) parts (rw here at is))
+      (record { lines = rw here refl; shorter = omega arith })
   | inr other ↦ ended_more b text parts (divided 10 text) (ended text) other (rw other at is)
 ]
 

@@ -12,10 +12,12 @@ use Rattle.ad_dir_model.specs.Names.{rdn_of, rdns_of, same_rdn, begins_with, is_
 use Rattle.ad_dir_model.specs.Names.{number_if_typed, child_of_rdn, found_below, found_from_end, found}
 use Rattle.ad_dir_model.proofs.Finding.{live-of, found_first}
 
-child_lives : (dir : Directory) (parent m : ℕ) (rdn : Rdn) → Rise dir.objects → child_of_rdn dir parent rdn ≡ Some m → is_live dir.objects m ≡ true
+child_lives : (dir : Directory) (parent m : ℕ) (rdn : Rdn) → Rise dir.objects → child_of_rdn dir parent rdn ≡ Some m
+    → is_live dir.objects m ≡ true
 unfolding child_of_rdn child_named
 child_lives dir parent m rdn rise is =
-    option_and_then_some (number_if_typed dir.schema rdn) (find (is_child_named parent rdn.value) dir.objects) m is (λ (o : Object) first typed.
+    option_and_then_some (number_if_typed dir.schema rdn) (find (is_child_named parent rdn.value) dir.objects) m is
+    (λ (o : Object) first typed.
     let number : o.number ≡ m = (cond_some (same_rdn (rdn_of dir.schema o) rdn) o.number m typed).1 in
     subst (λ (k : ℕ). is_live dir.objects k ≡ true) number
     (live-of dir.objects o.number o
@@ -26,10 +28,12 @@ below_lives : (dir : Directory) (n m : ℕ) (rdns : List Rdn) → Rise dir.objec
 unfolding found_below
 below_lives dir n m [] rise live is = subst (λ (k : ℕ). is_live dir.objects k ≡ true) (same_Some n m is) live
 below_lives dir n m (rdn ∷ rdns) rise live is =
-    option_and_then_some (λ (child : ℕ). found_below dir child rdns) (child_of_rdn dir n rdn) m is (λ (child : ℕ) first rest.
+    option_and_then_some (λ (child : ℕ). found_below dir child rdns) (child_of_rdn dir n rdn) m is
+    (λ (child : ℕ) first rest.
     below_lives dir child m rdns rise (child_lives dir n child rdn rise first) rest)
 
-found_lives : (dir : Directory) (rdns : List Rdn) (m : ℕ) → Rise dir.objects → found dir rdns ≡ Some m → is_live dir.objects m ≡ true
+found_lives : (dir : Directory) (rdns : List Rdn) (m : ℕ) → Rise dir.objects → found dir rdns ≡ Some m
+    → is_live dir.objects m ≡ true
 unfolding found
 found_lives dir rdns m rise is = by_end (reverse (rdns_of dir root)) (reverse rdns) is
   where
@@ -39,7 +43,8 @@ found_lives dir rdns m rise is = by_end (reverse (rdns_of dir root)) (reverse rd
         by_test : (b : Bool) → (is_live dir.objects root && begins_with parts top) ≡ b
             → (if b then found_below dir root (drop (length top) parts) else None) ≡ Some m
             → is_live dir.objects m ≡ true
-        by_test true e is'' = below_lives dir root m (drop (length top) parts) rise (and_parts (is_live dir.objects root) (begins_with parts top) e).0 is''
+        by_test true e is'' = below_lives dir root m (drop (length top) parts) rise
+            (and_parts (is_live dir.objects root) (begins_with parts top) e).0 is''
         by_test false e is'' = absurd (none-some m is'')
 
 pub found_live : (dir : Directory) (rdns : List Rdn) (r : Option ℕ) → Rise dir.objects → r ≡ found dir rdns

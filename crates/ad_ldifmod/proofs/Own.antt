@@ -6,10 +6,12 @@ use Rattle.ad_sd.specs.declared.parts.Sd.{Sd}
 use Rattle.ad_dir_model.specs.Object.{Object, no_object}
 use Rattle.ad_dir_model.specs.Objects.{object_of, object_at, sd_at}
 
-by_found : (r : Option Object) (sd : Sd) → Some sd ≡ option_map (λ (o : Object). o.sd) r → sd ≡ (unwrap_or r no_object).sd
+by_found : (r : Option Object) (sd : Sd) → Some sd ≡ option_map (λ (o : Object). o.sd) r → sd
+    ≡ (unwrap_or r no_object).sd
 by_found None sd e = absurd (none-some sd (sym e))
 by_found (Some o) sd e = same_Some sd o.sd e
 
-pub view_shown : (objects : List Object) (n : ℕ) (sd : Sd) → Some sd ≡ option_map (λ (o : Object). o.sd) (object_of objects n) → sd ≡ sd_at objects n
+pub view_shown : (objects : List Object) (n : ℕ) (sd : Sd) → Some sd ≡ option_map (λ (o : Object). o.sd)
+    (object_of objects n) → sd ≡ sd_at objects n
 unfolding object_at
 view_shown objects n sd e = by_found (object_of objects n) sd e

@@ -23,7 +23,8 @@ pub record Reached (dir : Directory) (line : List ℕ) (parts : Parts) (change :
 abbrev asked : Parts → Change → ℕ → Step
 asked parts change number = record { number = number; change = change; name = parts.name }
 
-pub step_is : (dir : Directory) (line : List ℕ) (parts : Parts) (change : Change) (number : ℕ) → Reached dir line parts change number
+pub step_is : (dir : Directory) (line : List ℕ) (parts : Parts) (change : Change) (number : ℕ)
+    → Reached dir line parts change number
     → step_of dir line ≡ Ok (asked parts change number)
 unfolding step_of
 step_is dir line parts change number is = rw is.parts_are (rw is.change_is (rw is.number_is refl))
@@ -31,20 +32,26 @@ step_is dir line parts change number is = rw is.parts_are (rw is.change_is (rw i
 same_number : (n : ℕ) → (n == n) ≡ true
 same_number n = eq-eqb n n refl
 
-pub message_is : (dir : Directory) (lists : Lists) (id : ℕ) (line : List ℕ) (parts : Parts) (change : Change) (number : ℕ) → Reached dir line parts change number
+pub message_is : (dir : Directory) (lists : Lists) (id : ℕ) (line : List ℕ) (parts : Parts) (change : Change)
+    (number : ℕ) → Reached dir line parts change number
     → message_by dir lists id line ≡ message_of id parts.name (changed_list change (lists number))
 unfolding message_by
-message_is dir lists id line parts change number is = rw (step_is dir line parts change number is) (rw (same_number number) refl)
+message_is dir lists id line parts change number is = rw (step_is dir line parts change number is)
+    (rw (same_number number) refl)
 
 -- the list of the one object is another one, and no other
-changed_at : (dir : Directory) (old new : Kept) (number : ℕ) (change : Change) (name : List ℕ) → IsChanged dir old new number change
-    → (n : ℕ) → lists_in dir new n ≡ after_step (record { number = number; change = change; name = name }) (lists_in dir old) n
+changed_at : (dir : Directory) (old new : Kept) (number : ℕ) (change : Change) (name : List ℕ)
+    → IsChanged dir old new number change
+    → (n : ℕ) → lists_in dir new n ≡ after_step (record { number = number; change = change; name = name })
+    (lists_in dir old) n
 changed_at dir old new number change name is n = elim (cases_Bool (n == number)) [
-  | inl same ↦ (let at = eqb-true n number same in rw same (subst (λ (k : ℕ). lists_in dir new k ≡ changed_list change (lists_in dir old k)) (sym at) is.here))
+  | inl same ↦ (let at = eqb-true n number same
+      in rw same (subst (λ (k : ℕ). lists_in dir new k ≡ changed_list change (lists_in dir old k)) (sym at) is.here))
   | inr other ↦ rw other (is.others n (λ at. both_ways (n == number) other (eq-eqb n number at)))
 ]
 
-pub lists_are : (dir : Directory) (old new : Kept) (line : List ℕ) (parts : Parts) (change : Change) (number : ℕ) → Reached dir line parts change number
+pub lists_are : (dir : Directory) (old new : Kept) (line : List ℕ) (parts : Parts) (change : Change) (number : ℕ)
+    → Reached dir line parts change number
     → IsChanged dir old new number change → lists_in dir new ≡ after_if (step_of dir line) (lists_in dir old)
 lists_are dir old new line parts change number is changed =
     rw (step_is dir line parts change number is) (λ i n. changed_at dir old new number change parts.name changed n i)

@@ -1,5 +1,6 @@
 -- What a line asks for: an entry for a list, or an identifier whose entries are taken out.
-use Rattle.std.specs.Prelude.{ℕ, ◌==◌, ◌&&◌, Bool, true, false, if◌then◌else◌, Option, Some, None, List, [], ◌∷◌, ◌++◌, codes, Result, Ok, Err}
+use Rattle.std.specs.Prelude.{ℕ, ◌==◌, ◌&&◌, Bool, true, false, if◌then◌else◌, Option, Some, None, List, [], ◌∷◌}
+use Rattle.std.specs.Prelude.{◌++◌, codes, Result, Ok, Err}
 use Rattle.std.specs.Option.{option_map, option_and_then}
 use Rattle.ad_ids.specs.SidValue.{SidValue}
 use Rattle.ad_acl.specs.declared.kind.AceKind.{AceKind}
@@ -50,7 +51,8 @@ begins_entry (b ∷ text) = b == 40
 -- The entry that a text encodes, all of it: after `D:` it is the text of a list with this entry, and it begins with
 -- its parenthesis. Aliases stand below the domain.
 unfoldable pub entry_of : Option SidValue → List ℕ → Option Entry
-entry_of domain text = if begins_entry text then option_and_then sole_entry (if_read (read_of domain (codes "D:" ++ text))) else None
+entry_of domain text = if begins_entry text then option_and_then sole_entry
+    (if_read (read_of domain (codes "D:" ++ text))) else None
 
 -- the identifier that a text encodes, all of it: after `O:` it is the text of an owner
 unfoldable pub sid_of : Option SidValue → List ℕ → Option SidValue

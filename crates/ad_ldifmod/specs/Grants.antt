@@ -34,7 +34,8 @@ unfoldable pub messages_from : Directory → Lists → ℕ → ℕ → List (Lis
 messages_from dir lists n id [] = Ok []
 messages_from dir lists n id (line ∷ lines) =
     if says_nothing line then messages_from dir lists (suc n) id lines
-    else (fault_as (at_line n) (message_by dir lists id line) >>= λ message. messages_from dir (after_line dir line lists) (suc n) (suc id) lines
+    else (fault_as (at_line n) (message_by dir lists id line) >>= λ message.
+    messages_from dir (after_line dir line lists) (suc n) (suc id) lines
     >>= λ others. Ok (message ∷ others))
 
 -- The messages of a text, whose lines are counted from 1, as messages are. Each object's list begins as it is stored.

@@ -27,7 +27,8 @@ says_nothing (b ∷ line) = b == 35
 -- what stands before the first byte of this kind, and what stands after it
 unfoldable pub divided : ℕ → List ℕ → Option (List ℕ × List ℕ)
 divided byte [] = None
-divided byte (b ∷ bytes) = if b == byte then Some ([], bytes) else option_map (λ parts. (b ∷ parts.0, parts.1)) (divided byte bytes)
+divided byte (b ∷ bytes) = if b == byte then Some ([], bytes) else option_map (λ parts. (b ∷ parts.0, parts.1))
+    (divided byte bytes)
 
 -- the word that a line begins with
 abbrev pub verb_of : List ℕ → Option Verb

@@ -32,7 +32,12 @@ abbrev pub sd_item : List ℕ → Item
 sd_item sd = record { op = 2; attr = codes "nTSecurityDescriptor"; values = sd ∷ [] }
 
 abbrev pub modify : ℕ → List ℕ → List ℕ → Message
-modify id name sd = record { id = id; op = Modify (record { dn = name; items = sd_item sd ∷ [] }); controls = flags_control ∷ [] }
+modify id name sd = record {
+  id = id;
+  op = Modify (record { dn = name; items = sd_item sd ∷ [] });
+  controls
+      = flags_control ∷ [];
+}
 
 -- the message is no longer than a frame's body
 abbrev pub fits : Message → Result (Unit {0}) Stop

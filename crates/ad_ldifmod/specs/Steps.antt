@@ -1,5 +1,6 @@
 -- Only for private contracts, invariants and proofs: steps of the code.
-use Rattle.std.specs.Prelude.{◌≡◌, ◌≢◌, ℕ, suc, ◌+◌, ◌<◌, nat_eq, Bool, true, false, unwrap_or, List, ◌∷◌, ◌++◌, length, Result, Ok, Err}
+use Rattle.std.specs.Prelude.{◌≡◌, ◌≢◌, ℕ, suc, ◌+◌, ◌<◌, nat_eq, Bool, true, false, unwrap_or, List, ◌∷◌, ◌++◌}
+use Rattle.std.specs.Prelude.{length, Result, Ok, Err}
 use Rattle.std.specs.declared.hash.FoldHasher.{FoldHasher}
 use Rattle.std.specs.declared.hash.BuildHasherDefault.{BuildHasherDefault}
 use Rattle.std.specs.HashMap.{get, HashMap}
@@ -40,16 +41,20 @@ joined messages (Err fault) = Err fault
 
 -- what the lines from the n-th on give after these messages
 abbrev pub from_here : Directory → Kept → List Message → ℕ → List (List ℕ) → Result (List Message) GrantFault
-from_here dir kept messages n lines = joined messages (messages_from dir (lists_in dir kept) n (suc (length messages)) lines)
+from_here dir kept messages n lines = joined messages
+    (messages_from dir (lists_in dir kept) n (suc (length messages)) lines)
 
 -- The n-th line was taken: whatever lines follow, what all give stays.
-pub record IsTaken (dir : Directory) (old new : Kept) (before behind : List Message) (n : ℕ) (line : List ℕ) : Type 0 where
-  pub goes_on : (lines : List (List ℕ)) → from_here dir old before n (line ∷ lines) ≡ from_here dir new behind (suc n) lines
-  pub one_more : length behind < 2 + length before
+pub record IsTaken (dir : Directory) (old new : Kept) (before behind : List Message) (n : ℕ) (line : List ℕ) : Type 0
+  where
+    pub goes_on : (lines : List (List ℕ)) → from_here dir old before n (line ∷ lines) ≡ from_here dir new behind (suc n)
+        lines
+    pub one_more : length behind < 2 + length before
 
 -- or it is faulty: whatever lines follow, this is the fault of all
 abbrev pub IsFaulty : Directory → Kept → List Message → ℕ → List ℕ → GrantFault → Type 0
-IsFaulty dir kept before n line fault = is_memory fault ≡ false → (lines : List (List ℕ)) → from_here dir kept before n (line ∷ lines) ≡ Err fault
+IsFaulty dir kept before n line fault = is_memory fault ≡ false → (lines : List (List ℕ)) → from_here dir kept before
+    n (line ∷ lines) ≡ Err fault
 
 -- a text is its first line and the text after it
 pub record IsFirstLine (text line behind : List ℕ) : Type 0 where

@@ -11,7 +11,8 @@ use thiserror::Error;
 /// What is wrong at a line.
 #[derive(Clone, Copy, Debug, PartialEq, Eq)]
 pub enum GrantKind {
-    /// Neither `grant <entry> <name>` nor `deny <entry> <name>` nor `revoke <identifier> <name>`, parted by one blank.
+    /// Neither `grant <entry> <name>` nor `deny <entry> <name>` nor `revoke <identifier> <name>`, parted by one
+    /// blank.
     Form,
     /// The entry isn't one, isn't of the line's kind, or says that it was inherited, or the identifier isn't one.
     Entry,

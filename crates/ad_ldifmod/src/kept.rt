@@ -99,7 +99,8 @@ fn changed_list(list: AceList, change: &Change) -> Result<AceList, AllocError>
 fn taken(alloc: Global, kept: &mut Kept, dir: &Dir, number: u32) -> Result<AceList, AllocError>
     requires { is_live dir.now.objects number ≡ true }
     ensures list { IfOk result (λ list. list ≡ lists_in dir.now kept.old number) }
-    ensures others { OnOk result ((n : ℕ) → n ≢ number → lists_in dir.now kept.new n ≡ lists_in dir.now kept.old n) }
+    ensures others { OnOk result ((n : ℕ) → n ≢ number → lists_in dir.now kept.new n
+        ≡ lists_in dir.now kept.old n) }
 {
     match kept.remove(&number) {
         Some(list) => Ok(list),
@@ -109,7 +110,8 @@ fn taken(alloc: Global, kept: &mut Kept, dir: &Dir, number: u32) -> Result<AceLi
 
 fn keep(kept: &mut Kept, number: u32, list: AceList) -> Result<(), AllocError>
     ensures here { OnOk result (get nat_eq kept.new number ≡ Some list) }
-    ensures others { OnOk result ((n : ℕ) → n ≢ number → get nat_eq kept.new n ≡ get nat_eq kept.old n) }
+    ensures others { OnOk result ((n : ℕ) → n ≢ number → get nat_eq kept.new n
+        ≡ get nat_eq kept.old n) }
 {
     kept.insert(number, list)?;
     Ok(())
@@ -124,8 +126,10 @@ pub(crate) fn change_list(
     change: &Change,
 ) -> Result<(), AllocError>
     requires { is_live dir.now.objects number ≡ true }
-    ensures here { OnOk result (get nat_eq kept.new number ≡ Some (changed_list change.now (lists_in dir.now kept.old number))) }
-    ensures others { OnOk result ((n : ℕ) → n ≢ number → lists_in dir.now kept.new n ≡ lists_in dir.now kept.old n) }
+    ensures here { OnOk result (get nat_eq kept.new number
+        ≡ Some (changed_list change.now (lists_in dir.now kept.old number))) }
+    ensures others { OnOk result ((n : ℕ) → n ≢ number → lists_in dir.now kept.new n
+        ≡ lists_in dir.now kept.old n) }
 {
     let list = taken(alloc, kept, dir, number)?;
     let list = changed_list(list, change)?;

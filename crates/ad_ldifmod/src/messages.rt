@@ -31,7 +31,8 @@ const LIST_ALONE: &[u8] = &[0x30, 0x03, 0x02, 0x01, 0x04];
 // list stands right after these 20 bytes.
 #[tactic(auto, unfolding(ad_sd::specs::Writing::laid_out, ad_bytes::specs::Numbers::le_bytes))]
 fn header(protected: bool) -> &'static [u8]
-    ensures { (entries : List Entry) (acl : List ℕ) → result.now ++ acl ≡ laid_out (list_alone (record { protected = protected; entries = entries })) [] acl }
+    ensures { (entries : List Entry) (acl : List ℕ) → result.now ++ acl
+        ≡ laid_out (list_alone (record { protected = protected; entries = entries })) [] acl }
 {
     if protected {
         &[
@@ -117,7 +118,8 @@ fn modify(alloc: Global, id: u32, name: &[u8], sd: Bytes) -> Result<Message, All
 #[tactic(auto, unfolding(crate::specs::Messages::max_message))]
 fn fits(alloc: Global, message: &Message) -> Result<bool, AllocError>
     requires { IsWritable (message_seen message.now) }
-    ensures { IfOk result (λ fits. fits ≡ nat_le (length (message_bytes (message_seen message.now))) max_message) }
+    ensures { IfOk result (λ fits. fits ≡ nat_le (length (message_bytes (message_seen message.now)))
+        max_message) }
 {
     let bytes = write_message(alloc, message)?;
     Ok(bytes.len() <= MAX_MESSAGE)
@@ -142,7 +144,8 @@ pub(crate) fn message_of(
 ) -> Result<Message, Stop>
     requires from { 1 ≤ id }
     requires to { id < 2 ^ 31 }
-    ensures { GivesUnless is_memory_stop (λ message. message) result (message_of id name.now list.now) }
+    ensures { GivesUnless is_memory_stop (λ message. message) result
+        (message_of id name.now list.now) }
 {
     let sd = match sd_of(alloc, list) {
         Ok(sd) => sd,

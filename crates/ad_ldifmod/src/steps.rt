@@ -46,7 +46,8 @@ fn parts_in(line: &[u8]) -> Result<PartsIn<'_>, Stop>
 }
 
 fn wanted(alloc: Global, dir: &Dir, verb: Verb, text: &[u8]) -> Result<Change, Stop>
-    ensures { GivesUnless is_memory_stop (λ change. change) result (or_bad kind.Entry (change_of (domain_sid dir.now) verb text.now)) }
+    ensures { GivesUnless is_memory_stop (λ change. change) result
+        (or_bad kind.Entry (change_of (domain_sid dir.now) verb text.now)) }
 {
     match change_of(alloc, verb, text, domain_sid(dir))? {
         Some(change) => Ok(change),
@@ -69,7 +70,8 @@ fn number_named(alloc: Global, dir: &Dir, text: &[u8]) -> Result<Option<u32>, Al
 }
 
 fn named(alloc: Global, dir: &Dir, text: &[u8]) -> Result<u32, Stop>
-    ensures named { GivesUnless is_memory_stop (λ number. number) result (or_bad kind.Name (number_named dir.now text.now)) }
+    ensures named { GivesUnless is_memory_stop (λ number. number) result
+        (or_bad kind.Name (number_named dir.now text.now)) }
     ensures live { IfOk result (λ number. is_live dir.now.objects number ≡ true) }
 {
     match number_named(alloc, dir, text)? {
@@ -91,7 +93,8 @@ fn renewed(
     requires live { is_live dir.now.objects number ≡ true }
     requires from { 1 ≤ id }
     requires to { id < 2 ^ 31 }
-    ensures message { GivesUnless is_memory_stop (λ m. m) result (message_of id name.now (changed_list change.now (lists_in dir.now kept.old number))) }
+    ensures message { GivesUnless is_memory_stop (λ m. m) result
+        (message_of id name.now (changed_list change.now (lists_in dir.now kept.old number))) }
     ensures lists { OnOk result (IsChanged dir.now kept.old kept.new number change.now) }
 {
     change_list(alloc, kept, dir, number, change)?;
@@ -109,8 +112,10 @@ pub(crate) fn message_by(
 ) -> Result<Message, Stop>
     requires from { 1 ≤ id }
     requires to { id < 2 ^ 31 }
-    ensures message { GivesUnless is_memory_stop (λ m. m) result (message_by dir.now (lists_in dir.now kept.old) id line.now) }
-    ensures lists { OnOk result (lists_in dir.now kept.new ≡ after_if (step_of dir.now line.now) (lists_in dir.now kept.old)) }
+    ensures message { GivesUnless is_memory_stop (λ m. m) result
+        (message_by dir.now (lists_in dir.now kept.old) id line.now) }
+    ensures lists { OnOk result (lists_in dir.now kept.new ≡ after_if (step_of dir.now line.now)
+        (lists_in dir.now kept.old)) }
 {
     let parts = parts_in(line)?;
     let change = wanted(alloc, dir, parts.verb, parts.what)?;

@@ -1,6 +1,7 @@
 //! The lines of a whole text.
 
-ghost use Rattle.std.specs.Prelude.{◌≡◌, ◌≤◌, ◌<◌, ◌+◌, ◌++◌, [], ◌∷◌, ℕ, false, Ok, Err, List, length, vec_len, IfOk, IfErr, OnOk, OnErr};
+ghost use Rattle.std.specs.Prelude.{◌≡◌, ◌≤◌, ◌<◌, ◌+◌, ◌++◌, [], ◌∷◌, ℕ, false, Ok, Err, List, length, vec_len};
+ghost use Rattle.std.specs.Prelude.{IfOk, IfErr, OnOk, OnErr};
 ghost use Rattle.ad_bytes.specs.Reading.{GivesUnless};
 ghost use Rattle.ad_ldifmod.specs.Lines.{lines_of};
 ghost use Rattle.ad_ldifmod.specs.Grants.{is_memory, messages_of, AreFrames};
@@ -32,7 +33,8 @@ fn take_line(
     line: &[u8],
 ) -> Result<(), GrantFault>
     requires few { vec_len messages.old < 1048576 }
-    ensures taken { OnOk result (IsTaken dir.now kept.old kept.new messages.old.items messages.new.items n line.now) }
+    ensures taken { OnOk result (IsTaken dir.now kept.old kept.new messages.old.items
+        messages.new.items n line.now) }
     ensures faulty { IfErr result (IsFaulty dir.now kept.old messages.old.items n line.now) }
 {
     if says_nothing(line) {
@@ -56,8 +58,10 @@ fn take_lines(
 ) -> Result<(), GrantFault>
     requires few { length text.now ≤ 1048576 }
     requires none { messages.old.items ≡ [] }
-    ensures taken { OnOk result (from_here dir.now kept.old [] 1 (lines_of text.now) ≡ Ok messages.new.items) }
-    ensures faulty { IfErr result (λ fault. is_memory fault ≡ false → from_here dir.now kept.old [] 1 (lines_of text.now) ≡ Err fault) }
+    ensures taken { OnOk result (from_here dir.now kept.old [] 1 (lines_of text.now)
+        ≡ Ok messages.new.items) }
+    ensures faulty { IfErr result (λ fault. is_memory fault ≡ false → from_here dir.now kept.old []
+        1 (lines_of text.now) ≡ Err fault) }
 {
     let mut rest = text;
     let mut n: u32 = 0;
@@ -87,7 +91,8 @@ fn take_lines(
 pub fn grants(alloc: Global, dir: &Dir, text: &[u8]) -> Result<Vec<Message>, GrantFault>
     requires { length text.now ≤ 1048576 }
     // What the lines give, and which fault it is.
-    ensures given { GivesUnless is_memory (λ messages. messages.items) result (messages_of dir.now text.now) }
+    ensures given { GivesUnless is_memory (λ messages. messages.items) result
+        (messages_of dir.now text.now) }
     // Each message can be written, and a frame has room for it.
     ensures frames { IfOk result (λ messages. AreFrames messages.items) }
 {

@@ -3,7 +3,8 @@
 ghost use Rattle.std.specs.Prelude.{◌≡◌, ◌++◌, List, ℕ, Option, length, IfOk, true};
 ghost use Rattle.std.specs.Option.{option_copied, option_map};
 ghost use Rattle.ad_sddl.specs.Reading.{read_of};
-ghost use Rattle.ad_ldifmod.specs.Changes.{if_read, sole, sole_entry, sole_owner, begins_entry, entry_of, sid_of, is_kind, if_own, own_entry, change_of};
+ghost use Rattle.ad_ldifmod.specs.Changes.{if_read, sole, sole_entry, sole_owner, begins_entry, entry_of, sid_of};
+ghost use Rattle.ad_ldifmod.specs.Changes.{is_kind, if_own, own_entry, change_of};
 
 use crate::change::Change;
 use crate::lines::Verb;
@@ -24,7 +25,8 @@ fn behind(alloc: Global, head: &[u8], text: &[u8]) -> Result<Vec<u8>, AllocError
 
 // The parts of a descriptor that the text encodes, if it encodes any.
 fn read_if(alloc: Global, text: &[u8], domain: Option<&Sid>) -> Result<Option<SdParts>, AllocError>
-    ensures { IfOk result (λ parts. parts ≡ if_read (read_of (option_copied domain.entry) text.now)) }
+    ensures { IfOk result (λ parts. parts
+        ≡ if_read (read_of (option_copied domain.entry) text.now)) }
 {
     match ad_sddl::read(alloc, text, domain) {
         Ok(parts) => Ok(Some(parts)),
@@ -141,7 +143,8 @@ pub(crate) fn change_of(
     text: &[u8],
     domain: Option<&Sid>,
 ) -> Result<Option<Change>, AllocError>
-    ensures { IfOk result (λ change. change ≡ change_of (option_copied domain.entry) verb text.now) }
+    ensures { IfOk result (λ change. change ≡ change_of (option_copied domain.entry) verb
+        text.now) }
 {
     match verb {
         Verb::Grant => match own_entry(alloc, AceKind::Allow, text, domain)? {

@@ -31,10 +31,12 @@ pub both_proper : (xs ys : List Check) → AreProper xs → AreProper ys → Are
 both_proper [] ys first second = second
 both_proper (x ∷ xs) ys first second = (first.0, both_proper xs ys first.1 second)
 
-pub each_proper : {A : Type 0} (f : A → List Check) (xs : List A) → ((x : A) → AreProper (f x)) → AreProper (flat_map f xs)
+pub each_proper : {A : Type 0} (f : A → List Check) (xs : List A) → ((x : A) → AreProper (f x))
+    → AreProper (flat_map f xs)
 each_proper f [] each = tt
 each_proper f (x ∷ xs) each = both_proper (f x) (flat_map f xs) (each x) (each_proper f xs each)
 
-pub met_proper : (dir : Directory) (token : Token) (requirements : List (List Alternative)) → AreProper (all_met dir token requirements)
+pub met_proper : (dir : Directory) (token : Token) (requirements : List (List Alternative))
+    → AreProper (all_met dir token requirements)
 met_proper dir token [] = tt
 met_proper dir token (r ∷ requirements) = (tt, met_proper dir token requirements)

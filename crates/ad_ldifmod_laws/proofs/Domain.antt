@@ -1,5 +1,7 @@
--- The domain's identifier in a sound directory has its ranges: what the root's objectSid shows is written from an identifier.
-use Rattle.std.proofs.Common.{◌≡◌, ℕ, zero, suc, ◌/◌, ◌^◌, ◌<◌, Bool, true, false, List, [], ◌∷◌, ◌++◌, length, Option, Some, None, Ok, Err, codes, refl, sym, ap, subst, ◌∙◌, arith, inl, inr}
+-- The domain's identifier in a sound directory has its ranges: what the root's objectSid shows is written from an
+-- identifier.
+use Rattle.std.proofs.Common.{◌≡◌, ℕ, zero, suc, ◌/◌, ◌^◌, ◌<◌, Bool, true, false, List, [], ◌∷◌, ◌++◌, length}
+use Rattle.std.proofs.Common.{Option, Some, None, Ok, Err, codes, refl, sym, ap, subst, ◌∙◌, arith, inl, inr}
 use Rattle.std.specs.Prelude.{IfSome, find, nat_eq, nat_lt, slice_get, ◌&&◌, ◌==◌, if◌then◌else◌}
 use Rattle.std.specs.Int.{byte_at as byte_of, bytes_high_first, bytes_low_first}
 use Rattle.std.specs.List.{AllByRecursion, flat_map, position}
@@ -71,7 +73,15 @@ words_small (n ∷ ns) = small_both (bytes_low_first 0 4 n) (flat_map (le_bytes 
 
 sid_small : (s : SidValue) → length s.sub_authorities < 256 → IsBytes (sid_bytes s)
 unfolding sid_bytes be_bytes
-sid_small s few = bytes_of (1 ∷ length s.sub_authorities ∷ bytes_high_first 6 s.authority ++ flat_map (le_bytes 4) s.sub_authorities) (omega arith, (few, small_both (bytes_high_first 6 s.authority) (flat_map (le_bytes 4) s.sub_authorities) (high_small 6 s.authority) (words_small s.sub_authorities)))
+sid_small s few = bytes_of (1 ∷ length s.sub_authorities ∷ bytes_high_first 6 s.authority
+    ++ flat_map (le_bytes 4) s.sub_authorities) (
+      omega arith,
+      (
+        few,
+        small_both (bytes_high_first 6 s.authority) (flat_map (le_bytes 4) s.sub_authorities)
+            (high_small 6 s.authority) (words_small s.sub_authorities),
+      ),
+    )
 
 -- ---- an identifier that is read from what is written of it
 
@@ -80,16 +90,19 @@ unfolding sid_at sid_bytes header_at byte_at
 few_read s t rest e =
     from_bind (header_at (sid_bytes s)) _ (t, rest) e (λ count e1 e2.
     from_need (nat_lt 0 (length s.sub_authorities) && nat_lt (length s.sub_authorities) 16) _ _ count e1 (λ within e3.
-    ltb-true (length s.sub_authorities) 16 (and_parts (nat_lt 0 (length s.sub_authorities)) (nat_lt (length s.sub_authorities) 16) within).1))
+    ltb-true (length s.sub_authorities) 16
+    (and_parts (nat_lt 0 (length s.sub_authorities)) (nat_lt (length s.sub_authorities) 16) within).1))
 
 read_is : (s t : SidValue) (rest : List ℕ) → sid_at (sid_bytes s) ≡ Ok (t, rest) → IsSid t
-read_is s t rest e = (sid_reader.takes (sid_bytes s) t rest (sid_small s (omega (arith, few_read s t rest e))) e).spelled.0
+read_is s t rest e = (sid_reader.takes (sid_bytes s) t rest (sid_small s (omega (arith, few_read s t rest e)))
+    e).spelled.0
 
 whole_is : (r : Reading SidValue SidFault) (s : SidValue) → whole_sid r ≡ Some s → (rest : List ℕ) × (r ≡ Ok (s, rest))
 whole_is (Ok x) s e = let t = cond_some (length x.1 == 0) x.0 s e in (x.1, ap (λ (v : SidValue). Ok (v, x.1)) t.1)
 whole_is (Err f) s e = absurd (none-some s e)
 
-either_is : (P : Type 0) (a b : Option SidValue) (s : SidValue) → option_or a b ≡ Some s → (a ≡ Some s → P) → (b ≡ Some s → P) → P
+either_is : (P : Type 0) (a b : Option SidValue) (s : SidValue) → option_or a b ≡ Some s → (a ≡ Some s → P)
+    → (b ≡ Some s → P) → P
 either_is P (Some x) b s e k l = k e
 either_is P None b s e k l = l e
 
@@ -105,7 +118,8 @@ given : {E : Type 0} (fault : E) (o : Option Value) (v : Value) → ok_or o faul
 given fault None v p = absurd cc
 given fault (Some u) v p = ap (λ (x : Value). Some x) (from_ok u v p)
 
-from_long : {E P : Type 0} (b : Bool) (long fault : E) (o : Option Value) (v : Value) → (if b then Err long else ok_or o fault) ≡ Ok v → (o ≡ Some v → P) → P
+from_long : {E P : Type 0} (b : Bool) (long fault : E) (o : Option Value) (v : Value)
+    → (if b then Err long else ok_or o fault) ≡ Ok v → (o ≡ Some v → P) → P
 from_long true long fault o v p k = absurd cc
 from_long false long fault o v p k = k (given fault o v p)
 
@@ -113,12 +127,15 @@ value_is : (v : Value) (s : SidValue) → normal_or_fault syntax.Sid v.shown ≡
 unfolding normal_of
 value_is v s normal e =
     from_long (nat_lt 1048576 (length v.shown)) _ _ (normal_of syntax.Sid v.shown) v normal (λ some.
-    shown_is s v.shown (ap (λ (u : Value). u.shown) (sym (same_Some (as_shown (sid_bytes s)) v (ap (option_map (λ t. as_shown (sid_bytes t))) (sym e) ∙ some)))) e)
+    shown_is s v.shown (ap (λ (u : Value). u.shown)
+    (sym (same_Some (as_shown (sid_bytes s)) v (ap (option_map (λ t. as_shown (sid_bytes t))) (sym e) ∙ some))))
+    e)
 
 -- ---- the root's objectSid
 
 -- what stands at the first place where a test holds
-position_at : {A : Type 0} (p : A → Bool) (xs : List A) (k : ℕ) → position p xs ≡ Some k → (x : A) × (slice_get xs k ≡ Some x) × (p x ≡ true)
+position_at : {A : Type 0} (p : A → Bool) (xs : List A) (k : ℕ) → position p xs ≡ Some k → (x : A)
+    × (slice_get xs k ≡ Some x) × (p x ≡ true)
 position_at p [] k e = absurd (none-some k e)
 position_at p (x ∷ xs) k e = elim (cases_Bool (p x)) [
   | inl here ↦
@@ -142,17 +159,20 @@ apart name first second =
 abbrev attr_id : ℕ → AttrId
 attr_id n = record { 0 = n }
 
-not_password : (schema : List SchemaRecord) (place : ℕ) → place_of (names_of Attribute schema) (codes "objectSid") ≡ Some place → is_named schema (codes "unicodePwd") place ≡ false
+not_password : (schema : List SchemaRecord) (place : ℕ) → place_of (names_of Attribute schema) (codes "objectSid")
+    ≡ Some place → is_named schema (codes "unicodePwd") place ≡ false
 unfolding attr_named place_of
 not_password schema place is = by (place_of (names_of Attribute schema) (codes "unicodePwd")) refl
   where
     by : (o : Option ℕ) → place_of (names_of Attribute schema) (codes "unicodePwd") ≡ o
-        → option_map_or (λ p. p == place) (option_map (λ (id : AttrId). id.0) (option_map (λ n. attr_id n) o)) false ≡ false
+        → option_map_or (λ p. p == place) (option_map (λ (id : AttrId). id.0) (option_map (λ n. attr_id n) o)) false
+        ≡ false
     by None e = refl
     by (Some other) e = elim (cases_Bool (nat_eq other place)) [
       | inl same ↦
           (let here = position_at (λ x. same_name x (codes "objectSid")) (names_of Attribute schema) place is in
-          let there = position_at (λ x. same_name x (codes "unicodePwd")) (names_of Attribute schema) place (e ∙ ap (λ (n : ℕ). Some n) (eqb-true other place same)) in
+          let there = position_at (λ x. same_name x (codes "unicodePwd")) (names_of Attribute schema) place
+          (e ∙ ap (λ (n : ℕ). Some n) (eqb-true other place same)) in
           let name : here.0 ≡ there.0 = same_Some here.0 there.0 (sym here.1 ∙ there.1) in
           absurd (apart there.0 (subst (λ (x : List ℕ). same_name x (codes "objectSid") ≡ true) name here.2) there.2))
       | inr differ ↦ differ
@@ -162,10 +182,12 @@ sids_is : (s : Syntax) → is_of_sids s ≡ true → s ≡ syntax.Sid
 sids_is syntax.Sid e = refl
 sids_is s e = absurd (false≢true e)
 
-counted_is : (schema : List SchemaRecord) (place : ℕ) (o : Option AttrInfo) → slice_get (attrs_of schema) place ≡ o → option_map_or (counts rule.ObjectSid) o false ≡ true → syntax_at schema place ≡ syntax.Sid
+counted_is : (schema : List SchemaRecord) (place : ℕ) (o : Option AttrInfo) → slice_get (attrs_of schema) place ≡ o
+    → option_map_or (counts rule.ObjectSid) o false ≡ true → syntax_at schema place ≡ syntax.Sid
 unfolding counts syntax_at
 counted_is schema place None at e = absurd (false≢true e)
-counted_is schema place (Some info) at e = ap (λ (i : Option AttrInfo). option_map_or (λ info. info.syntax) i syntax.Other) at ∙ sids_is info.syntax e
+counted_is schema place (Some info) at e = ap
+    (λ (i : Option AttrInfo). option_map_or (λ info. info.syntax) i syntax.Other) at ∙ sids_is info.syntax e
 
 record IsIdentifying (schema : List SchemaRecord) (place : ℕ) : Type 0 where
   named : place_of (names_of Attribute schema) (codes "objectSid") ≡ Some place
@@ -175,7 +197,8 @@ place_is : (schema : List SchemaRecord) (place : ℕ) → object_sid schema ≡ 
 unfolding rule_place attr_of_rule attr_named if_counts
 place_is schema place e =
     map_some _ (attr_of_rule schema rule.ObjectSid) place e (λ (id : AttrId) e1 same.
-    option_and_then_some (if_counts schema rule.ObjectSid) (attr_named schema (codes "objectSid")) id e1 (λ (x : AttrId) e2 e3.
+    option_and_then_some (if_counts schema rule.ObjectSid) (attr_named schema (codes "objectSid")) id e1
+    (λ (x : AttrId) e2 e3.
     let test = cond_some (option_map_or (counts rule.ObjectSid) (slice_get (attrs_of schema) x.0) false) x id e3 in
     let at : x.0 ≡ place = ap (λ (i : AttrId). i.0) test.1 ∙ same in
     map_some _ (place_of (names_of Attribute schema) (codes "objectSid")) x e2 (λ (n : ℕ) e4 same_x.
@@ -186,29 +209,35 @@ place_is schema place e =
 
 -- ---- a first value
 
-find_is : {A : Type 0} (P : A → Type 0) (test : A → Bool) (xs : List A) (x : A) → AllByRecursion P xs → find test xs ≡ Some x → P x × (test x ≡ true)
+find_is : {A : Type 0} (P : A → Type 0) (test : A → Bool) (xs : List A) (x : A) → AllByRecursion P xs → find test xs
+    ≡ Some x → P x × (test x ≡ true)
 find_is P test [] x each e = absurd (none-some x e)
 find_is P test (y ∷ xs) x each e = elim (cases_Bool (test y)) [
   | inl here ↦ subst (λ z. P z × (test z ≡ true)) (same_Some y x (rw here at e)) (each.0, here)
   | inr other ↦ find_is P test xs x each.1 (rw other at e)
 ]
 
-first_is : (schema : List SchemaRecord) (attr : ℕ) (values : List Stored) (v : Value) → AllByRecursion (IsStored schema attr) values → first_plain values ≡ Some v → IsPlainValue schema attr v
+first_is : (schema : List SchemaRecord) (attr : ℕ) (values : List Stored) (v : Value)
+    → AllByRecursion (IsStored schema attr) values → first_plain values ≡ Some v → IsPlainValue schema attr v
 first_is schema attr [] v each e = absurd (none-some v e)
 first_is schema attr (plain u ∷ others) v each e = subst (IsPlainValue schema attr) (same_Some u v e) each.0.1
 first_is schema attr (link n ∷ others) v each e = absurd (none-some v e)
 
-stored_is : (schema : List SchemaRecord) (o : Object) (place : ℕ) (v : Value) → IsContent schema o → first_plain (stored_in o.values place) ≡ Some v → IsPlainValue schema place v
+stored_is : (schema : List SchemaRecord) (o : Object) (place : ℕ) (v : Value) → IsContent schema o
+    → first_plain (stored_in o.values place) ≡ Some v → IsPlainValue schema place v
 unfolding stored_in
 stored_is schema o place v content e = by (find (is_held place) o.values) refl e
   where
-    by : (f : Option Held) → find (is_held place) o.values ≡ f → first_plain (option_map_or (λ held. held.values) f []) ≡ Some v → IsPlainValue schema place v
+    by : (f : Option Held) → find (is_held place) o.values ≡ f
+        → first_plain (option_map_or (λ held. held.values) f []) ≡ Some v → IsPlainValue schema place v
     by None at none = absurd (none-some v none)
     by (Some held) at first =
         let is = find_is (IsHeld schema) (is_held place) o.values held content.each at in
-        subst (λ (n : ℕ). IsPlainValue schema n v) (eqb-true held.attr place is.1) (first_is schema held.attr held.values v is.0.each first)
+        subst (λ (n : ℕ). IsPlainValue schema n v) (eqb-true held.attr place is.1)
+        (first_is schema held.attr held.values v is.0.each first)
 
-plain_is : (schema : List SchemaRecord) (place : ℕ) (v : Value) → IsIdentifying schema place → IsPlainValue schema place v → normal_or_fault syntax.Sid v.shown ≡ Ok v
+plain_is : (schema : List SchemaRecord) (place : ℕ) (v : Value) → IsIdentifying schema place
+    → IsPlainValue schema place v → normal_or_fault syntax.Sid v.shown ≡ Ok v
 plain_is schema place v is value = rw (not_password schema place is.named, is.syntax_is) at value
 
 pub domain_is : (dir : Directory) → IsSound dir → IfSome (domain_sid dir) IsSid
@@ -222,6 +251,8 @@ domain_is dir sound = by (domain_sid dir) refl
     by None e = tt
     by (Some s) e =
         option_and_then_some (λ (v : Value). sid_of v.shown) (first_of_attr (object_sid dir.schema) o) s e (λ v e1 e2.
-        option_and_then_some (λ (place : ℕ). first_plain (stored_in o.values place)) (object_sid dir.schema) v e1 (λ place e3 e4.
+        option_and_then_some (λ (place : ℕ). first_plain (stored_in o.values place)) (object_sid dir.schema) v e1
+        (λ place e3 e4.
         let content = (sound.each root o (of-live dir.objects root sound.frame.root_live)).content in
-        value_is v s (plain_is dir.schema place v (place_is dir.schema place e3) (stored_is dir.schema o place v content e4)) e2))
+        value_is v s (plain_is dir.schema place v (place_is dir.schema place e3)
+        (stored_is dir.schema o place v content e4)) e2))

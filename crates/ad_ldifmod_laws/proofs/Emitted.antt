@@ -11,7 +11,8 @@ use Rattle.ad_ldifmod.specs.Messages.{max_message}
 use Rattle.ad_ldifmod_laws.specs.Serving.{message_frame}
 
 pub frame_spelled : (message : Message) → IsOfFrame message
-    → SpellsFrame (message_frame message) (2 ∷ 0 ∷ 0 ∷ be_bytes 4 (length (message_bytes (message_seen message))) ++ message_bytes (message_seen message))
+    → SpellsFrame (message_frame message) (2 ∷ 0 ∷ 0 ∷ be_bytes 4 (length (message_bytes (message_seen message)))
+    ++ message_bytes (message_seen message))
 unfolding max_body max_connections max_message be_bytes
 frame_spelled message is =
     let body : List ℕ = message_bytes (message_seen message) in
@@ -30,7 +31,14 @@ frame_spelled message is =
           behind = be_bytes 4 (length body) ++ body;
           parts = refl;
           spelled = (omega arith, refl);
-          follows = record { front = be_bytes 4 (length body); behind = body; parts = refl; spelled = (omega (arith, is.fits), refl); follows = (refl, refl) };
+          follows = record {
+            front = be_bytes 4 (length body);
+            behind = body;
+            parts = refl;
+            spelled
+                = (omega (arith, is.fits), refl);
+            follows = (refl, refl);
+          };
         };
       };
     }

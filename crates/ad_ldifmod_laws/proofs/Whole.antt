@@ -32,11 +32,13 @@ begins dir sound ranges = record {
   own = λ n. explicit_own (sd_at dir.objects n).dacl.entries (ranges n);
 }
 
-pub given_sound : (dir : Directory) (token : Token) (text : List ℕ) (messages : List Message) → IsSound dir → HasRanges dir → length text ≤ 1048576 → messages_of dir text ≡ Ok messages → Succeed dir token messages
+pub given_sound : (dir : Directory) (token : Token) (text : List ℕ) (messages : List Message) → IsSound dir
+    → HasRanges dir → length text ≤ 1048576 → messages_of dir text ≡ Ok messages → Succeed dir token messages
     → GaveLists dir (lines_of text) (after dir (frames_behind token messages))
 unfolding messages_of after_from answer
 given_sound dir token text messages sound ranges few given out =
-    let whole : Follows dir dir (after_from dir (answer dir no_tokens (token_frame token)).tokens (map message_frame messages)) (lines_of text) (stored_list dir) =
+    let whole : Follows dir dir (after_from dir (answer dir no_tokens (token_frame token)).tokens
+    (map message_frame messages)) (lines_of text) (stored_list dir) =
     follow dir dir (answer dir no_tokens (token_frame token)).tokens (stored_list dir) 1 1 (lines_of text) messages
     (domain_is dir sound) (begins dir sound ranges) given (framed dir text messages few given) out in
     record {
@@ -46,6 +48,8 @@ given_sound dir token text messages sound ranges few given out =
       unnamed = whole.unnamed;
     }
 
-pub given_stored : (held : Images) (dir : Directory) (token : Token) (text : List ℕ) (messages : List Message) → IsStoreOf held dir → length text ≤ 1048576 → messages_of dir text ≡ Ok messages → Succeed dir token messages
+pub given_stored : (held : Images) (dir : Directory) (token : Token) (text : List ℕ) (messages : List Message)
+    → IsStoreOf held dir → length text ≤ 1048576 → messages_of dir text ≡ Ok messages → Succeed dir token messages
     → GaveLists dir (lines_of text) (after dir (frames_behind token messages))
-given_stored held dir token text messages store = given_sound dir token text messages store.sound (store_ranges held dir store)
+given_stored held dir token text messages store = given_sound dir token text messages store.sound
+    (store_ranges held dir store)

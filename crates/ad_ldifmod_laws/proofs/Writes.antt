@@ -25,7 +25,8 @@ explicit_whole dir o = elim (cases_Bool (nat_eq o.number root)) [
       ∙ explicit_part-whole (sd_at dir.objects o.parent) o.sd (guid_at dir.schema o.class)
 ]
 
-explicit_with : (list : AceList) (sd : Sd) → explicit_part (with_dacl list sd) ≡ with_dacl (explicit_list list) (explicit_part sd)
+explicit_with : (list : AceList) (sd : Sd) → explicit_part (with_dacl list sd) ≡ with_dacl (explicit_list list)
+    (explicit_part sd)
 unfolding explicit_part
 explicit_with list sd = refl
 
@@ -33,7 +34,8 @@ explicit_with list sd = refl
 pub record IsGiven (dir now : Directory) (number : ℕ) (list : AceList) : Type 0 where
   pub like : IsLike dir now
   pub rise : Rise now.objects
-  pub here : explicit_part (sd_at now.objects number) ≡ with_dacl (explicit_list list) (explicit_part (sd_at dir.objects number))
+  pub here : explicit_part (sd_at now.objects number) ≡ with_dacl (explicit_list list)
+      (explicit_part (sd_at dir.objects number))
   pub others : (n : ℕ) → (number ≡ n → ⊥) → object_at now.objects n ≡ object_at dir.objects n
 
 pub is_given : (dir : Directory) (number : ℕ) (list : AceList) → Rise dir.objects → is_live dir.objects number ≡ true
@@ -44,9 +46,11 @@ is_given dir number list rise live =
     let given : Object = with_list list o in
     let p : Object = settled dir given in
     let same : p.number ≡ number = at_number dir.objects number live in
-    let found : object_of dir.objects p.number ≡ Some o = ap (object_of dir.objects) same ∙ of-live dir.objects number live in
+    let found : object_of dir.objects p.number ≡ Some o = ap (object_of dir.objects) same ∙ of-live dir.objects number
+    live in
     let above : 0 < p.number = subst (λ (n : ℕ). 0 < n) (sym same) (live_above 0 dir.objects number rise live) in
-    let at_number_of : object_at (put p dir.objects) number ≡ p = ap (object_at (put p dir.objects)) (sym same) ∙ at-put_same p dir.objects in
+    let at_number_of : object_at (put p dir.objects) number ≡ p = ap (object_at (put p dir.objects)) (sym same)
+    ∙ at-put_same p dir.objects in
     record {
       like = record { schema = refl; meta = refl; rest = rest_put 0 p o dir.objects rise found refl };
       rise = rise_put 0 p dir.objects rise above;

@@ -32,7 +32,8 @@ with_step number (Err fault) steps = steps
 unfoldable pub own_steps : Directory → ℕ → List (List ℕ) → List Step
 own_steps dir number [] = []
 own_steps dir number (line ∷ lines) =
-    if says_nothing line then own_steps dir number lines else with_step number (step_of dir line) (own_steps dir number lines)
+    if says_nothing line then own_steps dir number lines else with_step number (step_of dir line)
+    (own_steps dir number lines)
 
 -- a list after these changes, one after the other
 unfoldable pub after_steps : List Step → AceList → AceList
@@ -41,11 +42,13 @@ after_steps (step ∷ steps) list = after_steps steps (changed_list step.change 
 
 -- ---- what lines gave
 
--- From the first directory to the second: each object has the explicit list that it has after the last line; nothing else of what is
--- explicit in its descriptor is another, nor its place, its class, its name or a value; and an object that no line names is as it was.
+-- From the first directory to the second: each object has the explicit list that it has after the last line; nothing
+-- else of what is explicit in its descriptor is another, nor its place, its class, its name or a value; and an object
+-- that no line names is as it was.
 pub record GaveLists (dir : Directory) (lines : List (List ℕ)) (now : Directory) : Type 0 where
   pub lists : (number : ℕ) → stored_list now number ≡ after_lines dir lines (stored_list dir) number
   pub explicit : (number : ℕ) → explicit_part (sd_at now.objects number)
       ≡ with_dacl (after_lines dir lines (stored_list dir) number) (explicit_part (sd_at dir.objects number))
   pub rest : map without_sd now.objects ≡ map without_sd dir.objects
-  pub unnamed : (number : ℕ) → is_named dir lines number ≡ false → object_at now.objects number ≡ object_at dir.objects number
+  pub unnamed : (number : ℕ) → is_named dir lines number ≡ false → object_at now.objects number
+      ≡ object_at dir.objects number

@@ -1,4 +1,5 @@
--- What is served: the frame of a token and those of messages, all of connection 0; and when each message is answered 0.
+-- What is served: the frame of a token and those of messages, all of connection 0; and when each message is answered
+-- 0.
 use Rattle.std.specs.Prelude.{◌≡◌, Option, List, [], ◌∷◌, ℕ, map}
 use Rattle.ad_ids.specs.declared.token.Token.{Token}
 use Rattle.ad_frames.specs.declared.frame.Frame.{Frame}
@@ -33,9 +34,11 @@ abbrev pub SucceedFrom : Directory → List (Option Token) → List Message → 
 SucceedFrom dir tokens [] = Unit {0}
 SucceedFrom dir tokens (message ∷ messages) =
     ((answer dir tokens (message_frame message)).output ≡ success_of message)
-    × SucceedFrom (answer dir tokens (message_frame message)).directory (answer dir tokens (message_frame message)).tokens messages
+    × SucceedFrom (answer dir tokens (message_frame message)).directory
+    (answer dir tokens (message_frame message)).tokens messages
 
 -- The same from the start on, after the token.
 abbrev pub Succeed : Directory → Token → List Message → Type 0
 Succeed dir token messages =
-    SucceedFrom (answer dir no_tokens (token_frame token)).directory (answer dir no_tokens (token_frame token)).tokens messages
+    SucceedFrom (answer dir no_tokens (token_frame token)).directory (answer dir no_tokens (token_frame token)).tokens
+    messages

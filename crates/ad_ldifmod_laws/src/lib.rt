@@ -1,5 +1,5 @@
-//! What the messages of dsacls-like lines do, once each is served: each object that a line names has the list that the lines say. Laws
-//! alone, no code.
+//! What the messages of dsacls-like lines do, once each is served: each object that a line names has the list that
+//! the lines say. Laws alone, no code.
 //!
 //! # Example
 //!

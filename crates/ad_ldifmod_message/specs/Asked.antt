@@ -37,7 +37,8 @@ control_asked c = record { oid = c.oid; critical = c.critical; value = None }
 abbrev pub op_asked : List ℕ → Op → OpValue
 op_asked dn (Adds fields) = AddOf (record { dn = dn; attrs = grouped fields })
 op_asked dn Deletes = DeleteOf dn
-op_asked dn (Renames rdn delete_old superior) = RenameOf (record { dn = dn; rdn = rdn; keep = not delete_old; superior = superior })
+op_asked dn (Renames rdn delete_old superior)
+    = RenameOf (record { dn = dn; rdn = rdn; keep = not delete_old; superior = superior })
 op_asked dn (Modifies items) = ModifyOf (record { dn = dn; items = map item_asked items })
 
 -- the message with this number

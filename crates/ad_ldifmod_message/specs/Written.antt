@@ -29,7 +29,8 @@ abbrev pub modify_body : List ℕ → List Item → List ℕ
 modify_body dn items = element_bytes 4 dn ++ element_bytes 48 (flat_map item_bytes items)
 
 abbrev pub rename_body : Rename → List ℕ
-rename_body r = element_bytes 4 r.dn ++ (element_bytes 4 r.rdn ++ (truth_bytes (not r.keep) ++ option_bytes 128 r.superior))
+rename_body r = element_bytes 4 r.dn ++ (element_bytes 4 r.rdn
+    ++ (truth_bytes (not r.keep) ++ option_bytes 128 r.superior))
 
 -- A new object is spelled as an entry is. Other requests aren't written.
 unfoldable pub op_bytes : OpValue → List ℕ
@@ -51,7 +52,8 @@ IsChange _ = ⊥
 
 -- A control: its identifier, whether it is critical, which is left out where it isn't, and its value, if it has one.
 unfoldable pub control_bytes : Control → List ℕ
-control_bytes c = element_bytes 48 (element_bytes 4 c.oid ++ ((if c.critical then truth_bytes c.critical else []) ++ option_bytes 4 c.value))
+control_bytes c = element_bytes 48 (element_bytes 4 c.oid
+    ++ ((if c.critical then truth_bytes c.critical else []) ++ option_bytes 4 c.value))
 
 -- the controls, which are left out where there is none
 unfoldable pub controls_bytes : List Control → List ℕ

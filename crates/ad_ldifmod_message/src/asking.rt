@@ -72,7 +72,13 @@ fn rename(
     delete_old: bool,
     above: &Option<Bytes>,
 ) -> Result<Rename, AllocError>
-    ensures { IfOk result (λ r. r ≡ record { dn = dn; rdn = rdn.now; keep = not delete_old; superior = above.now }) }
+    ensures { IfOk result (λ r. r ≡ record {
+      dn = dn;
+      rdn = rdn.now;
+      keep = not delete_old;
+      superior
+          = above.now;
+    }) }
 {
     let superior = superior(alloc, above)?;
     Ok(Rename {

@@ -11,6 +11,8 @@ ghost use Rattle.ad_ldifmod_message.specs.Written.{message_bytes, IsWritable};
 /// What a change record asks can be written, with a number from 1 to 2^31 - 1, where its items are those of a text;
 /// and the bytes of such a message encode it.
 pub fn what_a_change_asks()
-    ensures writable { (c : Change) (id : ℕ) → HasItemOps c → 0 < id → id < 2147483648 → IsWritable (message_asked c id) }
-    ensures spelled { (m : MessageValue) → IsWritable m → length (message_bytes m) < 2 ^ 32 → SpellsMessage m (message_bytes m) }
+    ensures writable { (c : Change) (id : ℕ) → HasItemOps c → 0 < id → id < 2147483648
+        → IsWritable (message_asked c id) }
+    ensures spelled { (m : MessageValue) → IsWritable m → length (message_bytes m) < 2 ^ 32
+        → SpellsMessage m (message_bytes m) }
 {}

@@ -1,4 +1,5 @@
-//! The bytes of a change's message, each element built from the inside out, so that its length is known when it is put.
+//! The bytes of a change's message, each element built from the inside out, so that its length is known when it is
+//! put.
 
 ghost use Rattle.std.specs.Prelude.{◌≡◌, ◌++◌, not, length, ◌<◌, ◌^◌, if◌then◌else◌, [], ◌∷◌, OnOk, IfOk};
 ghost use Rattle.std.specs.List.{flat_map};
@@ -7,7 +8,8 @@ ghost use Rattle.ad_ldap.specs.Reply.{values_bytes, attr_bytes, attrs_bytes, ent
 ghost use Rattle.ad_ldap.specs.MessageValue.{op_seen, message_seen};
 ghost use Rattle.ad_ldap.specs.Messages.{SpellsMessage};
 ghost use Rattle.ad_ldifmod_message.specs.Written.{truth_bytes, option_bytes, item_bytes, modify_body, rename_body};
-ghost use Rattle.ad_ldifmod_message.specs.Written.{op_bytes, IsChange, control_bytes, controls_bytes, message_bytes, IsWritable};
+ghost use Rattle.ad_ldifmod_message.specs.Written.{op_bytes, IsChange, control_bytes, controls_bytes, message_bytes};
+ghost use Rattle.ad_ldifmod_message.specs.Written.{IsWritable};
 
 use ad_ber::{put, put_number};
 use ad_bytes::{Bytes, List};
@@ -181,7 +183,8 @@ fn put_op(alloc: Global, into: &mut Vec<u8>, op: &Op) -> Result<(), AllocError>
 
 // Whether a control is critical, which is left out where it isn't.
 fn put_critical(into: &mut Vec<u8>, critical: bool) -> Result<(), AllocError>
-    ensures { OnOk result (into.new.items ≡ into.old.items ++ (if critical then truth_bytes critical else [])) }
+    ensures { OnOk result (into.new.items ≡ into.old.items
+        ++ (if critical then truth_bytes critical else [])) }
 {
     if critical {
         return put_truth(into, true);
@@ -253,7 +256,8 @@ pub fn write_message(alloc: Global, message: &Message) -> Result<Vec<u8>, AllocE
     requires { IsWritable (message_seen message.now) }
     ensures bytes { IfOk result (λ bytes. bytes.items ≡ message_bytes (message_seen message.now)) }
     // They encode the message, so `ad_ldap::read_message` reads it from them.
-    ensures spelled { IfOk result (λ bytes. length bytes.items < 2 ^ 32 → SpellsMessage (message_seen message.now) bytes.items) }
+    ensures spelled { IfOk result (λ bytes. length bytes.items < 2 ^ 32
+        → SpellsMessage (message_seen message.now) bytes.items) }
 {
     let bytes = whole(alloc, message)?;
     Ok(bytes)

@@ -1,5 +1,6 @@
 -- Values that are kept by their attributes, in order.
-use Rattle.std.proofs.Common.{◌≡◌, ℕ, ◌<◌, nat_lt, true, false, inl, inr, None, List, [], ◌∷◌, ◌++◌, map, refl, sym, ap, ◌∙◌, arith}
+use Rattle.std.proofs.Common.{◌≡◌, ℕ, ◌<◌, nat_lt, true, false, inl, inr, None, List, [], ◌∷◌, ◌++◌, map, refl, sym}
+use Rattle.std.proofs.Common.{ap, ◌∙◌, arith}
 use Rattle.std.specs.Prelude.{◌==◌, unwrap_or}
 use Rattle.std.specs.declared.cmp.Ordering.TheVariants.{Less, Equal, Greater}
 use Rattle.std.specs.Ordering.{nat_cmp}
@@ -23,7 +24,8 @@ Entries = List (ℕ × List StoredIn)
 abbrev pub more : ℕ → Entries → StoredIn → List StoredIn
 more attr es v = unwrap_or (lookup (is_at (nat_cmp attr)) es) [] ++ v ∷ []
 
-none_later : (attr least : ℕ) (es : Entries) → nat_cmp attr least ≡ Less → AllByRecursion (λ (k : ℕ). nat_cmp least k ≡ Less) (keys_of es)
+none_later : (attr least : ℕ) (es : Entries) → nat_cmp attr least ≡ Less
+    → AllByRecursion (λ (k : ℕ). nat_cmp least k ≡ Less) (keys_of es)
     → lookup (is_at (nat_cmp attr)) es ≡ None
 none_later attr least [] less all = refl
 none_later attr least (e ∷ es) less all =
@@ -32,12 +34,14 @@ none_later attr least (e ∷ es) less all =
 
 itself : (n : ℕ) → nat_cmp n n ≡ Equal
 itself n =
-    let not_less : nat_lt n n ≡ false = false_from_ne_true (nat_lt n n) (λ e. let lt : n < n = ltb-true n n e in omega (arith, lt)) in
+    let not_less : nat_lt n n ≡ false = false_from_ne_true (nat_lt n n)
+    (λ e. let lt : n < n = ltb-true n n e in omega (arith, lt)) in
     let same : (n == n) ≡ true = eq-eqb n n refl in
     rw (not_less, same) refl
 
 pub put_by_attr : (es : Entries) (attr : ℕ) (v : StoredIn) → IsStrictlySortedBy nat_cmp (keys_of es)
-    → by_attr (insert_entry nat_cmp (insert_entry nat_cmp es attr []) attr (more attr es v)) ≡ with_stored attr (stored_seen v) (by_attr es)
+    → by_attr (insert_entry nat_cmp (insert_entry nat_cmp es attr []) attr (more attr es v))
+    ≡ with_stored attr (stored_seen v) (by_attr es)
 unfolding IsStrictlySortedBy with_stored
 put_by_attr [] attr v sorted = rw (itself attr) refl
 put_by_attr (e ∷ es) attr v sorted = elim (cases_Bool (nat_lt attr e.0)) [
@@ -57,8 +61,10 @@ put_by_attr (e ∷ es) attr v sorted = elim (cases_Bool (nat_lt attr e.0)) [
         ∙ ap (λ (n : ℕ). record { attr = n; values = map stored_seen e.1 ++ stored_seen v ∷ [] } ∷ by_attr es) (sym is))
     | inr other ↦
         let greater : nat_cmp attr e.0 ≡ Greater = rw (not_before, other) refl in
-        let differ : (e.0 == attr) ≡ false = ne_eqb e.0 attr (λ q. let same : true ≡ false = sym (eq-eqb attr e.0 (sym q)) ∙ other in absurd cc) in
+        let differ : (e.0 == attr) ≡ false
+        = ne_eqb e.0 attr (λ q. let same : true ≡ false = sym (eq-eqb attr e.0 (sym q)) ∙ other in absurd cc) in
         rw (greater, greater, differ, not_before) (
-        ap (λ (hs : List Held). record { attr = e.0; values = map stored_seen e.1 } ∷ hs) (put_by_attr es attr v sorted.1))
+        ap (λ (hs : List Held). record { attr = e.0; values = map stored_seen e.1 } ∷ hs)
+        (put_by_attr es attr v sorted.1))
   ]
 ]

@@ -33,7 +33,8 @@ pub record IsObjectOf (schema : List SchemaRecord) (drafts : List Draft) (n : �
 -- the objects of these drafts, whose first has this number
 abbrev pub AreObjectsOf : List SchemaRecord → List Draft → ℕ → List Draft → List Object → Type 0
 AreObjectsOf schema drafts n [] [] = Unit {0}
-AreObjectsOf schema drafts n (d ∷ ds) (o ∷ os) = IsObjectOf schema drafts n d o × AreObjectsOf schema drafts (n + 1) ds os
+AreObjectsOf schema drafts n (d ∷ ds) (o ∷ os) = IsObjectOf schema drafts n d o × AreObjectsOf schema drafts (n + 1)
+    ds os
 AreObjectsOf schema drafts n _ _ = ⊥
 
 object_is : (schema : List SchemaRecord) (drafts : List Draft) (domain : Option SidValue) (n : ℕ) (d : Draft)
@@ -49,13 +50,15 @@ object_is schema drafts domain n d o e =
       values = a.0;
       sd = own_sd schema domain d.class d.sd;
     } ≡ o = cc in
-    subst (IsObjectOf schema drafts n d) same (record { number = refl; parent = refl; class = refl; name = refl; values = a.1 })
+    subst (IsObjectOf schema drafts n d) same
+    (record { number = refl; parent = refl; class = refl; name = refl; values = a.1 })
 
 objects_are : (schema : List SchemaRecord) (drafts : List Draft) (domain : Option SidValue)
     (before end : List Object) (ds : List Draft) → through (with_object schema drafts domain) before ds ≡ Ok end
     → (rest : List Object) × (end ≡ before ++ rest) × AreObjectsOf schema drafts (length before + 1) ds rest
 unfolding with_object
-objects_are schema drafts domain before end [] e = ([], sym (none_through (with_object schema drafts domain) before end e) ∙ sym (append-nil before), tt)
+objects_are schema drafts domain before end [] e
+    = ([], sym (none_through (with_object schema drafts domain) before end e) ∙ sym (append-nil before), tt)
 objects_are schema drafts domain before end (d ∷ ds) e =
     let first = first_through (with_object schema drafts domain) before end d ds e in
     let a = bind_ok (object_of schema drafts domain (length before + 1) d) _ first.0 first.1 in
@@ -64,7 +67,8 @@ objects_are schema drafts domain before end (d ∷ ds) e =
     let more = objects_are schema drafts domain (before ++ o ∷ []) end ds
     (subst (λ (os : List Object). through (with_object schema drafts domain) os ds ≡ Ok end)
     (sym same) first.2) in
-    let is : IsObjectOf schema drafts (length before + 1) d o = object_is schema drafts domain (length before + 1) d o a.1 in
+    let is : IsObjectOf schema drafts (length before + 1) d o = object_is schema drafts domain (length before + 1) d o
+    a.1 in
     let behind : AreObjectsOf schema drafts (length before + 1 + 1) ds more.0 = subst
     (λ (n : ℕ). AreObjectsOf schema drafts (n + 1) ds more.0) (length_more before o) more.2 in
     (o ∷ more.0, more.1 ∙ append_assoc before (o ∷ []) more.0, (is, behind))
@@ -96,7 +100,8 @@ they_rise schema drafts k n (d ∷ ds) (o ∷ os) lt are =
     (omega (arith, lt, is), they_rise schema drafts o.number (n + 1) ds os more are.1)
 
 -- the draft of an object that is found
-pub record IsMadeAt (schema : List SchemaRecord) (drafts : List Draft) (first : ℕ) (ds : List Draft) (n : ℕ) (o : Object) : Type 0 where
+pub record IsMadeAt (schema : List SchemaRecord) (drafts : List Draft) (first : ℕ) (ds : List Draft) (n : ℕ)
+    (o : Object) : Type 0 where
   pub i : ℕ
   pub number : n ≡ first + i
   pub draft : Draft
@@ -145,8 +150,13 @@ found_for schema drafts first (x ∷ ds) (o ∷ os) (suc i) d are e =
     let more = found_for schema drafts (first + 1) ds os i d are.1 e in
     let number : first + 1 + i ≡ first + suc i = omega arith in
     let is : o.number ≡ first = are.0.number in
-    let other : nat_eq o.number (first + suc i) ≡ false = ne_eqb o.number (first + suc i) (λ same. omega (arith, is, same)) in
-    (more.0, rw other (subst (λ (k : ℕ). found_of os k ≡ Some more.0) number more.1), subst (λ (k : ℕ). IsObjectOf schema drafts k d more.0) number more.2)
+    let other : nat_eq o.number (first + suc i) ≡ false = ne_eqb o.number (first + suc i)
+    (λ same. omega (arith, is, same)) in (
+      more.0,
+      rw other (subst (λ (k : ℕ). found_of os k ≡ Some more.0) number more.1),
+      subst
+          (λ (k : ℕ). IsObjectOf schema drafts k d more.0) number more.2,
+    )
 
 -- ---- identifiers
 
@@ -156,7 +166,8 @@ unfolding sid_in first_of_attr draft_sid
 same_identifier schema drafts n d o is = by (object_sid schema) refl
   where
     by : (place : Option ℕ) → object_sid schema ≡ place
-        → option_and_then (λ (value : Value). sid_of value.shown) (option_and_then (λ (p : ℕ). first_plain (stored_in o.values p)) place)
+        → option_and_then (λ (value : Value). sid_of value.shown)
+        (option_and_then (λ (p : ℕ). first_plain (stored_in o.values p)) place)
         ≡ option_and_then (λ (value : Value). sid_of value.shown) (option_and_then (first_given d.given) place)
     by None e = refl
     by (Some p) e = ap (λ (v : Option Value). option_and_then (λ (value : Value). sid_of value.shown) v)

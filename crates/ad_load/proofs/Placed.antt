@@ -1,5 +1,6 @@
 -- Where the objects of drafts stand in the tree.
-use Rattle.std.proofs.Common.{◌≡◌, ℕ, zero, suc, ◌+◌, ◌-◌, ◌<◌, ◌≤◌, true, Some, List, [], ◌∷◌, length, take, drop, refl, sym, ap, subst, ◌∙◌, arith}
+use Rattle.std.proofs.Common.{◌≡◌, ℕ, zero, suc, ◌+◌, ◌-◌, ◌<◌, ◌≤◌, true, Some, List, [], ◌∷◌, length, take, drop}
+use Rattle.std.proofs.Common.{refl, sym, ap, subst, ◌∙◌, arith}
 use Rattle.std.specs.Prelude.{slice_get}
 use Rattle.std.specs.List.{list_all}
 use Rattle.std.proofs.lemmas.Bool.{leb-true}
@@ -23,7 +24,8 @@ one_fewer : (rdns : List Rdn) → 0 < length rdns → length rdns ≡ length (dr
 one_fewer [] lt = absurd (omega arith)
 one_fewer (rdn ∷ rdns) lt = omega arith
 
-parent_first : (before : List Draft) (rdns : List Rdn) (parent : ℕ) → length before ≡ 0 → parent_of before rdns ≡ Some parent → parent ≡ 0
+parent_first : (before : List Draft) (rdns : List Rdn) (parent : ℕ) → length before ≡ 0 → parent_of before rdns
+    ≡ Some parent → parent ≡ 0
 unfolding parent_of
 parent_first [] rdns parent none e = cc
 parent_first (d ∷ ds) rdns parent none e = absurd (omega arith)
@@ -41,7 +43,8 @@ root_is (x ∷ xs) d e = ap (λ (y : Draft). y.rdns) (some_is x d e)
 module _ (schema : List SchemaRecord) (drafts : List Draft) (objects : List Object) (good : AreGood schema drafts)
     (made : AreObjectsOf schema drafts 1 drafts objects) where
   -- an object's number is one more than its draft's place
-  pub found_next : (i : ℕ) (d : Draft) → slice_get drafts i ≡ Some d → (o : Object) × (object_of objects (suc i) ≡ Some o) × (o.parent ≡ d.parent)
+  pub found_next : (i : ℕ) (d : Draft) → slice_get drafts i ≡ Some d → (o : Object)
+      × (object_of objects (suc i) ≡ Some o) × (o.parent ≡ d.parent)
   found_next i d at =
       let found = found_for schema drafts 1 drafts objects i d made at in
       let number : 1 + i ≡ suc i = omega arith in
@@ -51,7 +54,8 @@ module _ (schema : List SchemaRecord) (drafts : List Draft) (objects : List Obje
   live_next i d at = let found = found_next i d at in live-of objects (suc i) found.0 found.1
 
   parent_next : (i : ℕ) (d : Draft) → slice_get drafts i ≡ Some d → parent_at objects (suc i) ≡ d.parent
-  parent_next i d at = let found = found_next i d at in ap (λ (o : Object). o.parent) (at-of objects (suc i) found.0 found.1) ∙ found.2
+  parent_next i d at = let found = found_next i d at in ap (λ (o : Object). o.parent)
+      (at-of objects (suc i) found.0 found.1) ∙ found.2
 
   pub no_parent : (d : Draft) → slice_get drafts 0 ≡ Some d → d.parent ≡ 0
   no_parent d at = parent_first [] d.rdns d.parent refl (good 0 d at).parent
@@ -65,7 +69,8 @@ module _ (schema : List SchemaRecord) (drafts : List Draft) (objects : List Obje
       let lt : suc i < length drafts = within drafts (suc i) d at in
       let long : length (take (suc i) drafts) ≡ suc i = length_take drafts (suc i) (omega (arith, lt)) in
       let some : 0 < length (take (suc i) drafts) = omega (arith, long) in
-      let found = number_within (take (suc i) drafts) (drop 1 d.rdns) d.parent (parent_named (take (suc i) drafts) d.rdns d.parent some one.parent) in
+      let found = number_within (take (suc i) drafts) (drop 1 d.rdns) d.parent
+      (parent_named (take (suc i) drafts) d.rdns d.parent some one.parent) in
       let j : ℕ = found.0 in
       let above : Draft = found.2 in
       let lower : j < length (take (suc i) drafts) = within (take (suc i) drafts) j above found.3 in
@@ -94,7 +99,8 @@ module _ (schema : List SchemaRecord) (drafts : List Draft) (objects : List Obje
       let below : p.0 ≤ k = omega (arith, le, p.1) in
       let above = deep k p.0 p.3 below p.4 in
       let one : length d.rdns ≡ length p.3.rdns + 1 = p.5 in
-      let depth : suc (length p.3.rdns - length (root_rdns drafts)) ≡ length d.rdns - length (root_rdns drafts) = omega (arith, one, above.0) in
+      let depth : suc (length p.3.rdns - length (root_rdns drafts)) ≡ length d.rdns - length (root_rdns drafts)
+      = omega (arith, one, above.0) in
       let up : suc p.0 ≡ parent_at objects (suc (suc i)) = sym p.2 ∙ sym (parent_next (suc i) d at) in
       let apart : suc (suc i) ≡ root → ⊥ = λ (e : suc (suc i) ≡ root). omega (arith, e) in (
         omega (arith, one, above.0),
@@ -102,7 +108,8 @@ module _ (schema : List SchemaRecord) (drafts : List Draft) (objects : List Obje
             (apart, subst (IsAtDepth (parent_at objects) (length p.3.rdns - length (root_rdns drafts))) up above.1),
       )
 
-  pub stands_placed : list_all (is_shallow drafts) drafts ≡ true → (i : ℕ) (d : Draft) → slice_get drafts i ≡ Some d → IsPlaced (parent_at objects) (suc i)
+  pub stands_placed : list_all (is_shallow drafts) drafts ≡ true → (i : ℕ) (d : Draft) → slice_get drafts i ≡ Some d
+      → IsPlaced (parent_at objects) (suc i)
   stands_placed shallow i d at =
       let le : i ≤ i = omega arith in
       let here = deep i i d le at in

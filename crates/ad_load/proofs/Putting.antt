@@ -5,7 +5,8 @@ use Rattle.std.proofs.Common.{insert, refl, sym, ap, subst, ◌∙◌, arith}
 use Rattle.std.specs.Prelude.{◌==◌, position, cond, not}
 use Rattle.std.specs.List.{prefix_len}
 use Rattle.std.proofs.lemmas.Option.{none-some, same_Some}
-use Rattle.std.proofs.lemmas.Bool.{cases_Bool, eqb-true, eqb-false, eq-eqb, ne_eqb, leb-true, leb-false, lt-ltb, ltb-true, ltb-false, false_from_ne_true}
+use Rattle.std.proofs.lemmas.Bool.{cases_Bool, eqb-true, eqb-false, eq-eqb, ne_eqb, leb-true, leb-false, lt-ltb}
+use Rattle.std.proofs.lemmas.Bool.{ltb-true, ltb-false, false_from_ne_true}
 use Rattle.std.proofs.lemmas.List.{map-append}
 use Rattle.ad_schema.specs.declared.info.AttrId.{AttrId}
 use Rattle.ad_dir_objects.specs.declared.object.Stored.{Stored as StoredIn}
@@ -50,7 +51,8 @@ put_new (x ∷ xs) zero attr item held v lt is other e =
 put_new (x ∷ xs) (suc place) attr item held v lt is other e = ap (λ (hs : List Held). held_seen x ∷ hs)
     (put_new xs place attr item held v (omega (arith, lt)) is other e)
 
-pub same_item : (xs : List Values) (place : ℕ) (a b : Values) → place < length xs → a ≡ get_or xs place a → b ≡ get_or xs place b → a ≡ b
+pub same_item : (xs : List Values) (place : ℕ) (a b : Values) → place < length xs → a ≡ get_or xs place a → b
+    ≡ get_or xs place b → a ≡ b
 same_item [] place a b lt p q = absurd (omega (arith, lt))
 same_item (x ∷ xs) zero a b lt p q = p ∙ sym q
 same_item (x ∷ xs) (suc place) a b lt p q = same_item xs place a b (omega (arith, lt)) p q
@@ -65,11 +67,13 @@ skipped : (attr : ℕ) (v : Stored) (h : Held) (hs : List Held) → (h.attr == a
 unfolding with_stored
 skipped attr v h hs differ not_above = rw (differ, not_above) refl
 
-prefix_next : (attr : ℕ) (x : Values) (xs : List Values) → nat_le attr x.0.0 ≡ false → prefix_len (below attr) (x ∷ xs) ≡ suc (prefix_len (below attr) xs)
+prefix_next : (attr : ℕ) (x : Values) (xs : List Values) → nat_le attr x.0.0 ≡ false → prefix_len (below attr)
+    (x ∷ xs) ≡ suc (prefix_len (below attr) xs)
 prefix_next attr x xs e = ap (λ (b : Bool). cond (not b) (1 + prefix_len (below attr) xs) 0) e
     ∙ (let next : 1 + prefix_len (below attr) xs ≡ suc (prefix_len (below attr) xs) = omega arith in next)
 
-prefix_here : (attr : ℕ) (x : Values) (xs : List Values) → nat_le attr x.0.0 ≡ true → prefix_len (below attr) (x ∷ xs) ≡ 0
+prefix_here : (attr : ℕ) (x : Values) (xs : List Values) → nat_le attr x.0.0 ≡ true → prefix_len (below attr) (x ∷ xs)
+    ≡ 0
 prefix_here attr x xs e = ap (λ (b : Bool). cond (not b) (1 + prefix_len (below attr) xs) 0) e
 
 at_prefix : (xs : List Values) (attr : ℕ) (v : Stored) → prefix_len (below attr) xs < length xs
@@ -80,7 +84,8 @@ at_prefix (x ∷ xs) attr v lt = elim (cases_Bool (nat_le attr x.0.0)) [
   | inl here ↦
       let le : attr ≤ x.0.0 = leb-true attr x.0.0 here in
       elim (cases_Bool (x.0.0 == attr)) [
-        | inl same ↦ rw (here, same) (ap (λ (n : ℕ). record { attr = n; values = map stored_seen x.1 ++ v ∷ [] } ∷ map held_seen xs) (eqb-true x.0.0 attr same))
+        | inl same ↦ rw (here, same) (ap (λ (n : ℕ). record { attr = n; values = map stored_seen x.1 ++ v ∷ [] }
+            ∷ map held_seen xs) (eqb-true x.0.0 attr same))
         | inr differ ↦
             let other : x.0.0 ≡ attr → ⊥ = eqb-false x.0.0 attr differ in
             let above : nat_lt attr x.0.0 ≡ true = lt-ltb attr x.0.0 (omega (arith, le, other)) in
@@ -133,7 +138,8 @@ pub stored_at : (xs : List Values) (place attr : ℕ) (v : Stored)
     → with_stored_at place attr v (map held_seen xs) ≡ with_stored attr v (map held_seen xs)
 stored_at xs place attr v e =
     let p = placed (prefix_len (below attr) xs) (length xs) place e in
-    subst (λ (n : ℕ). with_stored_at n attr v (map held_seen xs) ≡ with_stored attr v (map held_seen xs)) p.1 (at_prefix xs attr v p.0)
+    subst (λ (n : ℕ). with_stored_at n attr v (map held_seen xs) ≡ with_stored attr v (map held_seen xs)) p.1
+    (at_prefix xs attr v p.0)
 
 pub stored_last : (xs : List Values) (attr : ℕ) (v : Stored)
     → position (λ (held : Values). nat_le attr held.0.0) xs ≡ None

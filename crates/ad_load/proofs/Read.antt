@@ -48,7 +48,8 @@ use Rattle.ad_load.proofs.Placed.{live_next, no_parent, parent_lives, stands_pla
 
 -- ---- the content of one object
 
-stored_is : (schema : List SchemaRecord) (count attr : ℕ) (v : Stored) → IsGoodStored schema count attr v → IsStored schema attr v
+stored_is : (schema : List SchemaRecord) (count attr : ℕ) (v : Stored) → IsGoodStored schema count attr v
+    → IsStored schema attr v
 stored_is schema count attr (plain v) good = good
 stored_is schema count attr (link n) good = good.0
 
@@ -56,7 +57,8 @@ held_is : (schema : List SchemaRecord) (count : ℕ) (h : Held) → IsGoodHeld s
 held_is schema count h good = record {
   of_schema = good.attr;
   some = good.some;
-  each = all_also (IsGoodStored schema count h.attr) (IsStored schema h.attr) (stored_is schema count h.attr) h.values good.each;
+  each = all_also (IsGoodStored schema count h.attr) (IsStored schema h.attr) (stored_is schema count h.attr) h.values
+      good.each;
 }
 
 name_is : (rdns : List Rdn) → AreRdns rdns → 0 < length rdns → IsValue (naming_value rdns)
@@ -69,7 +71,8 @@ links_of_values : (schema : List SchemaRecord) (count attr : ℕ) (P : ℕ → T
     → AllByRecursion (IsGoodStored schema count attr) values → AllByRecursion P (filter_map linked values)
 links_of_values schema count attr P each [] all = tt
 links_of_values schema count attr P each (plain v ∷ values) all = links_of_values schema count attr P each values all.1
-links_of_values schema count attr P each (link n ∷ values) all = (each n all.0.1 all.0.2, links_of_values schema count attr P each values all.1)
+links_of_values schema count attr P each (link n ∷ values) all
+    = (each n all.0.1 all.0.2, links_of_values schema count attr P each values all.1)
 
 links_are : (schema : List SchemaRecord) (count : ℕ) (P : ℕ → Type 0) → ((n : ℕ) → 1 ≤ n → n ≤ count → P n)
     → (values : List Held) → AllByRecursion (IsGoodHeld schema count) values → AllByRecursion P (links_in values)
@@ -93,7 +96,8 @@ above_it n rid = elim (cases_Bool (nat_lt rid n)) [
   | inr more ↦ rw more (let lt : rid < rid + 1 = omega arith in lt)
 ]
 
-all_from : (schema : List SchemaRecord) (domain : SidValue) (n : ℕ) (drafts : List Draft) → n ≤ above_all schema domain n drafts
+all_from : (schema : List SchemaRecord) (domain : SidValue) (n : ℕ) (drafts : List Draft) → n
+    ≤ above_all schema domain n drafts
 unfolding above_all
 all_from schema domain n [] = omega arith
 all_from schema domain n (d ∷ ds) =
@@ -110,7 +114,8 @@ above_each schema domain n (x ∷ xs) zero rid d at is =
     let own : option_and_then (rid_of domain) (draft_sid schema x)
     ≡ Some rid = ap (λ (y : Draft). option_and_then (rid_of domain) (draft_sid schema y)) (some_is x d at)
     ∙ is in
-    let less : rid < above n (option_and_then (rid_of domain) (draft_sid schema x)) = subst (λ (r : Option ℕ). rid < above n r) (sym own) (above_it n rid) in
+    let less : rid < above n (option_and_then (rid_of domain) (draft_sid schema x))
+    = subst (λ (r : Option ℕ). rid < above n r) (sym own) (above_it n rid) in
     let more = all_from schema domain (above n (option_and_then (rid_of domain) (draft_sid schema x))) xs in
     omega (arith, less, more)
 above_each schema domain n (x ∷ xs) (suc i) rid d at is = above_each schema domain
@@ -125,16 +130,20 @@ child_rid : (domain sid : SidValue) (rid : ℕ) → child_of domain rid ≡ Some
 unfolding rid_of
 child_rid domain sid rid e = elim (cases_Bool (nat_lt (length domain.sub_authorities) 15)) [
   | inl few ↦
-      let made : record { authority = domain.authority; sub_authorities = domain.sub_authorities ++ rid ∷ [] } ≡ sid = some_is _ sid (rw few at e) in
-      let last : last_of sid.sub_authorities ≡ Some rid = ap (λ (s : SidValue). last_of s.sub_authorities) (sym made) ∙ last_more domain.sub_authorities rid in
+      let made : record { authority = domain.authority; sub_authorities = domain.sub_authorities ++ rid ∷ [] } ≡ sid
+      = some_is _ sid (rw few at e) in
+      let last : last_of sid.sub_authorities ≡ Some rid = ap (λ (s : SidValue). last_of s.sub_authorities) (sym made)
+      ∙ last_more domain.sub_authorities rid in
       let own : is_sid sid (child_of domain rid) ≡ true = ap (is_sid sid) e ∙ (same_sid-Decides sid sid).1 refl in
-      ap (λ (n : Option ℕ). option_and_then (rid_if domain sid) n) last ∙ ap (λ (b : Bool). if b then Some rid else None) own
+      ap (λ (n : Option ℕ). option_and_then (rid_if domain sid) n) last
+      ∙ ap (λ (b : Bool). if b then Some rid else None) own
   | inr many ↦ let none : None ≡ Some sid = rw many at e in absurd cc
 ]
 
 -- ---- defaults
 
-one_reads : (domain : Option SidValue) (u next : Unit {0}) (info : ClassInfo) → with_default domain u info ≡ Ok next → default_reads domain info ≡ true
+one_reads : (domain : Option SidValue) (u next : Unit {0}) (info : ClassInfo) → with_default domain u info ≡ Ok next
+    → default_reads domain info ≡ true
 unfolding with_default
 one_reads domain u next info is = by (default_reads domain info) is
   where
@@ -171,7 +180,8 @@ all_within drafts dir e = by (nat_le (length dir.objects) max_objects) (list_all
     by : (a b c d f g : Bool) → nat_le (length dir.objects) max_objects ≡ a
         → list_all (is_shallow drafts) drafts ≡ b → nat_le (weight dir) max_weight ≡ c
         → nat_le dir.meta.next_number max_counter ≡ d → nat_le dir.meta.next_rid max_counter ≡ f
-        → nat_le (length (rdns_text dir.meta.suffix)) max_text ≡ g → (a && b && c && d && f && g) ≡ true → IsWithin drafts dir
+        → nat_le (length (rdns_text dir.meta.suffix)) max_text ≡ g → (a && b && c && d && f && g) ≡ true
+        → IsWithin drafts dir
     by a b c d f g ia ib ic id if' ig q =
         let p1 = and_true (a && b && c && d && f) g q in
         let p2 = and_true (a && b && c && d) f p1.0 in
@@ -216,7 +226,8 @@ module _ (schema : List SchemaRecord) (drafts : List Draft) (objects : List Obje
         class_of_schema = subst (λ (c : ℕ). c < length (classes_of schema)) (sym m.is.class) one.class;
         name = subst IsValue (sym m.is.name) (name_is m.draft.rdns one.rdns one.some);
         attrs_rise = values.rise;
-        each = all_also (IsGoodHeld schema (length drafts)) (IsHeld schema) (held_is schema (length drafts)) o.values values.each;
+        each = all_also (IsGoodHeld schema (length drafts)) (IsHeld schema) (held_is schema (length drafts)) o.values
+            values.each;
       }
 
   links : (n : ℕ) (o : Object) → object_of objects n ≡ Some o → LinksAreLive objects o
@@ -231,7 +242,8 @@ module _ (schema : List SchemaRecord) (drafts : List Draft) (objects : List Obje
       → d.parent ≡ e.parent → folded (naming_value d.rdns) ≡ folded (naming_value e.rdns) → ⊥
   unfolding is_taken
   names_apart i j d e lt at_d at_e parent name =
-      let free = none_passes (is_sibling e.parent (naming_value e.rdns)) (take j drafts) i d (good j e at_e).own_name (at_take drafts j i lt ∙ at_d) in
+      let free = none_passes (is_sibling e.parent (naming_value e.rdns)) (take j drafts) i d (good j e at_e).own_name
+      (at_take drafts j i lt ∙ at_d) in
       let clash : is_sibling e.parent (naming_value e.rdns) d
       ≡ true = and_from (nat_eq d.parent e.parent) (same_folded (naming_value d.rdns) (naming_value e.rdns))
       (eq-eqb d.parent e.parent parent) ((bytes_eq-Decides (folded (naming_value d.rdns))
@@ -256,31 +268,39 @@ module _ (schema : List SchemaRecord) (drafts : List Draft) (objects : List Obje
       let m = at_place n o is in
       let k = at_place number other there in
       let parents_same : k.draft.parent ≡ m.draft.parent = sym k.is.parent ∙ parent ∙ m.is.parent in
-      let names_same : folded (naming_value k.draft.rdns) ≡ folded (naming_value m.draft.rdns) = ap folded (sym k.is.name) ∙ name ∙ ap folded m.is.name in
+      let names_same : folded (naming_value k.draft.rdns) ≡ folded (naming_value m.draft.rdns)
+      = ap folded (sym k.is.name) ∙ name ∙ ap folded m.is.name in
       let same : k.i ≡ m.i = same_place k.i m.i
       (λ lt. names_apart k.i m.i k.draft m.draft lt k.at m.at parents_same names_same)
       (λ lt. names_apart m.i k.i m.draft k.draft lt m.at k.at (sym parents_same) (sym names_same)) in
-      of_number objects number other there ∙ number_is number other there ∙ ap (λ (i : ℕ). suc i) same ∙ sym (number_is n o is) ∙ sym (of_number objects n o is)
+      of_number objects number other there ∙ number_is number other there ∙ ap (λ (i : ℕ). suc i) same
+      ∙ sym (number_is n o is) ∙ sym (of_number objects n o is)
 
   own_sid : (n : ℕ) (o : Object) → object_of objects n ≡ Some o → HasOwnSid schema objects o
   own_sid n o is number other sid there sid_other sid_o =
       let m = at_place n o is in
       let k = at_place number other there in
-      let first_sid : draft_sid schema k.draft ≡ Some sid = sym (same_identifier schema drafts number k.draft other k.is) ∙ sid_other in
-      let second_sid : draft_sid schema m.draft ≡ Some sid = sym (same_identifier schema drafts n m.draft o m.is) ∙ sid_o in
+      let first_sid : draft_sid schema k.draft ≡ Some sid
+      = sym (same_identifier schema drafts number k.draft other k.is) ∙ sid_other in
+      let second_sid : draft_sid schema m.draft ≡ Some sid = sym (same_identifier schema drafts n m.draft o m.is)
+      ∙ sid_o in
       let same : k.i ≡ m.i = same_place k.i m.i
       (λ lt. sids_apart k.i m.i k.draft m.draft sid lt k.at m.at first_sid second_sid)
       (λ lt. sids_apart m.i k.i m.draft k.draft sid lt m.at k.at second_sid first_sid) in
-      of_number objects number other there ∙ number_is number other there ∙ ap (λ (i : ℕ). suc i) same ∙ sym (number_is n o is) ∙ sym (of_number objects n o is)
+      of_number objects number other there ∙ number_is number other there ∙ ap (λ (i : ℕ). suc i) same
+      ∙ sym (number_is n o is) ∙ sym (of_number objects n o is)
 
   -- at a number, by its draft's place
-  top : (i n : ℕ) (o : Object) (d : Draft) → slice_get drafts i ≡ Some d → n ≡ suc i → o.parent ≡ d.parent → n ≡ root → o.parent ≡ 0
+  top : (i n : ℕ) (o : Object) (d : Draft) → slice_get drafts i ≡ Some d → n ≡ suc i → o.parent ≡ d.parent → n ≡ root
+      → o.parent ≡ 0
   top zero n o d at number parent is_root = parent ∙ no_parent schema drafts objects good made d at
   top (suc i) n o d at number parent is_root = absurd (omega (arith, number, is_root))
 
-  below : (i n : ℕ) (o : Object) (d : Draft) → slice_get drafts i ≡ Some d → n ≡ suc i → o.parent ≡ d.parent → n ≢ root → is_live objects o.parent ≡ true
+  below : (i n : ℕ) (o : Object) (d : Draft) → slice_get drafts i ≡ Some d → n ≡ suc i → o.parent ≡ d.parent
+      → n ≢ root → is_live objects o.parent ≡ true
   below zero n o d at number parent not_root = absurd (not_root number)
-  below (suc i) n o d at number parent not_root = subst (λ (p : ℕ). is_live objects p ≡ true) (sym parent) (parent_lives schema drafts objects good made i d at)
+  below (suc i) n o d at number parent not_root = subst (λ (p : ℕ). is_live objects p ≡ true) (sym parent)
+      (parent_lives schema drafts objects good made i d at)
 
   each : (n : ℕ) (o : Object) → object_of objects n ≡ Some o → IsRead dir o
   each n o is =
@@ -304,7 +324,8 @@ module _ (schema : List SchemaRecord) (drafts : List Draft) (objects : List Obje
   unfolding domain_sid
   domain_is =
       let found = found_for schema drafts 1 drafts objects 0 root_draft.0 made root_draft.1 in
-      ap (sid_in schema) (at-of objects 1 found.0 found.1) ∙ same_identifier schema drafts 1 root_draft.0 found.0 found.2 ∙ by drafts root_draft.0 root_draft.1
+      ap (sid_in schema) (at-of objects 1 found.0 found.1) ∙ same_identifier schema drafts 1 root_draft.0 found.0
+      found.2 ∙ by drafts root_draft.0 root_draft.1
     where
       by : (ds : List Draft) (d : Draft) → slice_get ds 0 ≡ Some d → draft_sid schema d ≡ domain_of schema ds
       by [] d at = absurd cc
@@ -323,7 +344,8 @@ module _ (schema : List SchemaRecord) (drafts : List Draft) (objects : List Obje
   unfolding domain_child meta_of
   rid_above number o rid sid there sid_o child =
       let m = at_place number o there in
-      let own : draft_sid schema m.draft ≡ Some sid = sym (same_identifier schema drafts number m.draft o m.is) ∙ sid_o in
+      let own : draft_sid schema m.draft ≡ Some sid = sym (same_identifier schema drafts number m.draft o m.is)
+      ∙ sid_o in
       let with_domain : option_and_then (λ (domain : SidValue). child_of domain rid) (domain_of schema drafts)
       ≡ Some sid = ap (option_and_then (λ (domain : SidValue). child_of domain rid)) (sym domain_is) ∙ child in
       rid_above_by (domain_of schema drafts) rid sid with_domain m.i m.draft m.at own
@@ -352,7 +374,13 @@ module _ (schema : List SchemaRecord) (drafts : List Draft) (objects : List Obje
           (defaults_read (domain_of schema drafts) (classes_of schema) tt u defaults);
     };
     counters = counters;
-    limits = record { objects = within_limits.objects; weight = within_limits.weight; suffix = within_limits.suffix; records = short };
+    limits = record {
+      objects = within_limits.objects;
+      weight = within_limits.weight;
+      suffix
+          = within_limits.suffix;
+      records = short;
+    };
     root_live = live_next schema drafts objects good made 0 root_draft.0 root_draft.1;
   }
 

@@ -15,7 +15,8 @@ use Rattle.ad_schema.specs.declared.line.SchemaRecord.{SchemaRecord}
 use Rattle.ad_schema.specs.declared.line.SchemaKind.TheVariants.{Attribute, Class}
 use Rattle.ad_schema.specs.declared.info.ClassInfo.{ClassInfo}
 use Rattle.ad_schema.specs.Attributes.{no_guid, lines_of, names_of}
-use Rattle.ad_schema.specs.Classes.{superclasses, own_namings, cn_of, class_guid, class_guids, class_info, class_infos, classes_of}
+use Rattle.ad_schema.specs.Classes.{superclasses, own_namings, cn_of, class_guid, class_guids, class_info}
+use Rattle.ad_schema.specs.Classes.{class_infos, classes_of}
 use Rattle.ad_dir_model.specs.Object.{Object, no_object}
 use Rattle.ad_dir_model.specs.Objects.{object_of, object_at}
 use Rattle.ad_dir_model.specs.Tree.{root, IsPlaced}
@@ -52,7 +53,8 @@ guid_is schema class found is =
 
 -- ---- one object
 
-pub seen_at : {X : Type 0} (seen : X → Object) (xs : List X) (i : ℕ) (x : X) → i < length xs → get_or xs i x ≡ x → slice_get (map seen xs) i ≡ Some (seen x)
+pub seen_at : {X : Type 0} (seen : X → Object) (xs : List X) (i : ℕ) (x : X) → i < length xs → get_or xs i x ≡ x
+    → slice_get (map seen xs) i ≡ Some (seen x)
 seen_at seen [] i x lt is = absurd (omega arith)
 seen_at seen (y ∷ ys) zero x lt is = ap (λ (z : _). Some (seen z)) is
 seen_at seen (y ∷ ys) (suc i) x lt is = seen_at seen ys i x (omega (arith, lt)) is
@@ -93,13 +95,15 @@ found_place first (x ∷ xs) zero o numbered at =
     at_front = at
 found_place first (x ∷ xs) (suc i) o numbered at =
     let own : x.number ≡ first + 0 = numbered 0 x refl in
-    let other : nat_eq x.number (first + suc i) ≡ false = ne_eqb x.number (first + suc i) (λ e. omega (arith, own, e)) in
+    let other : nat_eq x.number (first + suc i) ≡ false = ne_eqb x.number (first + suc i) (λ e. omega (arith, own, e))
+    in
     let number : first + 1 + i ≡ first + suc i = omega arith in
     rw other (subst (λ (n : ℕ). object_of xs n ≡ Some o) number
     (found_place (first + 1) xs i o (λ j y is. let e : y.number
     ≡ first + suc j = numbered (suc j) y is in omega (arith, e)) at))
 
-replaced : (xs ys : List Object) (y : Object) (sd : Sd) → with_sd_at (length xs) sd (xs ++ y ∷ ys) ≡ xs ++ record y { sd = sd } ∷ ys
+replaced : (xs ys : List Object) (y : Object) (sd : Sd) → with_sd_at (length xs) sd (xs ++ y ∷ ys) ≡ xs
+    ++ record y { sd = sd } ∷ ys
 unfolding with_sd_at
 replaced [] ys y sd = refl
 replaced (x ∷ xs) ys y sd = ap (λ (os : List Object). x ∷ os) (replaced xs ys y sd)
@@ -139,17 +143,21 @@ module _ (dir : Directory) (read : IsAllRead dir) (order : AreInOrder dir.object
   long : (place : ℕ) → place ≤ length dir.objects → length (map (from_root dir) (take place dir.objects)) ≡ place
   long place le = length-map (take place dir.objects) (from_root dir) ∙ length_take dir.objects place le
 
-  pub half_at : (place : ℕ) (own : Object) → slice_get dir.objects place ≡ Some own → slice_get (half place) place ≡ Some own
+  pub half_at : (place : ℕ) (own : Object) → slice_get dir.objects place ≡ Some own → slice_get (half place) place
+      ≡ Some own
   half_at place own at =
       let lt : place < length dir.objects = within dir.objects place own at in
-      ap (λ (os : List Object). slice_get (map (from_root dir) (take place dir.objects) ++ os) place) (drop_at dir.objects place own at)
-      ∙ ap (slice_get (map (from_root dir) (take place dir.objects) ++ own ∷ drop (place + 1) dir.objects)) (sym (long place (omega (arith, lt))))
+      ap (λ (os : List Object). slice_get (map (from_root dir) (take place dir.objects) ++ os) place)
+      (drop_at dir.objects place own at)
+      ∙ ap (slice_get (map (from_root dir) (take place dir.objects) ++ own ∷ drop (place + 1) dir.objects))
+      (sym (long place (omega (arith, lt))))
       ∙ behind_at (map (from_root dir) (take place dir.objects)) (drop (place + 1) dir.objects) own
 
   before_at : (place i : ℕ) (o : Object) → i < place → place ≤ length dir.objects → slice_get dir.objects i ≡ Some o
       → slice_get (half place) i ≡ Some (from_root dir o)
   before_at place i o lt le at =
-      front_at (map (from_root dir) (take place dir.objects)) (drop place dir.objects) i (omega (arith, lt, long place le))
+      front_at (map (from_root dir) (take place dir.objects)) (drop place dir.objects) i
+      (omega (arith, lt, long place le))
       ∙ slice_get-map (from_root dir) (take place dir.objects) i
       ∙ ap (option_map (from_root dir)) (at_take dir.objects place i lt ∙ at)
 
@@ -164,9 +172,11 @@ module _ (dir : Directory) (read : IsAllRead dir) (order : AreInOrder dir.object
   unfolding scratch scratch_within
   first_settled own at = ap (λ (o : Object). explicit_part o.sd) (sym (at-of dir.objects 1 own (found 0 own at)))
 
-  settled_is : (place : ℕ) (own : Object) → slice_get dir.objects place ≡ Some own → settled_of dir.schema (half place) place ≡ scratch dir own.number
+  settled_is : (place : ℕ) (own : Object) → slice_get dir.objects place ≡ Some own
+      → settled_of dir.schema (half place) place ≡ scratch dir own.number
   settled_is zero own at =
-      settled_first dir.schema (half 0) 0 own refl (half_at 0 own at) ∙ first_settled own at ∙ ap (scratch dir) (sym (order.number 0 own at))
+      settled_first dir.schema (half 0) 0 own refl (half_at 0 own at) ∙ first_settled own at
+      ∙ ap (scratch dir) (sym (order.number 0 own at))
   settled_is (suc k) own at =
       let place : ℕ = suc k in
       let lt : suc k < length dir.objects = within dir.objects (suc k) own at in
@@ -182,7 +192,8 @@ module _ (dir : Directory) (read : IsAllRead dir) (order : AreInOrder dir.object
       let here : object_at dir.objects (suc (suc k)) ≡ own = at-of dir.objects (suc (suc k)) own live in
       let not_root : suc (suc k) ≡ root → ⊥ = λ (e : suc (suc k) ≡ root). omega (arith, e) in
       let own_not_root : own.number ≡ root → ⊥ = λ (e : own.number ≡ root). not_root (sym number ∙ e) in
-      let placed : IsPlaced (parents dir) (suc (suc k)) = subst (IsPlaced (parents dir)) number ((read.each (suc (suc k)) own live).placed own_not_root) in
+      let placed : IsPlaced (parents dir) (suc (suc k)) = subst (IsPlaced (parents dir)) number
+      ((read.each (suc (suc k)) own live).placed own_not_root) in
       settled_below dir.schema (half (suc k)) (suc k) own (from_root dir above) not_first (half_at (suc k) own at)
       (before_at (suc k) (own.parent - 1) above up (omega (arith, lt)) there.1)
       ∙ ap (λ (n : ℕ). whole (scratch dir n) own.sd (guid_at dir.schema own.class)) parent
@@ -217,4 +228,5 @@ pub put_entry : (xs : List (ObjectIn × Sd)) (place : ℕ) (item : ObjectIn × S
 unfolding with_sd_at
 put_entry [] place item sd lt is = absurd (omega (arith, lt))
 put_entry (x ∷ xs) zero item sd lt is = ap (λ (y : ObjectIn × Sd). entry_seen (y.0, sd) ∷ map entry_seen xs) is
-put_entry (x ∷ xs) (suc place) item sd lt is = ap (λ (os : List Object). entry_seen x ∷ os) (put_entry xs place item sd (omega (arith, lt)) is)
+put_entry (x ∷ xs) (suc place) item sd lt is = ap (λ (os : List Object). entry_seen x ∷ os)
+    (put_entry xs place item sd (omega (arith, lt)) is)

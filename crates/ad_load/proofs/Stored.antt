@@ -31,7 +31,8 @@ rise_less : (m n : ℕ) (held : List Held) → m ≤ n → AttrsRiseFrom n held 
 rise_less m n [] le rise = tt
 rise_less m n (h ∷ hs) le rise = let above : n ≤ h.attr = rise.0 in (omega arith, rise.1)
 
-pub rise_with : (m attr : ℕ) (v : Stored) (held : List Held) → m ≤ attr → AttrsRiseFrom m held → AttrsRiseFrom m (with_stored attr v held)
+pub rise_with : (m attr : ℕ) (v : Stored) (held : List Held) → m ≤ attr → AttrsRiseFrom m held
+    → AttrsRiseFrom m (with_stored attr v held)
 unfolding with_stored
 rise_with m attr v [] le rise = (le, tt)
 rise_with m attr v (h ∷ hs) le rise = elim (cases_Bool (h.attr == attr)) [
@@ -59,7 +60,8 @@ none_held n place (h ∷ hs) lt rise =
     let more : place < suc h.attr = omega arith in
     rw differ (none_held (suc h.attr) place hs more rise.1)
 
-stored_behind : (m attr : ℕ) (v : Stored) (held : List Held) → AttrsRiseFrom m held → stored_in (with_stored attr v held) attr ≡ stored_in held attr ++ v ∷ []
+stored_behind : (m attr : ℕ) (v : Stored) (held : List Held) → AttrsRiseFrom m held
+    → stored_in (with_stored attr v held) attr ≡ stored_in held attr ++ v ∷ []
 unfolding with_stored stored_in
 stored_behind m attr v [] rise = let same : (attr == attr) ≡ true = eq-eqb attr attr refl in rw same refl
 stored_behind m attr v (h ∷ hs) rise = elim (cases_Bool (h.attr == attr)) [
@@ -74,7 +76,8 @@ stored_behind m attr v (h ∷ hs) rise = elim (cases_Bool (h.attr == attr)) [
   ]
 ]
 
-stored_besides : (attr place : ℕ) (v : Stored) (held : List Held) → (attr ≡ place → ⊥) → stored_in (with_stored attr v held) place ≡ stored_in held place
+stored_besides : (attr place : ℕ) (v : Stored) (held : List Held) → (attr ≡ place → ⊥)
+    → stored_in (with_stored attr v held) place ≡ stored_in held place
 unfolding with_stored stored_in
 stored_besides attr place v [] other = let differ : (attr == place) ≡ false = ne_eqb attr place other in rw differ refl
 stored_besides attr place v (h ∷ hs) other = elim (cases_Bool (h.attr == attr)) [
@@ -117,7 +120,15 @@ good_with schema count attr v (h ∷ hs) lt one all = elim (cases_Bool (h.attr =
   | inl same ↦
       let is : h.attr ≡ attr = eqb-true h.attr attr same in
       let each = subst (λ (n : ℕ). AllByRecursion (IsGoodStored schema count n) h.values) is all.0.each in
-      rw same (record { attr = lt; some = some_more h.values v; each = all_more (IsGoodStored schema count attr) h.values v each one }, all.1)
+      rw same (
+        record {
+          attr = lt;
+          some = some_more h.values v;
+          each = all_more (IsGoodStored schema count attr)
+              h.values v each one;
+        },
+        all.1,
+      )
   | inr differ ↦ elim (cases_Bool (nat_lt attr h.attr)) [
     | inl below ↦ rw (differ, below) (record { attr = lt; some = omega arith; each = (one, tt) }, all)
     | inr above ↦ rw (differ, above) (all.0, good_with schema count attr v hs lt one all.1)
@@ -138,9 +149,11 @@ number_within drafts rdns number e = by (position (has_name rdns) drafts) refl e
       let same : number ≡ i + 1 = cc in
       (i, same, at.0, at.1, at.2)
 
-target_within : (drafts : List Draft) (text : List ℕ) (number : ℕ) → target_of drafts text ≡ Some number → (1 ≤ number) × (number ≤ length drafts)
+target_within : (drafts : List Draft) (text : List ℕ) (number : ℕ) → target_of drafts text ≡ Some number
+    → (1 ≤ number) × (number ≤ length drafts)
 target_within drafts text number e = by (dn_of text) e where
-  by : (dn : Option Dn) → option_and_then (λ (dn : Dn). number_named drafts dn.rdns) dn ≡ Some number → (1 ≤ number) × (number ≤ length drafts)
+  by : (dn : Option Dn) → option_and_then (λ (dn : Dn). number_named drafts dn.rdns) dn ≡ Some number → (1 ≤ number)
+      × (number ≤ length drafts)
   by None q = absurd cc
   by (Some dn) q =
       let at = number_within drafts dn.rdns number q in
@@ -160,7 +173,8 @@ stored_good schema drafts g v good e = by (attr_is_link schema g.attr) refl e wh
   by true is q =
       let a = bind_ok (ok_or (target_of drafts g.value.shown) (at g.line (cause.Link g.spelled))) _ v q in
       let same : link a.0 ≡ v = cc in
-      let range = target_within drafts g.value.shown a.0 (ok_or_ok (target_of drafts g.value.shown) (at g.line (cause.Link g.spelled)) a.0 a.1) in
+      let range = target_within drafts g.value.shown a.0
+      (ok_or_ok (target_of drafts g.value.shown) (at g.line (cause.Link g.spelled)) a.0 a.1) in
       subst (IsGoodStored schema (length drafts) g.attr) same (is, range.0, range.1)
   by false is q =
       let same : plain g.value ≡ v = cc in
@@ -198,7 +212,8 @@ abbrev first_or : List Stored → Option Value → Option Value
 first_or [] value = value
 first_or (stored ∷ others) value = plain_value stored
 
-first_behind : (values : List Stored) (w : Value) (other : Option Value) → first_or (values ++ plain w ∷ []) other ≡ first_or values (Some w)
+first_behind : (values : List Stored) (w : Value) (other : Option Value) → first_or (values ++ plain w ∷ []) other
+    ≡ first_or values (Some w)
 first_behind [] w other = refl
 first_behind (x ∷ xs) w other = refl
 
@@ -232,7 +247,8 @@ first_walk schema drafts place (g ∷ given) held values plain_one rise e =
     ∙ by v a.1
   where
     by : (v : Stored) → stored_of schema drafts g ≡ Ok v
-        → first_or (stored_in (with_stored g.attr v held) place) (first_given given place) ≡ first_or (stored_in held place) (first_given (g ∷ given) place)
+        → first_or (stored_in (with_stored g.attr v held) place) (first_given given place)
+        ≡ first_or (stored_in held place) (first_given (g ∷ given) place)
     by v is = elim (cases_Bool (g.attr == place)) [
       | inl here ↦
           let at_place : g.attr ≡ place = eqb-true g.attr place here in

@@ -1,5 +1,6 @@
 -- What the phases make of good records is a directory as it is read, in order; so it is sound once it is settled.
-use Rattle.std.proofs.Common.{◌≡◌, ℕ, zero, suc, ◌+◌, true, Some, Result, Ok, Err, List, [], ◌∷◌, refl, sym, ap, subst, ◌∙◌, arith}
+use Rattle.std.proofs.Common.{◌≡◌, ℕ, zero, suc, ◌+◌, true, Some, Result, Ok, Err, List, [], ◌∷◌, refl, sym, ap}
+use Rattle.std.proofs.Common.{subst, ◌∙◌, arith}
 use Rattle.std.specs.Prelude.{slice_get}
 use Rattle.std.specs.List.{AllByRecursion, list_all}
 use Rattle.ad_bytes.specs.Reading.{◌>>=◌}
@@ -19,7 +20,8 @@ use Rattle.ad_load_objects.specs.Through.{through}
 use Rattle.ad_load_records.specs.Records.{Record, records_in}
 use Rattle.ad_load_objects.specs.Drafts.{Draft}
 use Rattle.ad_load_objects.specs.Objects.{by_parts, has_root, with_record, drafts_of}
-use Rattle.ad_load.specs.Links.{domain_of, objects_of, directory_with, unsettled, is_within_limits, all_defaults, linked}
+use Rattle.ad_load.specs.Links.{domain_of, objects_of, directory_with, unsettled, is_within_limits, all_defaults}
+use Rattle.ad_load.specs.Links.{linked}
 use Rattle.ad_load_records.specs.Good.{IsGoodRecord, ReadsBack}
 use Rattle.ad_load.specs.Settling.{HasPlaceAbove, AreInOrder, unsettled_with, all_settled, made_of}
 use Rattle.ad_load_records.proofs.Inverting.{bind_ok, need_ok, load_is}
@@ -38,8 +40,12 @@ draft_at schema drafts first [] [] i o are at = absurd cc
 draft_at schema drafts first [] (x ∷ xs) i o are at = absurd are
 draft_at schema drafts first (d ∷ ds) [] i o are at = absurd are
 draft_at schema drafts first (d ∷ ds) (x ∷ xs) zero o are at =
-    let number : first ≡ first + 0 = omega arith in
-    (d, refl, subst (λ (k : ℕ). IsObjectOf schema drafts k d o) number (subst (IsObjectOf schema drafts first d) (some_is x o at) are.0))
+    let number : first ≡ first + 0 = omega arith in (
+      d,
+      refl,
+      subst (λ (k : ℕ). IsObjectOf schema drafts k d o) number
+          (subst (IsObjectOf schema drafts first d) (some_is x o at) are.0),
+    )
 draft_at schema drafts first (d ∷ ds) (x ∷ xs) (suc i) o are at =
     let more = draft_at schema drafts (first + 1) ds xs i o are.1 at in
     let number : first + 1 + i ≡ first + suc i = omega arith in
@@ -57,7 +63,8 @@ behind_parent schema drafts objects good made (suc i) o at not_first =
 in_order : (schema : List SchemaRecord) (drafts : List Draft) (objects : List Object) → AreGood schema drafts
     → AreObjectsOf schema drafts 1 drafts objects → AreInOrder objects
 in_order schema drafts objects good made = record {
-  number = λ place o at. let d = draft_at schema drafts 1 drafts objects place o made at in let e : o.number ≡ 1 + place = d.2.number in omega (arith, e);
+  number = λ place o at. let d = draft_at schema drafts 1 drafts objects place o made at in let e : o.number ≡ 1
+      + place = d.2.number in omega (arith, e);
   above = behind_parent schema drafts objects good made;
 }
 
@@ -76,7 +83,8 @@ what_is_linked reads schema records drafts dir are makes short of_records is_lin
     (λ (u : Unit {0}). through (with_record schema) [] (by_parts records)) drafts of_records in
     let good = all_good reads schema (by_parts records) drafts (sorted_keeps IsGoodRecord records are) d.1 in
     let first = root_is_there schema [] drafts (by_parts records) d.0 d.1 in
-    let with_objects : List Object → Result Directory LoadFault = λ (os : List Object). Ok (directory_with schema drafts os) in
+    let with_objects : List Object → Result Directory LoadFault = λ (os : List Object). Ok
+    (directory_with schema drafts os) in
     let u = bind_ok (objects_of schema drafts >>= with_objects) _ dir is_linked in
     let w = need_ok (is_within_limits drafts u.0) (of_all cause.Limit) _ dir u.2 in
     let f = bind_ok (all_defaults schema (domain_of schema drafts)) _ dir w.1 in
@@ -93,9 +101,11 @@ what_is_linked reads schema records drafts dir are makes short of_records is_lin
 
 -- ---- the phases after the schema, and all of them
 
-pub drafts_stop : (schema : List SchemaRecord) (records : List Record) (f : LoadFault) → drafts_of schema records ≡ Err f → made_of schema records ≡ Err f
+pub drafts_stop : (schema : List SchemaRecord) (records : List Record) (f : LoadFault) → drafts_of schema records
+    ≡ Err f → made_of schema records ≡ Err f
 unfolding made_of
-drafts_stop schema records f e = ap (λ (r : Result (List Draft) LoadFault). r >>= λ drafts. linked schema drafts >>= λ dir. Ok (recomputed dir)) e
+drafts_stop schema records f e = ap (λ (r : Result (List Draft) LoadFault). r >>= λ drafts. linked schema drafts
+    >>= λ dir. Ok (recomputed dir)) e
 
 pub links_stop : (schema : List SchemaRecord) (records : List Record) (drafts : List Draft) (f : LoadFault)
     → drafts_of schema records ≡ Ok drafts → linked schema drafts ≡ Err f → made_of schema records ≡ Err f
@@ -122,21 +132,27 @@ pub records_stop : (text : List ℕ) (f : LoadFault) → records_in text ≡ Err
 unfolding loaded
 records_stop text f e = ap
     (λ (r : Result
-    (List Record) LoadFault). r >>= λ records. schema_of records >>= λ schema. drafts_of schema records >>= λ drafts. linked schema drafts >>= λ dir. Ok (recomputed dir)) e
+    (List Record) LoadFault). r >>= λ records. schema_of records >>= λ schema. drafts_of schema records >>= λ drafts.
+    linked schema drafts >>= λ dir. Ok (recomputed dir)) e
 
-pub schema_stop : (text : List ℕ) (records : List Record) (f : LoadFault) → records_in text ≡ Ok records → schema_of records ≡ Err f → loaded text ≡ Err f
+pub schema_stop : (text : List ℕ) (records : List Record) (f : LoadFault) → records_in text ≡ Ok records
+    → schema_of records ≡ Err f → loaded text ≡ Err f
 unfolding loaded
 schema_stop text records f p q =
     ap (λ (r : Result
-    (List Record) LoadFault). r >>= λ records. schema_of records >>= λ schema. drafts_of schema records >>= λ drafts. linked schema drafts >>= λ dir. Ok (recomputed dir)) p
+    (List Record) LoadFault). r >>= λ records. schema_of records >>= λ schema. drafts_of schema records >>= λ drafts.
+    linked schema drafts >>= λ dir. Ok (recomputed dir)) p
     ∙ ap (λ (r : Result
-    (List SchemaRecord) LoadFault). r >>= λ schema. drafts_of schema records >>= λ drafts. linked schema drafts >>= λ dir. Ok (recomputed dir)) q
+    (List SchemaRecord) LoadFault). r >>= λ schema. drafts_of schema records >>= λ drafts. linked schema drafts
+    >>= λ dir. Ok (recomputed dir)) q
 
 pub loaded_is : (text : List ℕ) (records : List Record) (schema : List SchemaRecord) → records_in text ≡ Ok records
     → schema_of records ≡ Ok schema → loaded text ≡ made_of schema records
 unfolding loaded made_of
 loaded_is text records schema p q =
     ap (λ (r : Result
-    (List Record) LoadFault). r >>= λ records. schema_of records >>= λ schema. drafts_of schema records >>= λ drafts. linked schema drafts >>= λ dir. Ok (recomputed dir)) p
+    (List Record) LoadFault). r >>= λ records. schema_of records >>= λ schema. drafts_of schema records >>= λ drafts.
+    linked schema drafts >>= λ dir. Ok (recomputed dir)) p
     ∙ ap (λ (r : Result
-    (List SchemaRecord) LoadFault). r >>= λ schema. drafts_of schema records >>= λ drafts. linked schema drafts >>= λ dir. Ok (recomputed dir)) q
+    (List SchemaRecord) LoadFault). r >>= λ schema. drafts_of schema records >>= λ drafts. linked schema drafts
+    >>= λ dir. Ok (recomputed dir)) q

@@ -37,7 +37,8 @@ target_of drafts text = option_and_then (λ dn. number_named drafts dn.rdns) (dn
 -- a value as it is stored: that of a link is the number of the object that it names
 unfoldable pub stored_of : List SchemaRecord → List Draft → Given → Result Stored LoadFault
 stored_of schema drafts g =
-    if attr_is_link schema g.attr then (ok_or (target_of drafts g.value.shown) (at g.line (cause.Link g.spelled)) >>= λ number. Ok (link number))
+    if attr_is_link schema g.attr then (ok_or (target_of drafts g.value.shown) (at g.line (cause.Link g.spelled))
+    >>= λ number. Ok (link number))
     else Ok (plain g.value)
 
 -- one value more of an attribute, after those that it has; attributes rise
@@ -91,8 +92,10 @@ object_of schema drafts domain number draft = do
   })
 
 -- the objects so far, and that of one draft more; all drafts are there to be named by links
-unfoldable pub with_object : List SchemaRecord → List Draft → Option SidValue → List Object → Draft → Result (List Object) LoadFault
-with_object schema drafts domain objects draft = object_of schema drafts domain (length objects + 1) draft >>= λ o. Ok (objects ++ o ∷ [])
+unfoldable pub with_object : List SchemaRecord → List Draft → Option SidValue → List Object → Draft
+    → Result (List Object) LoadFault
+with_object schema drafts domain objects draft = object_of schema drafts domain (length objects + 1) draft >>= λ o.
+    Ok (objects ++ o ∷ [])
 
 unfoldable pub objects_of : List SchemaRecord → List Draft → Result (List Object) LoadFault
 objects_of schema drafts = through (with_object schema drafts (domain_of schema drafts)) [] drafts
@@ -118,7 +121,8 @@ above n (Some rid) = if nat_lt rid n then n else rid + 1
 -- a number above all of these, and no smaller than the first
 unfoldable pub above_all : List SchemaRecord → SidValue → ℕ → List Draft → ℕ
 above_all schema domain n [] = n
-above_all schema domain n (draft ∷ drafts) = above_all schema domain (above n (option_and_then (rid_of domain) (draft_sid schema draft))) drafts
+above_all schema domain n (draft ∷ drafts) = above_all schema domain
+    (above n (option_and_then (rid_of domain) (draft_sid schema draft))) drafts
 
 unfoldable pub next_rid : List SchemaRecord → Option SidValue → List Draft → ℕ
 next_rid schema None drafts = 1000
@@ -135,7 +139,13 @@ meta_of schema drafts = record {
 
 -- with these objects
 abbrev pub directory_with : List SchemaRecord → List Draft → List Object → Directory
-directory_with schema drafts objects = record { schema = schema; objects = objects; pending = []; meta = meta_of schema drafts }
+directory_with schema drafts objects = record {
+  schema = schema;
+  objects = objects;
+  pending = [];
+  meta
+      = meta_of schema drafts;
+}
 
 unfoldable pub unsettled : List SchemaRecord → List Draft → Result Directory LoadFault
 unsettled schema drafts = do
@@ -152,7 +162,8 @@ is_shallow drafts draft = nat_le (length draft.rdns) (length (root_rdns drafts) 
 unfoldable pub is_within_limits : List Draft → Directory → Bool
 is_within_limits drafts dir =
     nat_le (length dir.objects) max_objects && list_all (is_shallow drafts) drafts && nat_le (weight dir) max_weight
-    && nat_le dir.meta.next_number max_counter && nat_le dir.meta.next_rid max_counter && nat_le (length (rdns_text dir.meta.suffix)) max_text
+    && nat_le dir.meta.next_number max_counter && nat_le dir.meta.next_rid max_counter
+    && nat_le (length (rdns_text dir.meta.suffix)) max_text
 
 -- the default text of a class can be read
 unfoldable pub with_default : Option SidValue → Unit {0} → ClassInfo → Result (Unit {0}) LoadFault

@@ -16,15 +16,28 @@ entry_seen entry = object_seen entry.0 entry.1
 
 -- the directory of these parts, in which nothing is pending
 abbrev pub parts_seen : List SchemaRecord → List (HeldObject × Sd) → HeldMeta → Directory
-parts_seen schema objects meta = record { schema = schema; objects = map entry_seen objects; pending = []; meta = meta_seen meta }
+parts_seen schema objects meta = record {
+  schema = schema;
+  objects = map entry_seen objects;
+  pending = [];
+  meta
+      = meta_seen meta;
+}
 
 -- the directory before its descriptors are computed
 abbrev pub before_seen : List SchemaRecord → Before → Directory
-before_seen schema l = record { schema = schema; objects = map entry_seen l.objects.items; pending = []; meta = meta_seen l.meta }
+before_seen schema l = record {
+  schema = schema;
+  objects = map entry_seen l.objects.items;
+  pending = [];
+  meta
+      = meta_seen l.meta;
+}
 
 -- attributes, each with its values
 abbrev pub by_attr : List (ℕ × List StoredIn) → List Held
-by_attr entries = map (λ (entry : ℕ × List StoredIn). record { attr = entry.0; values = map stored_seen entry.1 }) entries
+by_attr entries = map (λ (entry : ℕ × List StoredIn). record { attr = entry.0; values = map stored_seen entry.1 })
+    entries
 
 -- one value more at the place of its attribute, or of the first one above it
 unfoldable pub with_stored_at : ℕ → ℕ → Stored → List Held → List Held

@@ -1,6 +1,7 @@
 -- Objects get their descriptors one after the other, each after its parent. Only for private contracts, invariants
 -- and proofs.
-use Rattle.std.specs.Prelude.{◌≡◌, ◌≢◌, ℕ, zero, suc, ◌-◌, ◌≤◌, ◌==◌, if◌then◌else◌, Some, unwrap_or, slice_get, List, [], ◌∷◌, map, Result, Ok}
+use Rattle.std.specs.Prelude.{◌≡◌, ◌≢◌, ℕ, zero, suc, ◌-◌, ◌≤◌, ◌==◌, if◌then◌else◌, Some, unwrap_or, slice_get, List}
+use Rattle.std.specs.Prelude.{[], ◌∷◌, map, Result, Ok}
 use Rattle.ad_bytes.specs.Reading.{◌>>=◌}
 use Rattle.ad_sd.specs.declared.parts.Sd.{Sd}
 use Rattle.ad_inherit.specs.Whole.{explicit_part, whole}
@@ -16,7 +17,8 @@ use Rattle.ad_load.specs.Links.{linked}
 
 -- the object at a place stands after its parent
 abbrev pub HasPlaceAbove : List Object → ℕ → Type 0
-HasPlaceAbove objects place = (o : Object) → slice_get objects place ≡ Some o → place ≢ 0 → (1 ≤ o.parent) × (o.parent ≤ place)
+HasPlaceAbove objects place = (o : Object) → slice_get objects place ≡ Some o → place ≢ 0 → (1 ≤ o.parent)
+    × (o.parent ≤ place)
 
 -- numbers are places, counted from 1, and each object but the first stands after its parent
 pub record AreInOrder (objects : List Object) : Type 0 where

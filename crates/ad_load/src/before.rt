@@ -9,7 +9,8 @@ ghost use Rattle.ad_load_records.specs.Faults.{is_memory};
 ghost use Rattle.ad_load_objects.specs.Drafts.{Draft as DraftValue};
 ghost use Rattle.ad_load_objects.specs.Seen.{draft_seen};
 ghost use Rattle.ad_load_objects.specs.Index.{drafts_seen, IsIndexed};
-ghost use Rattle.ad_load.specs.Links.{domain_of, objects_of, meta_of, directory_with, is_shallow, is_within_limits, linked};
+ghost use Rattle.ad_load.specs.Links.{domain_of, objects_of, meta_of, directory_with, is_shallow, is_within_limits};
+ghost use Rattle.ad_load.specs.Links.{linked};
 ghost use Rattle.ad_load.specs.Counting.{IsCounted};
 ghost use Rattle.ad_load.specs.Seen.{entry_seen, before_seen};
 
@@ -77,9 +78,11 @@ fn is_within_limits(
     suffix: &Dn,
 ) -> Result<bool, AllocError>
     ensures within { IfOk result (λ within. (drafts : List DraftValue) → length drafts ≤ 67108864
-        → shallow ≡ list_all (is_shallow drafts) drafts → next_rid ≡ (meta_of schema.now drafts).next_rid
+        → shallow ≡ list_all (is_shallow drafts) drafts → next_rid
+        ≡ (meta_of schema.now drafts).next_rid
         → suffix.now.rdns ≡ (meta_of schema.now drafts).suffix
-        → within ≡ is_within_limits drafts (directory_with schema.now drafts (map entry_seen objects.now))) }
+        → within ≡ is_within_limits drafts
+        (directory_with schema.now drafts (map entry_seen objects.now))) }
     ensures rid { IfOk result (λ within. within ≡ true → next_rid < 2 ^ 32) }
 {
     let short = is_short(alloc, suffix)?;
@@ -132,7 +135,12 @@ fn check(
       schema = schema.now;
       objects = map entry_seen objects.now;
       pending = [];
-      meta = record { next_number = counted.now.next_number; next_rid = rid; suffix = counted.now.suffix.rdns };
+      meta = record {
+        next_number = counted.now.next_number;
+        next_rid = rid;
+        suffix
+            = counted.now.suffix.rdns;
+      };
     }) result (linked schema.now all) }
 {
     let within = is_within_limits(
@@ -186,7 +194,8 @@ fn objects_with(
     requires few { length drafts.items.items ≤ 67108864 }
     requires indexed { IsIndexed drafts }
     requires domain { option_copied domain ≡ domain_of schema.now (drafts_seen drafts) }
-    ensures { GivesUnless is_memory (λ objects. map entry_seen objects.items) result (objects_of schema.now (drafts_seen drafts)) }
+    ensures { GivesUnless is_memory (λ objects. map entry_seen objects.items) result
+        (objects_of schema.now (drafts_seen drafts)) }
 {
     let names = drafts.names;
     objects_of(alloc, schema, &names, drafts.items, domain)

@@ -39,7 +39,8 @@ fn put_stored(
     attr: AttrId,
     value: Stored,
 ) -> Result<(), AllocError>
-    ensures { OnOk result (by_attr values.new.entries ≡ with_stored attr.0 (stored_seen value) (by_attr values.old.entries)) }
+    ensures { OnOk result (by_attr values.new.entries ≡ with_stored attr.0 (stored_seen value)
+        (by_attr values.old.entries)) }
 {
     let held = values.insert(attr.0, Few::new(alloc))?;
     let mut all = or_none(alloc, held);
@@ -79,7 +80,8 @@ fn all_by_attr(
     ghost all: { List DraftValue }
     requires few { length all ≤ 67108864 }
     requires names { AreNames all names.now }
-    ensures { GivesUnless is_memory (λ values. by_attr values.entries) result (all_stored schema.now all (map given_seen given.items)) }
+    ensures { GivesUnless is_memory (λ values. by_attr values.entries) result
+        (all_stored schema.now all (map given_seen given.items)) }
 {
     let mut values = BTreeMap::new(alloc);
     for one in given {
@@ -93,7 +95,8 @@ fn move_first(
     values: &mut BTreeMap<u32, Few<Stored>>,
     all: &mut Vec<(AttrId, Few<Stored>)>,
 ) -> Result<(), AllocError>
-    ensures moved { OnOk result (map held_seen all.new.items ++ by_attr values.new.entries ≡ map held_seen all.old.items ++ by_attr values.old.entries) }
+    ensures moved { OnOk result (map held_seen all.new.items ++ by_attr values.new.entries
+        ≡ map held_seen all.old.items ++ by_attr values.old.entries) }
     ensures fewer { OnOk result (btree_map_len values.new ≡ btree_map_len values.old - 1) }
 {
     if let Some((attr, held)) = values.pop_first() {
@@ -129,7 +132,8 @@ pub(crate) fn many_stored(
     ghost all: { List DraftValue }
     requires few { length all ≤ 67108864 }
     requires names { AreNames all names.now }
-    ensures { GivesUnless is_memory (λ values. map held_seen values.items) result (all_stored schema.now all (map given_seen given.items)) }
+    ensures { GivesUnless is_memory (λ values. map held_seen values.items) result
+        (all_stored schema.now all (map given_seen given.items)) }
 {
     let values = all_by_attr(alloc, schema, names, given)?;
     Ok(in_order(alloc, values)?)

@@ -70,7 +70,8 @@ fn above(n: u64, rid: Option<u32>) -> u64
 
 // The last number of an object's identifier, where that is one of the domain's.
 fn draft_rid(schema: &Schema, domain: &Sid, draft: &Draft) -> Option<u32>
-    ensures { result ≡ option_and_then (rid_of domain.now) (draft_sid schema.now (draft_seen draft.now)) }
+    ensures { result ≡ option_and_then (rid_of domain.now)
+        (draft_sid schema.now (draft_seen draft.now)) }
 {
     match draft_sid(schema, draft) {
         Some(sid) => rid_of(domain, &sid),
@@ -92,7 +93,8 @@ fn above_all(schema: &Schema, domain: &Sid, drafts: &[Draft]) -> u64
 /// The last number of the next identifier, which may be one too large.
 #[tactic(auto, unfolding(crate::specs::Links::next_rid))]
 pub(crate) fn next_rid(schema: &Schema, domain: Option<&Sid>, drafts: &[Draft]) -> u64
-    ensures { result ≡ next_rid schema.now (option_copied domain.entry) (map draft_seen drafts.now) }
+    ensures { result ≡ next_rid schema.now (option_copied domain.entry)
+        (map draft_seen drafts.now) }
 {
     match domain {
         Some(domain) => above_all(schema, domain, drafts),

@@ -65,7 +65,8 @@ pub(crate) fn own_sd(
     class: ClassId,
     given: Option<Rc<NormalSd>>,
 ) -> Result<NormalSd, AllocError>
-    ensures { IfOk result (λ sd. sd ≡ own_sd schema.now (option_copied domain.entry) class.0 (option_map (λ sd. sd.value) given)) }
+    ensures { IfOk result (λ sd. sd ≡ own_sd schema.now (option_copied domain.entry) class.0
+        (option_map (λ sd. sd.value) given)) }
 {
     match given {
         Some(sd) => sd.as_ref().copy(alloc),

@@ -32,7 +32,8 @@ fn made_of(alloc: Global, schema: &Schema, records: Vec<Record>) -> Result<Befor
     requires makes { MakeSchema schema.now }
     requires short { list_all is_short_record schema.now ≡ true }
     requires reads { ReadsBack }
-    ensures made { GivesUnless is_memory (before_seen schema.now) result (made_of schema.now (map seen records.items)) }
+    ensures made { GivesUnless is_memory (before_seen schema.now) result
+        (made_of schema.now (map seen records.items)) }
     ensures sound { IfOk result (λ before. IsSound (before_seen schema.now before)) }
 {
     let drafts = drafts_of(alloc, schema, records)?;
@@ -74,7 +75,8 @@ fn directory_with(alloc: Global, records: Vec<Record>) -> Result<Dir, LoadFault>
         → GivesUnless is_memory (λ dir. dir) result (loaded text) }
     ensures sound { IfOk result IsSound }
     ensures empty { IfOk result (λ dir. dir.pending ≡ []) }
-    ensures scratch { IfOk result (λ dir. (number : ℕ) → is_live dir.objects number ≡ true → sd_at dir.objects number ≡ scratch dir number) }
+    ensures scratch { IfOk result (λ dir. (number : ℕ) → is_live dir.objects number ≡ true
+        → sd_at dir.objects number ≡ scratch dir number) }
 {
     let parts = parts_of(alloc, records)?;
     Ok(parts.into_dir(alloc)?)
@@ -94,7 +96,8 @@ pub fn directory_of(alloc: Global, ldif: &[u8]) -> Result<Dir, LoadFault>
     // It is sound, nothing is pending, and each descriptor is the one from the root.
     ensures sound { IfOk result IsSound }
     ensures empty { IfOk result (λ dir. dir.pending ≡ []) }
-    ensures scratch { IfOk result (λ dir. (number : ℕ) → is_live dir.objects number ≡ true → sd_at dir.objects number ≡ scratch dir number) }
+    ensures scratch { IfOk result (λ dir. (number : ℕ) → is_live dir.objects number ≡ true
+        → sd_at dir.objects number ≡ scratch dir number) }
 {
     let records = records_in(alloc, ldif)?;
     directory_with(alloc, records)

@@ -42,14 +42,16 @@ fn is_shallow(draft: &Draft, root: usize) -> bool
 }
 
 fn all_shallow(drafts: &[Draft], root: usize) -> bool
-    ensures { result ≡ list_all (λ draft. nat_le (length draft.dn.rdns) (root + max_depth)) drafts.now }
+    ensures { result ≡ list_all (λ draft. nat_le (length draft.dn.rdns) (root + max_depth))
+        drafts.now }
 {
     drafts.iter().all(|draft| is_shallow(draft, root))
 }
 
 /// Whether no object is too deep.
 pub(crate) fn are_shallow(drafts: &[Draft]) -> bool
-    ensures { result ≡ list_all (is_shallow (map draft_seen drafts.now)) (map draft_seen drafts.now) }
+    ensures { result ≡ list_all (is_shallow (map draft_seen drafts.now))
+        (map draft_seen drafts.now) }
 {
     all_shallow(drafts, root_parts(drafts))
 }
@@ -66,7 +68,8 @@ pub(crate) fn is_short(alloc: Global, suffix: &Dn) -> Result<bool, AllocError>
 // The default descriptor of a class can be read.
 #[tactic(auto, unfolding(crate::specs::Links::with_default))]
 fn check_default(alloc: Global, domain: Option<&Sid>, info: &ClassInfo) -> Result<(), LoadFault>
-    ensures { GivesUnless is_memory (λ _. tt) result (with_default (option_copied domain.entry) tt info.now) }
+    ensures { GivesUnless is_memory (λ _. tt) result
+        (with_default (option_copied domain.entry) tt info.now) }
 {
     let Some(text) = &info.default_sd else {
         return Ok(());
@@ -85,7 +88,8 @@ pub(crate) fn check_defaults(
     schema: &Schema,
     domain: Option<&Sid>,
 ) -> Result<(), LoadFault>
-    ensures { GivesUnless is_memory (λ _. tt) result (all_defaults schema.now (option_copied domain.entry)) }
+    ensures { GivesUnless is_memory (λ _. tt) result
+        (all_defaults schema.now (option_copied domain.entry)) }
 {
     for info in schema.classes() {
         check_default(alloc, domain, info)?;

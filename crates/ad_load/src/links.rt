@@ -1,13 +1,15 @@
 //! Phase 4: the objects with their values, where links are numbers of objects.
 
-ghost use Rattle.std.specs.Prelude.{◌≡◌, ◌≤◌, ◌<◌, [], ◌∷◌, nat_le, position, map, length, List, ok_or, IfOk, IfSome, OnOk};
+ghost use Rattle.std.specs.Prelude.{◌≡◌, ◌≤◌, ◌<◌, [], ◌∷◌, nat_le, position, map, length, List, ok_or, IfOk, IfSome};
+ghost use Rattle.std.specs.Prelude.{OnOk};
 ghost use Rattle.std.specs.Option.{option_copied};
 ghost use Rattle.ad_bytes.specs.Reading.{GivesUnless};
 ghost use Rattle.ad_schema.specs.Meaning.{attr_is_link};
 ghost use Rattle.ad_dir_objects.specs.Seen.{stored_seen, held_seen};
 ghost use Rattle.ad_load_records.specs.declared.fault.LoadCause.TheVariants as cause;
 ghost use Rattle.ad_load_records.specs.Faults.{at, is_memory};
-ghost use Rattle.ad_load.specs.Links.{target_of, stored_of, with_stored, with_given, all_stored, domain_of, object_of, with_object, objects_of};
+ghost use Rattle.ad_load.specs.Links.{target_of, stored_of, with_stored, with_given, all_stored, domain_of};
+ghost use Rattle.ad_load.specs.Links.{object_of, with_object, objects_of};
 ghost use Rattle.ad_load_objects.specs.Seen.{given_seen, draft_seen};
 ghost use Rattle.ad_load.specs.Seen.{entry_seen, with_stored_at};
 ghost use Rattle.ad_load_objects.specs.Index.{AreNames};
@@ -108,7 +110,8 @@ fn put_at(
     value: Stored,
 ) -> Result<(), AllocError>
     requires { place < length values.old.items }
-    ensures { OnOk result (map held_seen values.new.items ≡ with_stored_at place attr.0 (stored_seen value) (map held_seen values.old.items)) }
+    ensures { OnOk result (map held_seen values.new.items ≡ with_stored_at place attr.0
+        (stored_seen value) (map held_seen values.old.items)) }
 {
     if values[place].0.0 == attr.0 {
         return values[place].1.push(value);
@@ -125,7 +128,8 @@ fn put_stored(
     attr: AttrId,
     value: Stored,
 ) -> Result<(), AllocError>
-    ensures { OnOk result (map held_seen values.new.items ≡ with_stored attr.0 (stored_seen value) (map held_seen values.old.items)) }
+    ensures { OnOk result (map held_seen values.new.items ≡ with_stored attr.0 (stored_seen value)
+        (map held_seen values.old.items)) }
 {
     match place_of(values.as_slice(), attr) {
         Some(place) => put_at(alloc, values, place, attr, value),
@@ -167,7 +171,8 @@ fn few_stored(
     ghost all: { List DraftValue }
     requires few { length all ≤ 67108864 }
     requires names { AreNames all names.now }
-    ensures { GivesUnless is_memory (λ values. map held_seen values.items) result (all_stored schema.now all (map given_seen given.items)) }
+    ensures { GivesUnless is_memory (λ values. map held_seen values.items) result
+        (all_stored schema.now all (map given_seen given.items)) }
 {
     let mut values = Vec::with_capacity(alloc, given.len())?;
     for one in given {
@@ -189,7 +194,8 @@ fn all_stored(
     ghost all: { List DraftValue }
     requires few { length all ≤ 67108864 }
     requires names { AreNames all names.now }
-    ensures { GivesUnless is_memory (λ values. map held_seen values.items) result (all_stored schema.now all (map given_seen given.items)) }
+    ensures { GivesUnless is_memory (λ values. map held_seen values.items) result
+        (all_stored schema.now all (map given_seen given.items)) }
 {
     if given.len() < MANY {
         return few_stored(alloc, schema, names, given);
@@ -275,7 +281,8 @@ pub(crate) fn objects_of(
     requires names { AreNames all names.now }
     requires same { all ≡ map draft_seen items.items }
     requires domain { option_copied domain ≡ domain_of schema.now (map draft_seen items.items) }
-    ensures { GivesUnless is_memory (λ objects. map entry_seen objects.items) result (objects_of schema.now (map draft_seen items.items)) }
+    ensures { GivesUnless is_memory (λ objects. map entry_seen objects.items) result
+        (objects_of schema.now (map draft_seen items.items)) }
 {
     let mut objects = Vec::with_capacity(alloc, items.len())?;
     for draft in items {

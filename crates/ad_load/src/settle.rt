@@ -8,7 +8,8 @@ ghost use Rattle.ad_inherit.specs.Whole.{explicit_part};
 ghost use Rattle.ad_dir_model.specs.Conditions.{IsAllRead};
 ghost use Rattle.ad_dir_model.specs.Inheritance.{guid_at};
 ghost use Rattle.ad_load.specs.Seen.{entry_seen};
-ghost use Rattle.ad_load.specs.Settling.{AreInOrder, HasPlaceAbove, settled_of, with_sd_at, unsettled_with, all_settled};
+ghost use Rattle.ad_load.specs.Settling.{AreInOrder, HasPlaceAbove, settled_of, with_sd_at, unsettled_with};
+ghost use Rattle.ad_load.specs.Settling.{all_settled};
 
 use crate::repeated::{WholeSd, whole_again};
 use ad_dir::{Meta, Object};
@@ -65,7 +66,8 @@ fn settled_at(
 // Gives the object at a place this descriptor.
 fn put_sd(objects: &mut Vec<(Object, NormalSd)>, place: usize, sd: NormalSd)
     requires { place < length objects.old.items }
-    ensures seen { map entry_seen objects.new.items ≡ with_sd_at place sd (map entry_seen objects.old.items) }
+    ensures seen { map entry_seen objects.new.items
+        ≡ with_sd_at place sd (map entry_seen objects.old.items) }
     ensures len { length objects.new.items ≡ length objects.old.items }
 {
     objects[place].1 = sd;
@@ -80,8 +82,11 @@ pub(crate) fn settle(
     meta: &Meta,
 ) -> Result<(), AllocError>
     requires order { AreInOrder (map entry_seen objects.old.items) }
-    requires read { IsAllRead (unsettled_with schema.now (map entry_seen objects.old.items) (meta_seen meta.now)) }
-    ensures { OnOk result (map entry_seen objects.new.items ≡ all_settled (unsettled_with schema.now (map entry_seen objects.old.items) (meta_seen meta.now))) }
+    requires read { IsAllRead (unsettled_with schema.now (map entry_seen objects.old.items)
+        (meta_seen meta.now)) }
+    ensures { OnOk result (map entry_seen objects.new.items
+        ≡ all_settled (unsettled_with schema.now (map entry_seen objects.old.items)
+        (meta_seen meta.now))) }
 {
     let mut last = None;
     for place in 0..objects.len() {

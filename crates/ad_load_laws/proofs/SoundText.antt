@@ -19,7 +19,8 @@ use Rattle.ad_load.proofs.Whole.{what_is_linked}
 use Rattle.ad_load_laws.proofs.ReadBytes.{EntryFits, entries_good, text_fits}
 use Rattle.ad_load_laws.proofs.MadeSchema.{schema_made, records_few}
 
-pub sound_entries : ReadsBack → (text : List ℕ) (dir : Directory) → AllByRecursion EntryFits (story text).records → loaded text ≡ Ok dir
+pub sound_entries : ReadsBack → (text : List ℕ) (dir : Directory) → AllByRecursion EntryFits (story text).records
+    → loaded text ≡ Ok dir
     → IsSound dir
 unfolding loaded
 sound_entries back text dir fit e =

@@ -1,9 +1,12 @@
 -- What is decoded of base64 is bytes: the value of a symbol is below 64.
-use Rattle.std.proofs.Common.{◌≡◌, inl, inr, ℕ, zero, suc, ◌+◌, ◌*◌, ◌/◌, ◌<◌, List, [], ◌∷◌, ◌++◌, drop, Option, Some, None, Result, Ok, Err, refl, subst, arith}
+use Rattle.std.proofs.Common.{◌≡◌, inl, inr, ℕ, zero, suc, ◌+◌, ◌*◌, ◌/◌, ◌<◌, List, [], ◌∷◌, ◌++◌, drop, Option}
+use Rattle.std.proofs.Common.{Some, None, Result, Ok, Err, refl, subst, arith}
 use Rattle.std.specs.Prelude.{slice_index, length}
 use Rattle.base64.specs.declared.decode.DecodeError.{DecodeError}
 use Rattle.base64.specs.declared.engine.general_purpose.GeneralPurpose.{GeneralPurpose}
-use Rattle.base64.specs.Decode.{IsDecodeTable, or_else, symbol_error, group_error, group_bytes, groups_error, groups_bytes, groups_before_last, decode_group, no_leftover, push_leftover, scan_steps, scan_last, scan_bytes, lone_error, suffix_bytes, decode_outcome}
+use Rattle.base64.specs.Decode.{IsDecodeTable, or_else, symbol_error, group_error, group_bytes, groups_error}
+use Rattle.base64.specs.Decode.{groups_bytes, groups_before_last, decode_group, no_leftover, push_leftover}
+use Rattle.base64.specs.Decode.{scan_steps, scan_last, scan_bytes, lone_error, suffix_bytes, decode_outcome}
 use Rattle.base64.specs.Engines.{standard}
 use Rattle.base64.specs.GeneralPurpose.{decode_of}
 use Rattle.base64.proofs.Decoding.{IsLeftover, IsLeftover_next}
@@ -22,7 +25,8 @@ no_error (Some e) bytes b is = absurd cc
 
 -- ---- whole groups
 
-symbol_below : (dec s : List ℕ) (i : ℕ) → IsDecodeTable dec → IsBytes s → symbol_error dec s i ≡ None → slice_index dec (slice_index s i) < 64
+symbol_below : (dec s : List ℕ) (i : ℕ) → IsDecodeTable dec → IsBytes s → symbol_error dec s i ≡ None
+    → slice_index dec (slice_index s i) < 64
 symbol_below dec s i table fits none = elim (table (slice_index s i) (fits i)) [
   | inl bad ↦ absurd (cc (rw bad at none))
   | inr good ↦ good
@@ -43,7 +47,8 @@ group_below a b c d la lb lc ld (suc zero) = omega arith
 group_below a b c d la lb lc ld (suc (suc zero)) = omega arith
 group_below a b c d la lb lc ld (suc (suc (suc i))) = nothing_below i
 
-groups_below : (dec s : List ℕ) (q : ℕ) → IsDecodeTable dec → IsBytes s → groups_error dec s q ≡ None → IsBytes (groups_bytes dec s q)
+groups_below : (dec s : List ℕ) (q : ℕ) → IsDecodeTable dec → IsBytes s → groups_error dec s q ≡ None
+    → IsBytes (groups_bytes dec s q)
 unfolding groups_error groups_bytes
 groups_below dec s zero table fits none = nothing_below
 groups_below dec s (suc q) table fits none =
@@ -58,15 +63,19 @@ groups_below dec s (suc q) table fits none =
 
 -- ---- the last group
 
-scan_below : (dec : List ℕ) (pad at : ℕ) (bs : List ℕ) (i : ℕ) (st fin : _) → IsDecodeTable dec → IsBytes bs → IsLeftover st i
+scan_below : (dec : List ℕ) (pad at : ℕ) (bs : List ℕ) (i : ℕ) (st fin : _) → IsDecodeTable dec → IsBytes bs
+    → IsLeftover st i
     → scan_steps dec pad at (Ok st) i bs ≡ Ok fin → (n : ℕ) × IsLeftover fin n
 unfolding scan_steps
-scan_below dec pad at [] i st fin table fits held is = let same : st ≡ fin = cc in (i, subst (λ x. IsLeftover x i) same held)
+scan_below dec pad at [] i st fin table fits held is = let same : st ≡ fin = cc
+    in (i, subst (λ x. IsLeftover x i) same held)
 scan_below dec pad at (b ∷ bs) i st fin table fits held is =
-    by (push_leftover dec pad at st i b) refl is (λ next. scan_below dec pad at bs (i + 1) next fin table (IsBytes-rest b bs fits))
+    by (push_leftover dec pad at st i b) refl is
+    (λ next. scan_below dec pad at bs (i + 1) next fin table (IsBytes-rest b bs fits))
   where
     by : (r : Result _ DecodeError) → push_leftover dec pad at st i b ≡ r → scan_steps dec pad at r (i + 1) bs ≡ Ok fin
-        → ((next : _) → IsLeftover next (i + 1) → scan_steps dec pad at (Ok next) (i + 1) bs ≡ Ok fin → (n : ℕ) × IsLeftover fin n)
+        → ((next : _) → IsLeftover next (i + 1) → scan_steps dec pad at (Ok next) (i + 1) bs ≡ Ok fin → (n : ℕ)
+        × IsLeftover fin n)
         → (n : ℕ) × IsLeftover fin n
     by (Err e) pushed rest more = absurd cc
     by (Ok next) pushed rest more = more next (IsLeftover_next dec pad at st i b next table held (fits 0) pushed) rest
@@ -84,7 +93,8 @@ last_below dec s pad at table fits = by (scan_last dec pad at s) refl
     by : (r : Result _ DecodeError) → scan_last dec pad at s ≡ r → IsBytes (scan_bytes r)
     by (Err e) scanned = nothing_below
     by (Ok st) scanned =
-        let below = (scan_below dec pad at (drop at s) 0 no_leftover st table (IsBytes-drop at s fits) (omega arith, omega arith, omega arith, none_yet) scanned).1.3 in
+        let below = (scan_below dec pad at (drop at s) 0 no_leftover st table (IsBytes-drop at s fits)
+        (omega arith, omega arith, omega arith, none_yet) scanned).1.3 in
         IsBytes-take (st.morsels_count * 6 / 8) _ (group_below _ _ _ _ (below 0) (below 1) (below 2) (below 3))
 
 -- ---- all of it
@@ -94,11 +104,13 @@ decode_below e s b fits is =
     let dec = e.decode_table in
     let pad = e.padding.value in
     let q = groups_before_last (length s) in
-    let table : IsDecodeTable dec = IsDecodeTable_from e.encode_table dec (are_tables_inverse e.encode_table dec pad e.tables) in
+    let table : IsDecodeTable dec = IsDecodeTable_from e.encode_table dec
+    (are_tables_inverse e.encode_table dec pad e.tables) in
     let none = no_error _ _ b is in
     let behind = both_none (lone_error dec pad s) _ none in
     let groups = both_none (groups_error dec s q) _ behind.1 in
-    decode_of_bytes e s b (more_below (groups_bytes dec s q) (suffix_bytes dec pad (4 * q) s) (groups_below dec s q table fits groups.0) (last_below dec s pad (4 * q) table fits)) is
+    decode_of_bytes e s b (more_below (groups_bytes dec s q) (suffix_bytes dec pad (4 * q) s)
+    (groups_below dec s q table fits groups.0) (last_below dec s pad (4 * q) table fits)) is
 
 pub decoded_bytes : (text value : List ℕ) → IsBytes text → decode_of standard text ≡ Ok value → IsBytes value
 decoded_bytes text value fits is = decode_below standard text value fits is

@@ -1,5 +1,5 @@
-//! The law of loading: the directory of a text is sound, nothing is pending in it, and each descriptor is the one from the root.
-//! No code: it is the contract of a function that does nothing.
+//! The law of loading: the directory of a text is sound, nothing is pending in it, and each descriptor is the one
+//! from the root. No code: it is the contract of a function that does nothing.
 //!
 //! # Example
 //!

@@ -1,5 +1,6 @@
 -- The key of the name above is what stands after the first part in a name's key.
-use Rattle.std.proofs.Common.{◌≡◌, ℕ, ◌+◌, ◌<◌, ◌≤◌, Bool, true, false, List, [], ◌∷◌, ◌++◌, length, drop, get_or, refl, sym, ap, ◌∙◌}
+use Rattle.std.proofs.Common.{◌≡◌, ℕ, ◌+◌, ◌<◌, ◌≤◌, Bool, true, false, List, [], ◌∷◌, ◌++◌, length, drop, get_or}
+use Rattle.std.proofs.Common.{refl, sym, ap, ◌∙◌}
 use Rattle.std.proofs.Common.{append_assoc, add-one, drop-cons}
 use Rattle.std.specs.Prelude.{◌==◌, ◌||◌, if◌then◌else◌}
 use Rattle.std.specs.List.{list_all}
@@ -43,9 +44,11 @@ none_behind key i marked le = ap (behind marked) (drop_all i key le)
 -- ---- the first part
 
 -- a byte that is neither a comma nor \
-plain_byte : (b : ℕ) (rest : List ℕ) → (b == 44) ≡ false → (b == 92) ≡ false → behind false (b ∷ rest) ≡ behind false rest
+plain_byte : (b : ℕ) (rest : List ℕ) → (b == 44) ≡ false → (b == 92) ≡ false → behind false (b ∷ rest)
+    ≡ behind false rest
 unfolding behind
-plain_byte b rest p q = ap (λ (t : Bool). if t then rest else behind (b == 92) rest) p ∙ ap (λ (m : Bool). behind m rest) q
+plain_byte b rest p q = ap (λ (t : Bool). if t then rest else behind (b == 92) rest) p
+    ∙ ap (λ (m : Bool). behind m rest) q
 
 escaped_by : (b : ℕ) (rest : List ℕ) (s t : Bool) → (b == 44) ≡ s → (b == 92) ≡ t
     → behind false ((if s || t then 92 ∷ b ∷ [] else b ∷ []) ++ rest) ≡ behind false rest
@@ -61,15 +64,18 @@ value_passed : (value rest : List ℕ) → behind false (closed value ++ rest) �
 unfolding behind closed
 value_passed [] rest = refl
 value_passed (b ∷ bytes) rest =
-    ap (behind false) (append_assoc (escaped b) (closed bytes) rest) ∙ escaped_passed b (closed bytes ++ rest) ∙ value_passed bytes rest
+    ap (behind false) (append_assoc (escaped b) (closed bytes) rest) ∙ escaped_passed b (closed bytes ++ rest)
+    ∙ value_passed bytes rest
 
 -- what no comma and no \ passes
-passed_by : (test : ℕ → Bool) (b : ℕ) (rest : List ℕ) → test 44 ≡ false → test 92 ≡ false → test b ≡ true → behind false (b ∷ rest) ≡ behind false rest
+passed_by : (test : ℕ → Bool) (b : ℕ) (rest : List ℕ) → test 44 ≡ false → test 92 ≡ false → test b ≡ true
+    → behind false (b ∷ rest) ≡ behind false rest
 passed_by test b rest comma mark passes = plain_byte b rest
     (ne_eqb b 44 (λ (same : b ≡ 44). true≢false (sym passes ∙ ap test same ∙ comma)))
     (ne_eqb b 92 (λ (same : b ≡ 92). true≢false (sym passes ∙ ap test same ∙ mark)))
 
-bytes_passed : (bytes rest : List ℕ) → list_all is_type_byte bytes ≡ true → behind false (bytes ++ rest) ≡ behind false rest
+bytes_passed : (bytes rest : List ℕ) → list_all is_type_byte bytes ≡ true → behind false (bytes ++ rest)
+    ≡ behind false rest
 bytes_passed [] rest e = refl
 bytes_passed (b ∷ bytes) rest e =
     let parts = and_parts (is_type_byte b) (list_all is_type_byte bytes) e in
@@ -89,7 +95,8 @@ part_passed rdn rest is =
     ∙ plain_byte 61 (value ++ rest) refl refl
     ∙ value_passed (folded rdn.value) rest
 
-pub above_is : (key : List ℕ) (rdns : List Rdn) → AreRdns rdns → key ≡ rdns_key rdns → behind false key ≡ rdns_key (drop 1 rdns)
+pub above_is : (key : List ℕ) (rdns : List Rdn) → AreRdns rdns → key ≡ rdns_key rdns → behind false key
+    ≡ rdns_key (drop 1 rdns)
 unfolding behind
 above_is key [] are e = ap (behind false) e
 above_is key (rdn ∷ rdns) are e = ap (behind false) e ∙ part_passed rdn (rdns_key rdns) are.0

@@ -63,7 +63,8 @@ AreGood schema drafts = (i : ℕ) (d : Draft) → slice_get drafts i ≡ Some d 
 -- ---- one value
 
 plain_by : ReadsBack → (password : Bool) (s : Syntax) (bytes : List ℕ) (v : Value) (f : LoadFault) → IsBytes bytes
-    → (if password then Ok (as_shown (sha256 bytes)) else or_fault f (normal_or_fault s bytes)) ≡ Ok v → IsValueBy password s v
+    → (if password then Ok (as_shown (sha256 bytes)) else or_fault f (normal_or_fault s bytes)) ≡ Ok v
+    → IsValueBy password s v
 plain_by reads true s bytes v f are e =
     let same : as_shown (sha256 bytes) ≡ v = cc in
     subst (λ (w : Value). (length w.shown ≡ 32) × (w ≡ as_shown w.shown)) same (length-sha256 bytes, refl)
@@ -75,7 +76,8 @@ unfolding value_of
 value_plain reads schema attr field v are e = plain_by reads (is_named schema (codes "unicodePwd") attr)
     (syntax_at schema attr) field.value v (at field.line (cause.Value field.name)) are e
 
-place_in : (schema : List SchemaRecord) (name : List ℕ) (attr : ℕ) → attr_place schema name ≡ Some attr → attr < length (attrs_of schema)
+place_in : (schema : List SchemaRecord) (name : List ℕ) (attr : ℕ) → attr_place schema name ≡ Some attr → attr
+    < length (attrs_of schema)
 unfolding attr_named
 place_in schema name attr e = by (place_of (names_of Attribute schema) name) refl e where
   by : (found : Option ℕ) → place_of (names_of Attribute schema) name ≡ found
@@ -89,7 +91,8 @@ place_in schema name attr e = by (place_of (names_of Attribute schema) name) ref
 -- ---- the identifier among the values
 
 abbrev pub given_sid : List SchemaRecord → List Given → Option SidValue
-given_sid schema given = option_and_then (λ value. sid_of value.shown) (option_and_then (first_given given) (object_sid schema))
+given_sid schema given = option_and_then (λ value. sid_of value.shown)
+    (option_and_then (first_given given) (object_sid schema))
 
 -- the first of one value more
 first_more : (given : List Given) (g : Given) (attr : ℕ)
@@ -110,25 +113,30 @@ first_more (x ∷ xs) g attr = elim (cases_Bool (x.attr == attr)) [
 ]
 
 abbrev used_by : List SchemaRecord → List Draft → List Given → Option ℕ → Bool
-used_by schema drafts given place = is_sid_used schema drafts (option_and_then (λ value. sid_of value.shown) (option_and_then (first_given given) place))
+used_by schema drafts given place = is_sid_used schema drafts
+    (option_and_then (λ value. sid_of value.shown) (option_and_then (first_given given) place))
 
 taken_false : (here any used : Bool) → (here && not any && used) ≡ false → here ≡ true → any ≡ false → used ≡ false
 taken_false true false used e p q = e
 taken_false true true used e p q = absurd cc
 taken_false false any used e p q = absurd cc
 
-unused_more : (schema : List SchemaRecord) (drafts : List Draft) (given : List Given) (g : Given) (place : Option ℕ) → used_by schema drafts given place ≡ false
-    → (option_map_or (λ (p : ℕ). p == g.attr) place false && not (list_any (is_given g.attr) given) && is_sid_used schema drafts (sid_of g.value.shown)) ≡ false
+unused_more : (schema : List SchemaRecord) (drafts : List Draft) (given : List Given) (g : Given) (place : Option ℕ)
+    → used_by schema drafts given place ≡ false
+    → (option_map_or (λ (p : ℕ). p == g.attr) place false && not (list_any (is_given g.attr) given)
+    && is_sid_used schema drafts (sid_of g.value.shown)) ≡ false
     → used_by schema drafts (given ++ g ∷ []) place ≡ false
 unfolding is_sid_used
 unused_more schema drafts given g None before taken = refl
 unused_more schema drafts given g (Some p) before taken = elim (first_more given g p) [
-  | inl h ↦ ap (λ (v : Option Value). is_sid_used schema drafts (option_and_then (λ (value : Value). sid_of value.shown) v)) h.1 ∙ before
+  | inl h ↦ ap (λ (v : Option Value). is_sid_used schema drafts
+      (option_and_then (λ (value : Value). sid_of value.shown) v)) h.1 ∙ before
   | inr h ↦ elim (cases_Bool (p == g.attr)) [
     | inl same ↦
         let e : p ≡ g.attr = eqb-true p g.attr same in
         let t : (g.attr == p) ≡ true = eq-eqb g.attr p (sym e) in
-        let none : list_any (is_given g.attr) given ≡ false = subst (λ (k : ℕ). list_any (is_given k) given ≡ false) e h.0 in
+        let none : list_any (is_given g.attr) given ≡ false = subst (λ (k : ℕ). list_any (is_given k) given ≡ false) e
+        h.0 in
         let unused : is_sid_used schema drafts (sid_of g.value.shown)
         ≡ false = taken_false (p == g.attr) (list_any (is_given g.attr) given)
         (is_sid_used schema drafts (sid_of g.value.shown)) taken same none in
@@ -169,11 +177,14 @@ value_good reads schema drafts kept next attr field lt are good e =
     let last : Unit {0} → Result Kept LoadFault = λ (u : Unit {0}). Ok made in
     let others : Unit {0} → Result Kept LoadFault = λ (u : Unit {0}). need
     (not (is_sid_taken schema drafts kept.given attr v)) (at field.line cause.Sid) >>= last in
-    let b = need_ok (not (is_one_too_many schema kept.given attr v)) (at field.line (cause.Value field.name)) others next a.2 in
+    let b = need_ok (not (is_one_too_many schema kept.given attr v)) (at field.line (cause.Value field.name)) others
+    next a.2 in
     let c = need_ok (not (is_sid_taken schema drafts kept.given attr v)) (at field.line cause.Sid) last next b.1 in
-    let free : is_sid_taken schema drafts kept.given attr v ≡ false = not_true (is_sid_taken schema drafts kept.given attr v) c.0 in
+    let free : is_sid_taken schema drafts kept.given attr v ≡ false
+    = not_true (is_sid_taken schema drafts kept.given attr v) c.0 in
     subst (IsGoodKept schema drafts) (load_is made next c.1) (record {
-      given = all_more (IsGoodGiven schema) kept.given g good.given (record { attr = lt; plain = value_plain reads schema attr field v are a.1 });
+      given = all_more (IsGoodGiven schema) kept.given g good.given
+          (record { attr = lt; plain = value_plain reads schema attr field v are a.1 });
       sid = taken_free schema drafts kept.given g good.sid free;
     })
 
@@ -184,7 +195,8 @@ sd_good schema drafts kept next field good e =
     let others : Unit {0} → Result Kept LoadFault = λ (u : Unit {0}). or_fault (at field.line cause.Descriptor)
     (sd_of field.value) >>= λ (sd : Sd). Ok (record { given = kept.given; sd = Some sd }) in
     let a = need_ok (is_none kept.sd) (at field.line cause.Descriptor) others next e in
-    let b = bind_ok (or_fault (at field.line cause.Descriptor) (sd_of field.value)) (λ (sd : Sd). Ok (record { given = kept.given; sd = Some sd })) next a.1 in
+    let b = bind_ok (or_fault (at field.line cause.Descriptor) (sd_of field.value))
+    (λ (sd : Sd). Ok (record { given = kept.given; sd = Some sd })) next a.1 in
     let made : Kept = record { given = kept.given; sd = Some b.0 } in
     subst (IsGoodKept schema drafts) (load_is made next b.2) (record { given = good.given; sid = good.sid })
 
@@ -195,7 +207,8 @@ unfolding with_ordinary
 ordinary_good reads schema drafts class kept next field are good e =
     let a = bind_ok (ok_or (attr_place schema field.name) (at field.line (cause.Attribute field.name))) _ next e in
     let attr : ℕ = a.0 in
-    let lt = place_in schema field.name attr (ok_or_ok (attr_place schema field.name) (at field.line (cause.Attribute field.name)) attr a.1) in
+    let lt = place_in schema field.name attr
+    (ok_or_ok (attr_place schema field.name) (at field.line (cause.Attribute field.name)) attr a.1) in
     by (is_dropped schema class attr field.name) attr lt a.2
   where
     by : (dropped : Bool) (attr : ℕ) → attr < length (attrs_of schema)
@@ -208,9 +221,11 @@ line_good : ReadsBack → (schema : List SchemaRecord) (drafts : List Draft) (cl
     (field : Field) → IsGoodKept schema drafts kept → HasBytes field
     → with_line schema drafts class kept field ≡ Ok next → IsGoodKept schema drafts next
 unfolding with_line
-line_good reads schema drafts class kept next field good are e = by (same_name field.name (codes "nTSecurityDescriptor")) e
+line_good reads schema drafts class kept next field good are e =
+    by (same_name field.name (codes "nTSecurityDescriptor")) e
   where
-    by : (test : Bool) → (if test then with_sd kept field else with_ordinary schema drafts class kept field) ≡ Ok next → IsGoodKept schema drafts next
+    by : (test : Bool) → (if test then with_sd kept field else with_ordinary schema drafts class kept field) ≡ Ok next
+        → IsGoodKept schema drafts next
     by true q = sd_good schema drafts kept next field good q
     by false q = ordinary_good reads schema drafts class kept next field are good q
 
@@ -232,7 +247,8 @@ lines_good reads schema drafts class fields kept are e =
 
 -- ---- one object
 
-structural_in : (schema : List SchemaRecord) (class : ℕ) → is_structural schema class ≡ true → class < length (classes_of schema)
+structural_in : (schema : List SchemaRecord) (class : ℕ) → is_structural schema class ≡ true → class
+    < length (classes_of schema)
 unfolding is_structural
 structural_in schema class e = by (slice_get (classes_of schema) class) refl e where
   by : (found : Option ClassInfo) → slice_get (classes_of schema) class ≡ found
@@ -264,7 +280,8 @@ draft_good reads schema drafts r d good e =
     let parent : ℕ = a.0 in
     let b = bind_ok (class_of schema r.line r.fields) _ d a.2 in
     let class : ClassId = b.0 in
-    let c = need_ok (is_named_by (attr_name schema (naming_of schema class.0)) r.rdns) (at r.line cause.Naming) _ d b.2 in
+    let c = need_ok (is_named_by (attr_name schema (naming_of schema class.0)) r.rdns) (at r.line cause.Naming) _ d
+    b.2 in
     let f = need_ok (not (is_taken drafts parent (naming_value r.rdns))) (at r.line cause.NameTaken) _ d c.1 in
     let g = bind_ok (with_lines schema drafts class.0 r.fields) _ d f.1 in
     let kept : Kept = g.0 in
@@ -287,7 +304,8 @@ good_more : (schema : List SchemaRecord) (drafts : List Draft) (d : Draft) → A
 good_more schema drafts d good one = λ i x is. elim (front_or_end drafts d i x is) [
   | inl there ↦
       let lt : i < length drafts = within drafts i x there in
-      subst (λ (before : List Draft). IsGoodDraft schema before x) (sym (take_front drafts d i (omega arith))) (good i x there)
+      subst (λ (before : List Draft). IsGoodDraft schema before x) (sym (take_front drafts d i (omega arith)))
+      (good i x there)
   | inr end ↦
       let le : length drafts ≤ length drafts = omega arith in
       let before : take i (drafts ++ d ∷ []) ≡ drafts = ap (λ (n : ℕ). take n (drafts ++ d ∷ [])) end.0
@@ -300,7 +318,8 @@ record_good : ReadsBack → (schema : List SchemaRecord) (drafts next : List Dra
 unfolding with_record
 record_good reads schema drafts next r good one e = by (is_object r) e
   where
-    by : (test : Bool) → (if test then (draft_of schema drafts r >>= λ draft. Ok (drafts ++ draft ∷ [])) else Ok drafts) ≡ Ok next → AreGood schema next
+    by : (test : Bool) → (if test then (draft_of schema drafts r >>= λ draft. Ok (drafts ++ draft ∷ []))
+        else Ok drafts) ≡ Ok next → AreGood schema next
     by true q =
         let a = bind_ok (draft_of schema drafts r) _ next q in
         let same : drafts ++ a.0 ∷ [] ≡ next = cc in

@@ -9,7 +9,8 @@ use Rattle.ad_load_objects.specs.Drafts.{Draft}
 use Rattle.ad_load_objects.specs.Objects.{is_object, draft_of, with_record}
 use Rattle.ad_load_objects.proofs.Places.{length_more}
 
-pub record_more : (schema : List SchemaRecord) (drafts next : List Draft) (r : Record) → with_record schema drafts r ≡ Ok next → length next ≤ length drafts + 1
+pub record_more : (schema : List SchemaRecord) (drafts next : List Draft) (r : Record) → with_record schema drafts r
+    ≡ Ok next → length next ≤ length drafts + 1
 unfolding with_record
 record_more schema drafts next r e = by (is_object r) e where
   by : (test : Bool) → (if test then (draft_of schema drafts r >>= λ draft. Ok (drafts ++ draft ∷ []))

@@ -42,7 +42,8 @@ same_are [] (y ∷ ys) e = absurd cc
 same_are (x ∷ xs) [] e = absurd cc
 same_are (x ∷ xs) (y ∷ ys) e =
     let parts = and_true (same_rdn x y) (same_names xs ys) e in
-    let one = and_true (bytes_eq (str_to_ascii_uppercase x.kind) (str_to_ascii_uppercase y.kind)) (same_folded x.value y.value) parts.0 in (
+    let one = and_true (bytes_eq (str_to_ascii_uppercase x.kind) (str_to_ascii_uppercase y.kind))
+    (same_folded x.value y.value) parts.0 in (
       record {
         kind = (bytes_eq-Decides (str_to_ascii_uppercase x.kind) (str_to_ascii_uppercase y.kind)).0 one.0;
         value = (bytes_eq-Decides (folded x.value) (folded y.value)).0 one.1;
@@ -72,9 +73,11 @@ prefix_alike : {X : Type 0} (p q : X → Bool) (xs : List X) → AllByRecursion 
     → prefix_len (λ (x : X). not (p x)) xs ≡ prefix_len (λ (x : X). not (q x)) xs
 prefix_alike p q [] all = refl
 prefix_alike {X} p q (x ∷ xs) all =
-    ap (λ (b : Bool). cond (not b) (1 + prefix_len (λ (y : X). not (p y)) xs) 0) all.0 ∙ ap (λ (n : ℕ). cond (not (q x)) (1 + n) 0) (prefix_alike p q xs all.1)
+    ap (λ (b : Bool). cond (not b) (1 + prefix_len (λ (y : X). not (p y)) xs) 0) all.0
+    ∙ ap (λ (n : ℕ). cond (not (q x)) (1 + n) 0) (prefix_alike p q xs all.1)
 
-position_alike : {X : Type 0} (p q : X → Bool) (xs : List X) → AllByRecursion (λ (x : X). p x ≡ q x) xs → position p xs ≡ position q xs
+position_alike : {X : Type 0} (p q : X → Bool) (xs : List X) → AllByRecursion (λ (x : X). p x ≡ q x) xs
+    → position p xs ≡ position q xs
 position_alike p q xs all = ap (λ (n : ℕ). cond (nat_lt n (length xs)) (Some n) None) (prefix_alike p q xs all)
 
 each_named : (rdns : List Rdn) (drafts : List Draft) → AreRdns rdns → AllByRecursion HasForm drafts
@@ -89,7 +92,8 @@ unfolding place_by
 position_of_name drafts names places rdns index are =
     ap (λ (ns : List (List ℕ)). position (λ (other : List ℕ). bytes_eq other (rdns_key rdns)) ns) index.names
     ∙ position_seen (λ (other : List ℕ). bytes_eq other (rdns_key rdns)) name_key_of drafts
-    ∙ position_alike (λ (d : Draft). bytes_eq (name_key_of d) (rdns_key rdns)) (has_name rdns) drafts (each_named rdns drafts are index.forms)
+    ∙ position_alike (λ (d : Draft). bytes_eq (name_key_of d) (rdns_key rdns)) (has_name rdns) drafts
+    (each_named rdns drafts are index.forms)
 
 -- ---- places below a parent
 
@@ -101,7 +105,8 @@ abbrev rest_in : List ℕ → Reading ℕ Short → List ℕ
 rest_in other (Ok x) = x.1
 rest_in other (Err e) = other
 
-parts_of : (p q : ℕ) (f g : List ℕ) → p < 2 ^ 32 → q < 2 ^ 32 → be_bytes 4 p ++ f ≡ be_bytes 4 q ++ g → (p ≡ q) × (f ≡ g)
+parts_of : (p q : ℕ) (f g : List ℕ) → p < 2 ^ 32 → q < 2 ^ 32 → be_bytes 4 p ++ f ≡ be_bytes 4 q ++ g → (p ≡ q)
+    × (f ≡ g)
 parts_of p q f g small_p small_q e =
     let first : be_at 4 (be_bytes 4 p ++ f) ≡ Ok (p, f) = (be_reader 4).again p (be_bytes 4 p) f (small_p, refl) in
     let second : be_at 4 (be_bytes 4 q ++ g) ≡ Ok (q, g) = (be_reader 4).again q (be_bytes 4 q) g (small_q, refl) in
@@ -110,7 +115,8 @@ parts_of p q f g small_p small_q e =
 
 placed_alike : (parent : ℕ) (name : List ℕ) (d : Draft) → parent < 2 ^ 32 → HasForm d
     → bytes_eq (place_key_of d) (place_key parent name) ≡ is_sibling parent name d
-placed_alike parent name d small form = both (bytes_eq (place_key_of d) (place_key parent name)) (is_sibling parent name d)
+placed_alike parent name d small form = both (bytes_eq (place_key_of d) (place_key parent name))
+    (is_sibling parent name d)
     (λ e.
     let parts = parts_of d.parent parent (folded (naming_value d.rdns)) (folded name) form.parent small
     ((bytes_eq-Decides (place_key_of d) (place_key parent name)).0 e) in
@@ -127,14 +133,16 @@ each_placed : (parent : ℕ) (name : List ℕ) (drafts : List Draft) → parent 
     → AllByRecursion (λ (d : Draft). bytes_eq (place_key_of d) (place_key parent name)
     ≡ is_sibling parent name d) drafts
 each_placed parent name [] small forms = tt
-each_placed parent name (d ∷ ds) small forms = (placed_alike parent name d small forms.0, each_placed parent name ds small forms.1)
+each_placed parent name (d ∷ ds) small forms
+    = (placed_alike parent name d small forms.0, each_placed parent name ds small forms.1)
 
 more_than : (n m : ℕ) → nat_lt (1 + n) (suc m) ≡ nat_lt n m
 more_than n m = both (nat_lt (1 + n) (suc m)) (nat_lt n m)
     (λ e. let lt : 1 + n < suc m = ltb-true (1 + n) (suc m) e in lt-ltb n m (omega (arith, lt)))
     (λ e. let lt : n < m = ltb-true n m e in lt-ltb (1 + n) (suc m) (omega (arith, lt)))
 
-within_any : {X : Type 0} (p : X → Bool) (xs : List X) → nat_lt (prefix_len (λ (x : X). not (p x)) xs) (length xs) ≡ list_any p xs
+within_any : {X : Type 0} (p : X → Bool) (xs : List X) → nat_lt (prefix_len (λ (x : X). not (p x)) xs) (length xs)
+    ≡ list_any p xs
 within_any p [] = refl
 within_any {X} p (x ∷ xs) = elim (cases_Bool (p x)) [
   | inl passes ↦
@@ -143,7 +151,8 @@ within_any {X} p (x ∷ xs) = elim (cases_Bool (p x)) [
       ∙ first ∙ sym (ap (λ (b : Bool). b || list_any p xs) passes)
   | inr fails ↦
       ap (λ (b : Bool). nat_lt (cond (not b) (1 + prefix_len (λ (y : X). not (p y)) xs) 0) (suc (length xs))) fails
-      ∙ more_than (prefix_len (λ (y : X). not (p y)) xs) (length xs) ∙ within_any p xs ∙ sym (ap (λ (b : Bool). b || list_any p xs) fails)
+      ∙ more_than (prefix_len (λ (y : X). not (p y)) xs) (length xs) ∙ within_any p xs
+      ∙ sym (ap (λ (b : Bool). b || list_any p xs) fails)
 ]
 
 some_if : (b : Bool) (n : ℕ) → is_some (cond b (Some n) None) ≡ b
@@ -151,14 +160,16 @@ some_if true n = refl
 some_if false n = refl
 
 any_placed : {X : Type 0} (p : X → Bool) (xs : List X) → is_some (position p xs) ≡ list_any p xs
-any_placed {X} p xs = some_if (nat_lt (prefix_len (λ (x : X). not (p x)) xs) (length xs)) (prefix_len (λ (x : X). not (p x)) xs) ∙ within_any p xs
+any_placed {X} p xs = some_if (nat_lt (prefix_len (λ (x : X). not (p x)) xs) (length xs))
+    (prefix_len (λ (x : X). not (p x)) xs) ∙ within_any p xs
 
 pub taken_by_index : (drafts : List Draft) (names places : List (List ℕ)) (parent : ℕ) (name : List ℕ)
     → IsIndex drafts names places → parent < 2 ^ 32 → is_some (place_by Kept places (place_key parent name))
     ≡ is_taken drafts parent name
 unfolding place_by is_taken
 taken_by_index drafts names places parent name index small =
-    ap (λ (ps : List (List ℕ)). is_some (position (λ (other : List ℕ). bytes_eq other (place_key parent name)) ps)) index.places
+    ap (λ (ps : List (List ℕ)). is_some (position (λ (other : List ℕ). bytes_eq other (place_key parent name)) ps))
+    index.places
     ∙ ap (λ (o : Option ℕ). is_some o) (position_seen (λ (other : List ℕ). bytes_eq other
     (place_key parent name)) place_key_of drafts ∙ position_alike (λ (d : Draft). bytes_eq (place_key_of d)
     (place_key parent name)) (is_sibling parent name) drafts (each_placed parent name drafts small index.forms))
@@ -169,18 +180,23 @@ taken_by_index drafts names places parent name index small =
 pub indexed_more : (drafts : List Draft) (names places : List (List ℕ)) (d : Draft) → IsIndex drafts names places
     → HasForm d → IsIndex (drafts ++ d ∷ []) (names ++ name_key_of d ∷ []) (places ++ place_key_of d ∷ [])
 indexed_more drafts names places d index form = record {
-  names = ap (λ (ns : List (List ℕ)). ns ++ name_key_of d ∷ []) index.names ∙ sym (map-append name_key_of drafts (d ∷ []));
-  places = ap (λ (ps : List (List ℕ)). ps ++ place_key_of d ∷ []) index.places ∙ sym (map-append place_key_of drafts (d ∷ []));
+  names = ap (λ (ns : List (List ℕ)). ns ++ name_key_of d ∷ []) index.names
+      ∙ sym (map-append name_key_of drafts (d ∷ []));
+  places = ap (λ (ps : List (List ℕ)). ps ++ place_key_of d ∷ []) index.places
+      ∙ sym (map-append place_key_of drafts (d ∷ []));
   forms = all_more HasForm drafts d index.forms form;
 }
 
 pub as_many_names : (d : Drafts) → IsIndexed d → length d.names ≡ length d.items.items
-as_many_names d index = ap length index.names ∙ length-map (drafts_seen d) name_key_of ∙ length-map d.items.items draft_seen
+as_many_names d index = ap length index.names ∙ length-map (drafts_seen d) name_key_of ∙ length-map d.items.items
+    draft_seen
 
 pub as_many_places : (d : Drafts) → IsIndexed d → length d.places ≡ length d.items.items
-as_many_places d index = ap length index.places ∙ length-map (drafts_seen d) place_key_of ∙ length-map d.items.items draft_seen
+as_many_places d index = ap length index.places ∙ length-map (drafts_seen d) place_key_of ∙ length-map d.items.items
+    draft_seen
 
-pub name_in_range : (all : List Draft) (names places : List (List ℕ)) (rdns : List Rdn) (place : ℕ) → IsIndex all names places → AreRdns rdns
+pub name_in_range : (all : List Draft) (names places : List (List ℕ)) (rdns : List Rdn) (place : ℕ)
+    → IsIndex all names places → AreRdns rdns
     → place_by Kept names (rdns_key rdns) ≡ Some place → place < length all
 name_in_range all names places rdns place index are at =
     let found = found_at (has_name rdns) all place (sym (position_of_name all names places rdns index are) ∙ at) in
@@ -189,6 +205,7 @@ name_in_range all names places rdns place index are at =
 pub name_within : (d : Drafts) (rdns : List Rdn) (place : ℕ) → IsIndexed d → AreRdns rdns
     → place_by Kept d.names (rdns_key rdns) ≡ Some place → place < length d.items.items
 name_within d rdns place index are at =
-    let found = found_at (has_name rdns) (drafts_seen d) place (sym (position_of_name (drafts_seen d) d.names d.places rdns index are) ∙ at) in
+    let found = found_at (has_name rdns) (drafts_seen d) place
+    (sym (position_of_name (drafts_seen d) d.names d.places rdns index are) ∙ at) in
     let lt : place < length (drafts_seen d) = within (drafts_seen d) place found.0 found.1 in
     omega (arith, lt, length-map d.items.items draft_seen)

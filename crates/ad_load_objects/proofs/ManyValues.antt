@@ -1,5 +1,6 @@
 -- What is kept of many values tells what a walk over them would find.
-use Rattle.std.proofs.Common.{◌≡◌, ℕ, ◌<◌, nat_lt, Bool, true, false, cond, inl, inr, List, [], ◌∷◌, ◌++◌, refl, sym, ap, ◌∙◌, arith}
+use Rattle.std.proofs.Common.{◌≡◌, ℕ, ◌<◌, nat_lt, Bool, true, false, cond, inl, inr, List, [], ◌∷◌, ◌++◌, refl, sym}
+use Rattle.std.proofs.Common.{ap, ◌∙◌, arith}
 use Rattle.std.specs.Prelude.{◌==◌, ◌&&◌, ◌||◌}
 use Rattle.std.specs.declared.cmp.Ordering.{Ordering}
 use Rattle.std.specs.declared.cmp.Ordering.TheVariants.{Less, Equal, Greater}
@@ -43,15 +44,19 @@ nat_tied x y = elim (cases_Bool (nat_lt x y)) [
     by true = refl
     by false = refl
 
-parts_tied : (x y : Key) → is_eq (ordering_then (option_cmp int_cmp (number_in x) (number_in y)) (slice_cmp nat_cmp (bytes_of x) (bytes_of y))) ≡ same_key x y
+parts_tied : (x y : Key) → is_eq (ordering_then (option_cmp int_cmp (number_in x) (number_in y))
+    (slice_cmp nat_cmp (bytes_of x) (bytes_of y))) ≡ same_key x y
 parts_tied (Bytes a) (Bytes b) = is_eq-slice_cmp a b
 parts_tied (Number m) (Number n) = then_tied (int_cmp m n) Equal ∙ and_end (is_eq (int_cmp m n))
 parts_tied (Bytes a) (Number n) = refl
 parts_tied (Number m) (Bytes b) = refl
 
-keys_tied : (a b : ℕ) (x y : Key) (one other : ValueKey) → IsKeyOf a x one → IsKeyOf b y other → is_eq (key_cmp one other) ≡ (a == b && same_key x y)
+keys_tied : (a b : ℕ) (x y : Key) (one other : ValueKey) → IsKeyOf a x one → IsKeyOf b y other
+    → is_eq (key_cmp one other) ≡ (a == b && same_key x y)
 keys_tied a b x y one other is at =
-    then_tied (nat_cmp one.attr other.attr) (ordering_then (option_cmp int_cmp one.number other.number) (slice_cmp nat_cmp one.bytes.items other.bytes.items))
+    then_tied (nat_cmp one.attr other.attr)
+    (ordering_then (option_cmp int_cmp one.number other.number)
+    (slice_cmp nat_cmp one.bytes.items other.bytes.items))
     ∙ rw (is.attr, at.attr, is.number, at.number, is.bytes, at.bytes, nat_tied a b, parts_tied x y) refl
 
 -- ---- one value more
@@ -62,11 +67,14 @@ or_last true false = refl
 or_last false true = refl
 or_last false false = refl
 
-any_last : (test : Given → Bool) (given : List Given) (g : Given) → cond (test g) true (list_any test given) ≡ list_any test (given ++ g ∷ [])
+any_last : (test : Given → Bool) (given : List Given) (g : Given) → cond (test g) true (list_any test given)
+    ≡ list_any test (given ++ g ∷ [])
 any_last test given g = or_last (list_any test given) (test g) ∙ sym (list_any-append test given (g ∷ []))
 
-pub had_more : (given : List Given) (g : Given) (old new : Had) (one : ValueKey) → AreHad given old → IsKeyOf g.attr g.value.key one
-    → Updates nat_cmp old.attrs new.attrs g.attr true → Updates key_cmp old.values new.values one true → AreHad (given ++ g ∷ []) new
+pub had_more : (given : List Given) (g : Given) (old new : Had) (one : ValueKey) → AreHad given old
+    → IsKeyOf g.attr g.value.key one
+    → Updates nat_cmp old.attrs new.attrs g.attr true → Updates key_cmp old.values new.values one true
+    → AreHad (given ++ g ∷ []) new
 had_more given g old new one are is attrs values = record {
   attrs = λ attr.
       attrs.0 attr
@@ -75,7 +83,8 @@ had_more given g old new one are is attrs values = record {
       ∙ any_last (is_given attr) given g;
   values = λ attr key other at.
       values.0 other
-      ∙ ap (λ (b : Bool). cond b true (contains key_cmp old.values other)) (keys_tied g.attr attr g.value.key key one other is at)
+      ∙ ap (λ (b : Bool). cond b true (contains key_cmp old.values other))
+      (keys_tied g.attr attr g.value.key key one other is at)
       ∙ ap (λ (b : Bool). cond (has_key attr key g) true b) (are.values attr key other at)
       ∙ any_last (has_key attr key) given g;
 }

@@ -33,15 +33,18 @@ use Rattle.ad_load_objects.proofs.Places.{found_at}
 
 -- ---- what is seen of each
 
-pub any_seen : {X Y : Type 0} (test : Y → Bool) (seen : X → Y) (xs : List X) → list_any test (map seen xs) ≡ list_any (λ (x : X). test (seen x)) xs
+pub any_seen : {X Y : Type 0} (test : Y → Bool) (seen : X → Y) (xs : List X) → list_any test (map seen xs)
+    ≡ list_any (λ (x : X). test (seen x)) xs
 any_seen test seen [] = refl
 any_seen test seen (x ∷ xs) = ap (λ (b : Bool). test (seen x) || b) (any_seen test seen xs)
 
-prefix_seen : {X Y : Type 0} (test : Y → Bool) (seen : X → Y) (xs : List X) → prefix_len test (map seen xs) ≡ prefix_len (λ (x : X). test (seen x)) xs
+prefix_seen : {X Y : Type 0} (test : Y → Bool) (seen : X → Y) (xs : List X) → prefix_len test (map seen xs)
+    ≡ prefix_len (λ (x : X). test (seen x)) xs
 prefix_seen test seen [] = refl
 prefix_seen test seen (x ∷ xs) = ap (λ (n : ℕ). cond (test (seen x)) (1 + n) 0) (prefix_seen test seen xs)
 
-pub position_seen : {X Y : Type 0} (test : Y → Bool) (seen : X → Y) (xs : List X) → position test (map seen xs) ≡ position (λ (x : X). test (seen x)) xs
+pub position_seen : {X Y : Type 0} (test : Y → Bool) (seen : X → Y) (xs : List X) → position test (map seen xs)
+    ≡ position (λ (x : X). test (seen x)) xs
 position_seen {X} {Y} test seen xs =
     ap (λ (n : ℕ). cond (nat_lt n (length (map seen xs))) (Some n) None) (prefix_seen (λ (y : Y). not (test y)) seen xs)
     ∙ ap (λ (m : ℕ). cond (nat_lt (prefix_len (λ (x : X). not (test (seen x))) xs) m)
@@ -54,7 +57,8 @@ unfolding same_names
 same_length [] [] e = refl
 same_length [] (b ∷ bs) e = absurd cc
 same_length (a ∷ as') [] e = absurd cc
-same_length (a ∷ as') (b ∷ bs) e = ap (λ (n : ℕ). suc n) (same_length as' bs (and_true (same_rdn a b) (same_names as' bs) e).1)
+same_length (a ∷ as') (b ∷ bs) e = ap (λ (n : ℕ). suc n)
+    (same_length as' bs (and_true (same_rdn a b) (same_names as' bs) e).1)
 
 -- ---- the first value of an attribute
 
@@ -63,7 +67,8 @@ next_given : (given : List HeldGiven) (i attr : ℕ) (one : HeldGiven) → i < l
     (if one.attr.0 == attr then Some (given_seen one)
     else find (is_given attr) (map given_seen (drop (i + 1) given)))
 unfolding first_given
-next_given given i attr one lt is = ap (λ (gs : List HeldGiven). first_given (map given_seen gs) attr) (cut given i one lt is)
+next_given given i attr one lt is = ap (λ (gs : List HeldGiven). first_given (map given_seen gs) attr)
+    (cut given i one lt is)
 
 pub given_here : (given : List HeldGiven) (i attr : ℕ) (one : HeldGiven) → i < length given
     → get_or given i one ≡ one → (one.attr.0 == attr) ≡ true
@@ -80,23 +85,27 @@ given_later given i attr one lt is e = next_given given i attr one lt is
     ∙ ap (λ (t : Bool). option_map (λ (g : Given). g.value)
     (if t then Some (given_seen one) else find (is_given attr) (map given_seen (drop (i + 1) given)))) e
 
-pub given_none : (given : List HeldGiven) (i attr : ℕ) → length given ≤ i → first_given (map given_seen (drop i given)) attr ≡ None
+pub given_none : (given : List HeldGiven) (i attr : ℕ) → length given ≤ i
+    → first_given (map given_seen (drop i given)) attr ≡ None
 unfolding first_given
 given_none given i attr le = ap (λ (gs : List HeldGiven). first_given (map given_seen gs) attr) (drop_all i given le)
 
 -- ---- the name of an attribute
 
-pub name_at : (schema : List SchemaRecord) (place : ℕ) (attr : AttrInfo) → slice_get (attrs_of schema) place ≡ Some attr → attr.name ≡ attr_name schema place
+pub name_at : (schema : List SchemaRecord) (place : ℕ) (attr : AttrInfo) → slice_get (attrs_of schema) place
+    ≡ Some attr → attr.name ≡ attr_name schema place
 unfolding attrs_of names_of attr_name attr_info
 name_at schema place attr is = by (slice_get (lines_of Attribute schema) place) refl
   where
     by : (found : Option (List Line)) → slice_get (lines_of Attribute schema) place ≡ found
         → attr.name ≡ unwrap_or (slice_get (map (text_of field.DisplayName) (lines_of Attribute schema)) place) []
     by None e =
-        let none : None ≡ Some attr = sym (slice_get-map attr_info (lines_of Attribute schema) place ∙ ap (option_map attr_info) e) ∙ is in
+        let none : None ≡ Some attr = sym (slice_get-map attr_info (lines_of Attribute schema) place
+        ∙ ap (option_map attr_info) e) ∙ is in
         absurd cc
     by (Some lines) e =
-        let some : Some (attr_info lines) ≡ Some attr = sym (slice_get-map attr_info (lines_of Attribute schema) place ∙ ap (option_map attr_info) e) ∙ is in
+        let some : Some (attr_info lines) ≡ Some attr
+        = sym (slice_get-map attr_info (lines_of Attribute schema) place ∙ ap (option_map attr_info) e) ∙ is in
         let same : attr_info lines ≡ attr = cc in
         ap (λ (a : AttrInfo). a.name) (sym same)
         ∙ sym (ap (λ (o : Option (List ℕ)). unwrap_or o [])
@@ -106,36 +115,45 @@ name_at schema place attr is = by (slice_get (lines_of Attribute schema) place) 
 pub naming_name_is : (schema : List SchemaRecord) (class : ℕ) (info : ClassInfo) (attr : AttrInfo)
     → slice_get (classes_of schema) class ≡ Some info → slice_get (attrs_of schema) info.naming.0 ≡ Some attr
     → attr.name ≡ attr_name schema (naming_of schema class)
-naming_name_is schema class info attr one two = name_at schema info.naming.0 attr two ∙ ap (attr_name schema) (class_naming schema class info one)
+naming_name_is schema class info attr one two = name_at schema info.naming.0 attr two
+    ∙ ap (attr_name schema) (class_naming schema class info one)
 
 -- ---- an attribute whose own name is another isn't the one of a name
 
-pub named_other : (schema : List SchemaRecord) (name : List ℕ) (attr : ℕ) → same_name (attr_name schema attr) name ≡ false → is_named schema name attr ≡ false
+pub named_other : (schema : List SchemaRecord) (name : List ℕ) (attr : ℕ) → same_name (attr_name schema attr) name
+    ≡ false → is_named schema name attr ≡ false
 unfolding attr_named attr_name place_of
 named_other schema name attr other = by (place_of (names_of Attribute schema) name) refl
   where
     by : (found : Option ℕ) → place_of (names_of Attribute schema) name ≡ found
-        → option_map_or (λ (place : ℕ). place == attr) (option_map (λ (id : AttrId). id.0) (option_map (λ (n : ℕ). record { 0 = n }) found)) false ≡ false
+        → option_map_or (λ (place : ℕ). place == attr)
+        (option_map (λ (id : AttrId). id.0) (option_map (λ (n : ℕ). record { 0 = n }) found)) false ≡ false
     by None e = refl
     by (Some p) e =
         let at = found_at (λ (o : List ℕ). same_name o name) (names_of Attribute schema) p e in
         ne_eqb p attr (λ (same : p ≡ attr).
-        let there : slice_get (names_of Attribute schema) attr ≡ Some at.0 = subst (λ (n : ℕ). slice_get (names_of Attribute schema) n ≡ Some at.0) same at.1 in
-        let is : at.0 ≡ unwrap_or (slice_get (names_of Attribute schema) attr) [] = ap (λ (o : Option (List ℕ)). unwrap_or o []) (sym there) in
+        let there : slice_get (names_of Attribute schema) attr ≡ Some at.0
+        = subst (λ (n : ℕ). slice_get (names_of Attribute schema) n ≡ Some at.0) same at.1 in
+        let is : at.0 ≡ unwrap_or (slice_get (names_of Attribute schema) attr) []
+        = ap (λ (o : Option (List ℕ)). unwrap_or o []) (sym there) in
         let both : true ≡ false = sym at.2 ∙ ap (λ (o : List ℕ). same_name o name) is ∙ other in
         absurd cc)
 
 pub sid_other : (schema : List SchemaRecord) (attr : ℕ) → same_name (attr_name schema attr) (codes "objectSid") ≡ false
     → option_map_or (λ (place : ℕ). place == attr) (object_sid schema) false ≡ false
 unfolding rule_place attr_of_rule if_counts
-sid_other schema attr other = by (attr_named schema (codes "objectSid")) (named_other schema (codes "objectSid") attr other)
+sid_other schema attr other = by (attr_named schema (codes "objectSid"))
+    (named_other schema (codes "objectSid") attr other)
   where
-    by : (found : Option AttrId) → option_map_or (λ (place : ℕ). place == attr) (option_map (λ (id : AttrId). id.0) found) false ≡ false
-        → option_map_or (λ (place : ℕ). place == attr) (option_map (λ (id : AttrId). id.0) (option_and_then (if_counts schema ObjectSid) found)) false ≡ false
+    by : (found : Option AttrId) → option_map_or (λ (place : ℕ). place == attr)
+        (option_map (λ (id : AttrId). id.0) found) false ≡ false
+        → option_map_or (λ (place : ℕ). place == attr)
+        (option_map (λ (id : AttrId). id.0) (option_and_then (if_counts schema ObjectSid) found)) false ≡ false
     by None e = refl
     by (Some id) e = at (option_map_or (counts ObjectSid) (slice_get (attrs_of schema) id.0) false) e
       where
         at : (test : Bool) → (id.0 == attr) ≡ false
-            → option_map_or (λ (place : ℕ). place == attr) (option_map (λ (id : AttrId). id.0) (if test then Some id else None)) false ≡ false
+            → option_map_or (λ (place : ℕ). place == attr)
+            (option_map (λ (id : AttrId). id.0) (if test then Some id else None)) false ≡ false
         at true e = e
         at false e = refl

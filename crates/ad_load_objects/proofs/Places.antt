@@ -49,7 +49,8 @@ pub front_or_end : {A : Type 0} (xs : List A) (y : A) (i : ℕ) (x : A) → slic
 front_or_end [] y zero x e = inr (refl, some_is y x e)
 front_or_end [] y (suc i) x e = absurd cc
 front_or_end (z ∷ zs) y zero x e = inl e
-front_or_end (z ∷ zs) y (suc i) x e = elim (front_or_end zs y i x e) [ inl there ↦ inl there | inr end ↦ inr (ap (λ (n : ℕ). suc n) end.0, end.1) ]
+front_or_end (z ∷ zs) y (suc i) x e = elim (front_or_end zs y i x e)
+    [ inl there ↦ inl there | inr end ↦ inr (ap (λ (n : ℕ). suc n) end.0, end.1) ]
 
 pub length_more : {A : Type 0} (xs : List A) (y : A) → length (xs ++ y ∷ []) ≡ length xs + 1
 length_more [] y = refl
@@ -71,17 +72,20 @@ or_false : (a b : Bool) → (a || b) ≡ false → (a ≡ false) × (b ≡ false
 or_false true b e = absurd cc
 or_false false b e = (refl, e)
 
-pub none_passes : {A : Type 0} (test : A → Bool) (xs : List A) (i : ℕ) (x : A) → list_any test xs ≡ false → slice_get xs i ≡ Some x → test x ≡ false
+pub none_passes : {A : Type 0} (test : A → Bool) (xs : List A) (i : ℕ) (x : A) → list_any test xs ≡ false
+    → slice_get xs i ≡ Some x → test x ≡ false
 none_passes test [] i x none e = absurd cc
 none_passes test (y ∷ ys) zero x none e = ap test (sym (some_is y x e)) ∙ (or_false (test y) (list_any test ys) none).0
 none_passes test (y ∷ ys) (suc i) x none e = none_passes test ys i x (or_false (test y) (list_any test ys) none).1 e
 
-pub each_passes : {A : Type 0} (test : A → Bool) (xs : List A) (i : ℕ) (x : A) → list_all test xs ≡ true → slice_get xs i ≡ Some x → test x ≡ true
+pub each_passes : {A : Type 0} (test : A → Bool) (xs : List A) (i : ℕ) (x : A) → list_all test xs ≡ true
+    → slice_get xs i ≡ Some x → test x ≡ true
 each_passes test [] i x all e = absurd cc
 each_passes test (y ∷ ys) zero x all e = ap test (sym (some_is y x e)) ∙ (and_true (test y) (list_all test ys) all).0
 each_passes test (y ∷ ys) (suc i) x all e = each_passes test ys i x (and_true (test y) (list_all test ys) all).1 e
 
-pub found_at : {A : Type 0} (test : A → Bool) (xs : List A) (i : ℕ) → position test xs ≡ Some i → (x : A) × (slice_get xs i ≡ Some x) × (test x ≡ true)
+pub found_at : {A : Type 0} (test : A → Bool) (xs : List A) (i : ℕ) → position test xs ≡ Some i → (x : A)
+    × (slice_get xs i ≡ Some x) × (test x ≡ true)
 found_at test [] i e = absurd cc
 found_at test (y ∷ ys) i e =
     let p = position-Some test (y ∷ ys) i y e in
@@ -89,25 +93,30 @@ found_at test (y ∷ ys) i e =
 
 -- ---- all items
 
-pub all_more : {A : Type 0} (P : A → Type 0) (xs : List A) (y : A) → AllByRecursion P xs → P y → AllByRecursion P (xs ++ y ∷ [])
+pub all_more : {A : Type 0} (P : A → Type 0) (xs : List A) (y : A) → AllByRecursion P xs → P y
+    → AllByRecursion P (xs ++ y ∷ [])
 all_more P [] y all one = (one, tt)
 all_more P (x ∷ xs) y all one = (all.0, all_more P xs y all.1 one)
 
-pub all_at : {A : Type 0} (P : A → Type 0) (xs : List A) (i : ℕ) (x : A) → AllByRecursion P xs → slice_get xs i ≡ Some x → P x
+pub all_at : {A : Type 0} (P : A → Type 0) (xs : List A) (i : ℕ) (x : A) → AllByRecursion P xs → slice_get xs i
+    ≡ Some x → P x
 all_at P [] i x all e = absurd cc
 all_at P (y ∷ ys) zero x all e = subst P (some_is y x e) all.0
 all_at P (y ∷ ys) (suc i) x all e = all_at P ys i x all.1 e
 
-pub all_also : {A : Type 0} (P Q : A → Type 0) → ((x : A) → P x → Q x) → (xs : List A) → AllByRecursion P xs → AllByRecursion Q xs
+pub all_also : {A : Type 0} (P Q : A → Type 0) → ((x : A) → P x → Q x) → (xs : List A) → AllByRecursion P xs
+    → AllByRecursion Q xs
 all_also P Q more [] all = tt
 all_also P Q more (x ∷ xs) all = (more x all.0, all_also P Q more xs all.1)
 
-pub all_here : {A : Type 0} (P : A → Type 0) (xs : List A) (i : ℕ) (x : A) → i < length xs → get_or xs i x ≡ x → AllByRecursion P xs → P x
+pub all_here : {A : Type 0} (P : A → Type 0) (xs : List A) (i : ℕ) (x : A) → i < length xs → get_or xs i x ≡ x
+    → AllByRecursion P xs → P x
 all_here P [] i x lt is all = absurd (omega (arith, lt))
 all_here P (y ∷ ys) zero x lt is all = subst P is all.0
 all_here P (y ∷ ys) (suc i) x lt is all = all_here P ys i x (omega (arith, lt)) is all.1
 
-pub all_set : {A : Type 0} (P : A → Type 0) (xs : List A) (i : ℕ) (y : A) → AllByRecursion P xs → P y → AllByRecursion P (set xs i y)
+pub all_set : {A : Type 0} (P : A → Type 0) (xs : List A) (i : ℕ) (y : A) → AllByRecursion P xs → P y
+    → AllByRecursion P (set xs i y)
 all_set P [] i y all one = tt
 all_set P (x ∷ xs) zero y all one = (one, all.1)
 all_set P (x ∷ xs) (suc i) y all one = (all.0, all_set P xs i y all.1 one)

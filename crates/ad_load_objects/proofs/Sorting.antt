@@ -6,7 +6,8 @@ use Rattle.std.specs.List.{AllByRecursion}
 use Rattle.std.specs.List.Sorted.{IsNonDecreasingBy, IsStableByKey, ties}
 use Rattle.std.specs.Ordering.{nat_cmp, is_lt}
 use Rattle.std.specs.declared.cmp.Ordering.TheVariants.{Equal, Greater}
-use Rattle.std.proofs.lemmas.Bool.{cases_Bool, eqb-true, eqb-false, eq-eqb, ne_eqb, leb-true, leb-false, ltb-true, ltb-false}
+use Rattle.std.proofs.lemmas.Bool.{cases_Bool, eqb-true, eqb-false, eq-eqb, ne_eqb, leb-true, leb-false, ltb-true}
+use Rattle.std.proofs.lemmas.Bool.{ltb-false}
 use Rattle.ad_bytes.specs.Reading.{◌>>=◌}
 use Rattle.ad_schema.specs.declared.line.SchemaRecord.{SchemaRecord}
 use Rattle.ad_load_objects.specs.Through.{through}
@@ -19,7 +20,8 @@ use Rattle.ad_load_objects.proofs.Places.{length_more}
 
 -- ---- what holds of each record holds of each of the sorted ones
 
-put_keeps : (P : Record → Type 0) (r : Record) (records : List Record) → P r → AllByRecursion P records → AllByRecursion P (put_by_parts r records)
+put_keeps : (P : Record → Type 0) (r : Record) (records : List Record) → P r → AllByRecursion P records
+    → AllByRecursion P (put_by_parts r records)
 unfolding put_by_parts
 put_keeps P r [] one all = (one, tt)
 put_keeps P r (x ∷ xs) one all = elim (cases_Bool (nat_le (length r.rdns) (length x.rdns))) [
@@ -27,17 +29,20 @@ put_keeps P r (x ∷ xs) one all = elim (cases_Bool (nat_le (length r.rdns) (len
   | inr later ↦ rw later (all.0, put_keeps P r xs one all.1)
 ]
 
-pub sorted_keeps : (P : Record → Type 0) (records : List Record) → AllByRecursion P records → AllByRecursion P (by_parts records)
+pub sorted_keeps : (P : Record → Type 0) (records : List Record) → AllByRecursion P records
+    → AllByRecursion P (by_parts records)
 unfolding by_parts
 sorted_keeps P [] all = tt
 sorted_keeps P (r ∷ records) all = put_keeps P r (by_parts records) all.0 (sorted_keeps P records all.1)
 
 -- ---- where there is a root, there are drafts
 
-one_grows : (schema : List SchemaRecord) (drafts next : List Draft) (r : Record) → with_record schema drafts r ≡ Ok next → length drafts ≤ length next
+one_grows : (schema : List SchemaRecord) (drafts next : List Draft) (r : Record) → with_record schema drafts r
+    ≡ Ok next → length drafts ≤ length next
 unfolding with_record
 one_grows schema drafts next r e = by (is_object r) e where
-  by : (test : Bool) → (if test then (draft_of schema drafts r >>= λ draft. Ok (drafts ++ draft ∷ [])) else Ok drafts) ≡ Ok next → length drafts ≤ length next
+  by : (test : Bool) → (if test then (draft_of schema drafts r >>= λ draft. Ok (drafts ++ draft ∷ [])) else Ok drafts)
+      ≡ Ok next → length drafts ≤ length next
   by true q =
       let a = bind_ok (draft_of schema drafts r) _ next q in
       let same : drafts ++ a.0 ∷ [] ≡ next = cc in
@@ -56,7 +61,8 @@ object_grows schema drafts next r is e =
 
 all_grow : (schema : List SchemaRecord) (drafts end : List Draft) (records : List Record)
     → through (with_record schema) drafts records ≡ Ok end → length drafts ≤ length end
-all_grow schema drafts end [] e = let same : length drafts ≡ length end = ap length (none_through (with_record schema) drafts end e) in omega (arith, same)
+all_grow schema drafts end [] e = let same : length drafts ≡ length end
+    = ap length (none_through (with_record schema) drafts end e) in omega (arith, same)
 all_grow schema drafts end (r ∷ records) e =
     let first = first_through (with_record schema) drafts end r records e in
     let one = one_grows schema drafts first.0 r first.1 in
@@ -93,9 +99,11 @@ has_parts n r = length r.rdns == n
 
 from_less : (m n : ℕ) (records : List Record) → m ≤ n → FromParts n records → FromParts m records
 from_less m n [] le all = tt
-from_less m n (r ∷ records) le all = let first : n ≤ length r.rdns = all.0 in (omega (arith, le, first), from_less m n records le all.1)
+from_less m n (r ∷ records) le all = let first : n ≤ length r.rdns = all.0
+    in (omega (arith, le, first), from_less m n records le all.1)
 
-put_from : (n : ℕ) (r : Record) (records : List Record) → n ≤ length r.rdns → FromParts n records → FromParts n (put_by_parts r records)
+put_from : (n : ℕ) (r : Record) (records : List Record) → n ≤ length r.rdns → FromParts n records
+    → FromParts n (put_by_parts r records)
 put_from n r records le all = put_keeps (λ (x : Record). n ≤ length x.rdns) r records le all
 
 put_sorted : (r : Record) (records : List Record) → AreSorted records → AreSorted (put_by_parts r records)
@@ -116,7 +124,8 @@ unfolding by_parts
 by_parts_sorted [] = tt
 by_parts_sorted (r ∷ records) = put_sorted r (by_parts records) (by_parts_sorted records)
 
-put_stable : (n : ℕ) (r : Record) (records : List Record) → filter (has_parts n) (put_by_parts r records) ≡ filter (has_parts n) (r ∷ records)
+put_stable : (n : ℕ) (r : Record) (records : List Record) → filter (has_parts n) (put_by_parts r records)
+    ≡ filter (has_parts n) (r ∷ records)
 unfolding put_by_parts
 put_stable n r [] = refl
 put_stable n r (x ∷ xs) = elim (cases_Bool (nat_le (length r.rdns) (length x.rdns))) [
@@ -132,7 +141,8 @@ put_stable n r (x ∷ xs) = elim (cases_Bool (nat_le (length r.rdns) (length x.r
       ]
 ]
 
-by_parts_stable : (n : ℕ) (records : List Record) → filter (has_parts n) (by_parts records) ≡ filter (has_parts n) records
+by_parts_stable : (n : ℕ) (records : List Record) → filter (has_parts n) (by_parts records)
+    ≡ filter (has_parts n) records
 unfolding by_parts
 by_parts_stable n [] = refl
 by_parts_stable n (r ∷ records) =
@@ -152,10 +162,12 @@ head_is a b xs ys e = cc
 tail_is : (a b : Record) (xs ys : List Record) → a ∷ xs ≡ b ∷ ys → xs ≡ ys
 tail_is a b xs ys e = cc
 
-filter_first : {X : Type 0} (test : X → Bool) (x : X) (xs : List X) → test x ≡ true → filter test (x ∷ xs) ≡ x ∷ filter test xs
+filter_first : {X : Type 0} (test : X → Bool) (x : X) (xs : List X) → test x ≡ true → filter test (x ∷ xs) ≡ x
+    ∷ filter test xs
 filter_first test x xs e = ap (λ (b : Bool). if b then x ∷ filter test xs else filter test xs) e
 
-filter_other : {X : Type 0} (test : X → Bool) (x : X) (xs : List X) → test x ≡ false → filter test (x ∷ xs) ≡ filter test xs
+filter_other : {X : Type 0} (test : X → Bool) (x : X) (xs : List X) → test x ≡ false → filter test (x ∷ xs)
+    ≡ filter test xs
 filter_other test x xs e = ap (λ (b : Bool). if b then x ∷ filter test xs else filter test xs) e
 
 -- the first of one sorted list has as many parts as the first of another one with the same records
@@ -188,23 +200,28 @@ first_parts x y xs ys p q same = elim (cases_Bool (length x.rdns == length y.rdn
     ]
 
 -- sorted lists with the same records of each number of parts, in the same order, are the same
-one_sorted : (xs ys : List Record) → AreSorted xs → AreSorted ys → ((n : ℕ) → filter (has_parts n) xs ≡ filter (has_parts n) ys) → xs ≡ ys
+one_sorted : (xs ys : List Record) → AreSorted xs → AreSorted ys
+    → ((n : ℕ) → filter (has_parts n) xs ≡ filter (has_parts n) ys) → xs ≡ ys
 one_sorted [] [] p q same = refl
 one_sorted [] (y ∷ ys) p q same =
     let own : has_parts (length y.rdns) y ≡ true = eq-eqb (length y.rdns) (length y.rdns) refl in
-    let e : [] ≡ y ∷ filter (has_parts (length y.rdns)) ys = same (length y.rdns) ∙ filter_first (has_parts (length y.rdns)) y ys own in
+    let e : [] ≡ y ∷ filter (has_parts (length y.rdns)) ys = same (length y.rdns)
+    ∙ filter_first (has_parts (length y.rdns)) y ys own in
     absurd cc
 one_sorted (x ∷ xs) [] p q same =
     let own : has_parts (length x.rdns) x ≡ true = eq-eqb (length x.rdns) (length x.rdns) refl in
-    let e : x ∷ filter (has_parts (length x.rdns)) xs ≡ [] = sym (filter_first (has_parts (length x.rdns)) x xs own) ∙ same (length x.rdns) in
+    let e : x ∷ filter (has_parts (length x.rdns)) xs ≡ [] = sym (filter_first (has_parts (length x.rdns)) x xs own)
+    ∙ same (length x.rdns) in
     absurd cc
 one_sorted (x ∷ xs) (y ∷ ys) p q same =
     let parts : length x.rdns ≡ length y.rdns = first_parts x y xs ys p.0 q.0 same in
     let own_x : has_parts (length x.rdns) x ≡ true = eq-eqb (length x.rdns) (length x.rdns) refl in
     let own_y : has_parts (length x.rdns) y ≡ true = eq-eqb (length y.rdns) (length x.rdns) (sym parts) in
     let firsts : x ∷ filter (has_parts (length x.rdns)) xs ≡ y ∷ filter (has_parts (length x.rdns)) ys =
-    sym (filter_first (has_parts (length x.rdns)) x xs own_x) ∙ same (length x.rdns) ∙ filter_first (has_parts (length x.rdns)) y ys own_y in
-    let first : x ≡ y = head_is x y (filter (has_parts (length x.rdns)) xs) (filter (has_parts (length x.rdns)) ys) firsts in
+    sym (filter_first (has_parts (length x.rdns)) x xs own_x) ∙ same (length x.rdns)
+    ∙ filter_first (has_parts (length x.rdns)) y ys own_y in
+    let first : x ≡ y = head_is x y (filter (has_parts (length x.rdns)) xs) (filter (has_parts (length x.rdns)) ys)
+    firsts in
     let tails : filter (has_parts (length x.rdns)) xs ≡ filter (has_parts (length x.rdns)) ys = tail_is x y
     (filter (has_parts (length x.rdns)) xs) (filter (has_parts (length x.rdns)) ys) firsts in
     let others : xs ≡ ys = one_sorted xs ys p.1 q.1 (rest parts tails) in
@@ -214,7 +231,8 @@ one_sorted (x ∷ xs) (y ∷ ys) p q same =
     rest : length x.rdns ≡ length y.rdns → filter (has_parts (length x.rdns)) xs
         ≡ filter (has_parts (length x.rdns)) ys → (n : ℕ) → filter (has_parts n) xs ≡ filter (has_parts n) ys
     rest parts tails n = elim (cases_Bool (has_parts n x)) [
-      | inl own ↦ subst (λ (k : ℕ). filter (has_parts k) xs ≡ filter (has_parts k) ys) (eqb-true (length x.rdns) n own) tails
+      | inl own ↦ subst (λ (k : ℕ). filter (has_parts k) xs ≡ filter (has_parts k) ys)
+          (eqb-true (length x.rdns) n own) tails
       | inr other ↦
           let other_y : has_parts n y ≡ false = subst (λ (k : ℕ). (k == n) ≡ false) parts other in
           sym (filter_other (has_parts n) x xs other) ∙ same n ∙ filter_other (has_parts n) y ys other_y
@@ -222,7 +240,8 @@ one_sorted (x ∷ xs) (y ∷ ys) p q same =
 
 -- ---- what a stable sort says
 
-head_passes : {X : Type 0} (test : X → Bool) (xs : List X) (r : X) (rest : List X) → filter test xs ≡ r ∷ rest → test r ≡ true
+head_passes : {X : Type 0} (test : X → Bool) (xs : List X) (r : X) (rest : List X) → filter test xs ≡ r ∷ rest
+    → test r ≡ true
 head_passes test [] r rest e = absurd cc
 head_passes test (x ∷ xs) r rest e = elim (cases_Bool (test x)) [
   | inl passes ↦ ap test (sym (head_is x r (filter test xs) rest (sym (filter_first test x xs passes) ∙ e))) ∙ passes
@@ -275,14 +294,17 @@ module _ {X : Type 0} (seen : X → Record) (xs ys : List X)
 
   stable_at : (x : X) → filter (λ (y : X). key y == key x) ys ≡ filter (λ (y : X). key y == key x) xs
   stable_at x =
-      let same : (y : X) → ties (λ (a b : X). is_lt (nat_cmp (key a) (key b))) x y ≡ (key y == key x) = λ y. ties_are (key x) (key y) in
-      sym (filter_same _ (λ (y : X). key y == key x) same ys) ∙ stable x ∙ filter_same _ (λ (y : X). key y == key x) same xs
+      let same : (y : X) → ties (λ (a b : X). is_lt (nat_cmp (key a) (key b))) x y ≡ (key y == key x) = λ y.
+      ties_are (key x) (key y) in
+      sym (filter_same _ (λ (y : X). key y == key x) same ys) ∙ stable x ∙ filter_same _ (λ (y : X). key y == key x)
+      same xs
 
   stable_for : (n : ℕ) → filter (λ (y : X). key y == n) ys ≡ filter (λ (y : X). key y == n) xs
   stable_for n = by (filter (λ (y : X). key y == n) ys) (filter (λ (y : X). key y == n) xs) refl refl
     where
       with_key : (x : X) → (key x == n) ≡ true → filter (λ (y : X). key y == n) ys ≡ filter (λ (y : X). key y == n) xs
-      with_key x own = subst (λ (k : ℕ). filter (λ (y : X). key y == k) ys ≡ filter (λ (y : X). key y == k) xs) (eqb-true (key x) n own) (stable_at x)
+      with_key x own = subst (λ (k : ℕ). filter (λ (y : X). key y == k) ys ≡ filter (λ (y : X). key y == k) xs)
+          (eqb-true (key x) n own) (stable_at x)
 
       by : (as' bs : List X) → filter (λ (y : X). key y == n) ys ≡ as' → filter (λ (y : X). key y == n) xs ≡ bs
           → filter (λ (y : X). key y == n) ys ≡ filter (λ (y : X). key y == n) xs
@@ -293,9 +315,11 @@ module _ {X : Type 0} (seen : X → Record) (xs ys : List X)
   pub is_sorted : map seen ys ≡ by_parts (map seen xs)
   is_sorted =
       one_sorted (map seen ys) (by_parts (map seen xs)) (rising ys rises) (by_parts_sorted (map seen xs))
-      (λ n. filter_seen seen n ys ∙ ap (map seen) (stable_for n) ∙ sym (filter_seen seen n xs) ∙ sym (by_parts_stable n (map seen xs)))
+      (λ n. filter_seen seen n ys ∙ ap (map seen) (stable_for n) ∙ sym (filter_seen seen n xs)
+      ∙ sym (by_parts_stable n (map seen xs)))
     where
-      from_at : (n : ℕ) (zs : List X) → ((j : ℕ) (d : X) → j < length zs → n ≤ key (get_or zs j d)) → FromParts n (map seen zs)
+      from_at : (n : ℕ) (zs : List X) → ((j : ℕ) (d : X) → j < length zs → n ≤ key (get_or zs j d))
+          → FromParts n (map seen zs)
       from_at n [] each = tt
       from_at n (z ∷ zs) each = (each 0 z (omega arith), from_at n zs (λ j d lt. each (suc j) d (omega (arith, lt))))
 

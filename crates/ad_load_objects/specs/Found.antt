@@ -11,8 +11,10 @@ use Rattle.ad_load_objects.specs.declared.found.Found.{Found}
 
 -- the schema has this attribute, or this class, by the name
 pub record IsFound (schema : List SchemaRecord) (one : Found) : Type 0 where
-  pub attr : IfSome one.attr (λ (id : AttrId). (attr_named schema one.name ≡ Some id) × (id.0 < length (attrs_of schema)))
-  pub class : IfSome one.class (λ (id : ClassId). (class_named schema one.name ≡ Some id) × (id.0 < length (classes_of schema)))
+  pub attr : IfSome one.attr (λ (id : AttrId). (attr_named schema one.name ≡ Some id)
+      × (id.0 < length (attrs_of schema)))
+  pub class : IfSome one.class (λ (id : ClassId). (class_named schema one.name ≡ Some id)
+      × (id.0 < length (classes_of schema)))
 
 abbrev pub AreFound : List SchemaRecord → List Found → Type 0
 AreFound schema found = AllByRecursion (IsFound schema) found

@@ -19,7 +19,8 @@ use Rattle.ad_load_objects.specs.Seen.{given_seen}
 
 -- by the attribute, and then by the number or the bytes
 abbrev pub key_cmp : ValueKey → ValueKey → Ordering
-key_cmp a b = ordering_then (nat_cmp a.attr b.attr) (ordering_then (option_cmp int_cmp a.number b.number) (slice_cmp nat_cmp a.bytes.items b.bytes.items))
+key_cmp a b = ordering_then (nat_cmp a.attr b.attr)
+    (ordering_then (option_cmp int_cmp a.number b.number) (slice_cmp nat_cmp a.bytes.items b.bytes.items))
 
 -- the bytes of a key; a number has none
 abbrev pub bytes_of : Key → List ℕ
@@ -39,7 +40,8 @@ has_key attr key g = g.attr == attr && same_key g.value.key key
 -- An attribute is among them exactly where a value is of it, and a key exactly where a value has it.
 pub record AreHad (given : List Given) (had : Had) : Type 0 where
   pub attrs : (attr : ℕ) → contains nat_cmp had.attrs attr ≡ list_any (is_given attr) given
-  pub values : (attr : ℕ) (key : Key) (one : ValueKey) → IsKeyOf attr key one → contains key_cmp had.values one ≡ list_any (has_key attr key) given
+  pub values : (attr : ℕ) (key : Key) (one : ValueKey) → IsKeyOf attr key one → contains key_cmp had.values one
+      ≡ list_any (has_key attr key) given
 
 -- The value stands after the others, or it is given back where this is true.
 abbrev pub PutsUnless : Bool → Given → List Given → List Given → Option HeldGiven → Type 0

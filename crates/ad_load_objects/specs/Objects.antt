@@ -39,7 +39,8 @@ is_object r = is_none r.kind
 -- before the first that has no fewer parts
 unfoldable pub put_by_parts : Record → List Record → List Record
 put_by_parts r [] = r ∷ []
-put_by_parts r (other ∷ others) = if nat_le (length r.rdns) (length other.rdns) then r ∷ other ∷ others else other ∷ put_by_parts r others
+put_by_parts r (other ∷ others) = if nat_le (length r.rdns) (length other.rdns) then r ∷ other ∷ others else other
+    ∷ put_by_parts r others
 
 unfoldable pub by_parts : List Record → List Record
 by_parts [] = []
@@ -78,7 +79,8 @@ is_named_by attr (rdn ∷ rdns) = same_name rdn.kind attr
 -- the classes so far, and that of one line more, where it is of objectClass
 unfoldable pub with_class : List SchemaRecord → ℕ → List ClassId → Field → Result (List ClassId) LoadFault
 with_class schema line classes field =
-    if is_object_class field.name then (ok_or (class_named schema field.value) (at line cause.Class) >>= λ class. Ok (classes ++ class ∷ []))
+    if is_object_class field.name then (ok_or (class_named schema field.value) (at line cause.Class) >>= λ class.
+    Ok (classes ++ class ∷ []))
     else Ok classes
 
 -- the classes that the lines name, where each names one
@@ -144,14 +146,19 @@ is_sid_used schema drafts (Some sid) = list_any (has_sid schema sid) drafts
 -- the value is the first of objectSid, and an object has that identifier already
 unfoldable pub is_sid_taken : List SchemaRecord → List Draft → List Given → ℕ → Value → Bool
 is_sid_taken schema drafts given attr value =
-    option_map_or (λ place. place == attr) (object_sid schema) false && not (list_any (is_given attr) given) && is_sid_used schema drafts (sid_of value.shown)
+    option_map_or (λ place. place == attr) (object_sid schema) false && not (list_any (is_given attr) given)
+    && is_sid_used schema drafts (sid_of value.shown)
 
 unfoldable pub with_value : List SchemaRecord → List Draft → Kept → ℕ → Field → Result Kept LoadFault
 with_value schema drafts kept attr field = do
   value ← value_of schema attr field
   _ ← need (not (is_one_too_many schema kept.given attr value)) (at field.line (cause.Value field.name))
   _ ← need (not (is_sid_taken schema drafts kept.given attr value)) (at field.line cause.Sid)
-  Ok (record { given = kept.given ++ record { line = field.line; spelled = field.name; attr = attr; value = value } ∷ []; sd = kept.sd })
+  Ok (record {
+    given = kept.given ++ record { line = field.line; spelled = field.name; attr = attr; value = value }
+        ∷ [];
+    sd = kept.sd;
+  })
 
 -- a line of an attribute of the schema
 unfoldable pub with_ordinary : List SchemaRecord → List Draft → ℕ → Kept → Field → Result Kept LoadFault
@@ -162,7 +169,8 @@ with_ordinary schema drafts class kept field = do
 -- nTSecurityDescriptor is no ordinary attribute, whether the schema names it or not.
 unfoldable pub with_line : List SchemaRecord → List Draft → ℕ → Kept → Field → Result Kept LoadFault
 with_line schema drafts class kept field =
-    if same_name field.name (codes "nTSecurityDescriptor") then with_sd kept field else with_ordinary schema drafts class kept field
+    if same_name field.name (codes "nTSecurityDescriptor") then with_sd kept field else with_ordinary schema drafts
+    class kept field
 
 unfoldable pub with_lines : List SchemaRecord → List Draft → ℕ → List Field → Result Kept LoadFault
 with_lines schema drafts class fields = through (with_line schema drafts class) nothing_kept fields
@@ -181,7 +189,8 @@ draft_of schema drafts r = do
 -- ---- all objects
 
 unfoldable pub with_record : List SchemaRecord → List Draft → Record → Result (List Draft) LoadFault
-with_record schema drafts r = if is_object r then (draft_of schema drafts r >>= λ draft. Ok (drafts ++ draft ∷ [])) else Ok drafts
+with_record schema drafts r = if is_object r then (draft_of schema drafts r >>= λ draft. Ok (drafts ++ draft ∷ []))
+    else Ok drafts
 
 unfoldable pub drafts_of : List SchemaRecord → List Record → Result (List Draft) LoadFault
 drafts_of schema records = do

@@ -1,4 +1,5 @@
-//! Which attribute a rule means. An attribute's own name is looked at first, since to look a name up takes much longer.
+//! Which attribute a rule means. An attribute's own name is looked at first, since to look a name up takes much
+//! longer.
 
 ghost use Rattle.std.specs.Prelude.{◌≡◌, ◌<◌, ◌==◌, length, false, codes};
 ghost use Rattle.std.specs.Option.{option_map_or};

@@ -31,7 +31,8 @@ fn add_class(
     field: &HeldLine,
 ) -> Result<(), LoadFault>
     requires { AreFound schema.now found.old.items }
-    ensures made { GivesUnless is_memory (λ _. classes.new.items) result (with_class schema.now line classes.old.items (held_field field.now)) }
+    ensures made { GivesUnless is_memory (λ _. classes.new.items) result
+        (with_class schema.now line classes.old.items (held_field field.now)) }
     ensures found { OnOk result (AreFound schema.now found.new.items) }
 {
     if !same_name(field.name.as_slice(), b"objectClass") {
@@ -55,7 +56,8 @@ fn classes_named(
     fields: &[HeldLine],
 ) -> Result<Vec<ClassId>, LoadFault>
     requires { AreFound schema.now found.old.items }
-    ensures made { GivesUnless is_memory (λ classes. classes.items) result (classes_named schema.now line (map held_field fields.now)) }
+    ensures made { GivesUnless is_memory (λ classes. classes.items) result
+        (classes_named schema.now line (map held_field fields.now)) }
     ensures found { OnOk result (AreFound schema.now found.new.items) }
 {
     let mut classes = Vec::with_capacity(alloc, MOST)?;
@@ -76,7 +78,8 @@ pub(crate) fn class_of(
     fields: &[HeldLine],
 ) -> Result<ClassId, LoadFault>
     requires { AreFound schema.now found.old.items }
-    ensures class { GivesUnless is_memory (λ class. class) result (class_of schema.now line (map held_field fields.now)) }
+    ensures class { GivesUnless is_memory (λ class. class) result
+        (class_of schema.now line (map held_field fields.now)) }
     ensures in_range { IfOk result (λ class. class.0 < length (classes_of schema.now)) }
     ensures found { OnOk result (AreFound schema.now found.new.items) }
 {

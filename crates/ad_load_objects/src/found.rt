@@ -95,7 +95,8 @@ fn put_at(schema: &Schema, found: &mut Vec<Found>, place: usize, one: Found)
 // The attribute that is kept at a place, where it was found by this name.
 fn attr_at(schema: &Schema, found: &[Found], place: usize, name: &[u8]) -> Option<AttrId>
     requires { AreFound schema.now found.now }
-    ensures { IfSome result (λ id. (attr_named schema.now name.now ≡ Some id) × (id.0 < length (attrs_of schema.now))) }
+    ensures { IfSome result (λ id. (attr_named schema.now name.now ≡ Some id)
+        × (id.0 < length (attrs_of schema.now))) }
 {
     kept_at(schema, found, place, name)?.attr
 }
@@ -109,7 +110,8 @@ pub(crate) fn attr_of(
 ) -> Result<Option<AttrId>, AllocError>
     requires { AreFound schema.now found.old.items }
     ensures attr { IfOk result (λ attr. attr ≡ attr_named schema.now name.now) }
-    ensures in_range { IfOk result (λ attr. IfSome attr (λ id. id.0 < length (attrs_of schema.now))) }
+    ensures in_range { IfOk result (λ attr.
+        IfSome attr (λ id. id.0 < length (attrs_of schema.now))) }
     ensures found { OnOk result (AreFound schema.now found.new.items) }
 {
     let place = place_of(name);
@@ -133,7 +135,8 @@ pub(crate) fn attr_of(
 // The class that is kept at a place, where it was found by this name.
 fn class_at(schema: &Schema, found: &[Found], place: usize, name: &[u8]) -> Option<ClassId>
     requires { AreFound schema.now found.now }
-    ensures { IfSome result (λ id. (class_named schema.now name.now ≡ Some id) × (id.0 < length (classes_of schema.now))) }
+    ensures { IfSome result (λ id. (class_named schema.now name.now ≡ Some id)
+        × (id.0 < length (classes_of schema.now))) }
 {
     kept_at(schema, found, place, name)?.class
 }
@@ -147,7 +150,8 @@ pub(crate) fn class_named(
 ) -> Result<Option<ClassId>, AllocError>
     requires { AreFound schema.now found.old.items }
     ensures class { IfOk result (λ class. class ≡ class_named schema.now name.now) }
-    ensures in_range { IfOk result (λ class. IfSome class (λ id. id.0 < length (classes_of schema.now))) }
+    ensures in_range { IfOk result (λ class.
+        IfSome class (λ id. id.0 < length (classes_of schema.now))) }
     ensures found { OnOk result (AreFound schema.now found.new.items) }
 {
     let place = PLACES.saturating_add(place_of(name));

@@ -72,8 +72,10 @@ pub(crate) fn note(
     one: &Given,
 ) -> Result<bool, AllocError>
     requires { AreHad (map given_seen items.now) had.old }
-    ensures new { IfOk result (λ new. new ≡ not (is_had single (given_seen one.now) (map given_seen items.now))) }
-    ensures had { IfOk result (λ _. AreHad (map given_seen items.now ++ given_seen one.now ∷ []) had.new) }
+    ensures new { IfOk result (λ new. new
+        ≡ not (is_had single (given_seen one.now) (map given_seen items.now))) }
+    ensures had { IfOk result (λ _. AreHad (map given_seen items.now ++ given_seen one.now ∷ [])
+        had.new) }
 {
     let _ = items;
     let key = key_of(alloc, one.attr, &one.value)?;

@@ -172,7 +172,8 @@ pub(crate) fn push(schema: &Schema, drafts: &mut Drafts, one: Keyed) -> Result<(
     requires indexed { IsIndexed drafts.old }
     requires sids { HasSids schema.now drafts.old }
     requires keyed { IsKeyed one }
-    ensures seen { OnOk result (drafts_seen drafts.new ≡ drafts_seen drafts.old ++ draft_seen one.draft ∷ []) }
+    ensures seen { OnOk result (drafts_seen drafts.new ≡ drafts_seen drafts.old
+        ++ draft_seen one.draft ∷ []) }
     ensures indexed { OnOk result (IsIndexed drafts.new) }
     ensures sids { OnOk result (HasSids schema.now drafts.new) }
 {

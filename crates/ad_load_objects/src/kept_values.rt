@@ -44,7 +44,8 @@ fn is_same_given(one: &Given, single: bool, attr: AttrId, value: &Value) -> bool
 }
 
 fn any_same(given: &[Given], single: bool, attr: AttrId, value: &Value) -> bool
-    ensures { result ≡ list_any (λ one. is_same_given single attr.0 value.now (given_seen one)) given.now }
+    ensures { result ≡ list_any (λ one. is_same_given single attr.0 value.now (given_seen one))
+        given.now }
 {
     given
         .iter()
@@ -70,7 +71,8 @@ fn is_given(given: &[Given], attr: AttrId) -> bool
 }
 
 fn push_few(items: &mut Vec<Given>, single: bool, one: Given) -> Result<Option<Given>, AllocError>
-    ensures { IfOk result (Puts single (given_seen one) (map given_seen items.old.items) (map given_seen items.new.items)) }
+    ensures { IfOk result (Puts single (given_seen one) (map given_seen items.old.items)
+        (map given_seen items.new.items)) }
 {
     if is_among(items.as_slice(), single, &one) {
         return Ok(Some(one));
@@ -89,8 +91,10 @@ fn push_known(
     one: Given,
 ) -> Result<Option<Given>, AllocError>
     requires { AreHad (map given_seen items.old.items) known.old }
-    ensures put { IfOk result (Puts single (given_seen one) (map given_seen items.old.items) (map given_seen items.new.items)) }
-    ensures had { IfOk result (λ again. again ≡ None → AreHad (map given_seen items.new.items) known.new) }
+    ensures put { IfOk result (Puts single (given_seen one) (map given_seen items.old.items)
+        (map given_seen items.new.items)) }
+    ensures had { IfOk result (λ again. again ≡ None → AreHad (map given_seen items.new.items)
+        known.new) }
 {
     if !note(alloc, known, items.as_slice(), single, &one)? {
         return Ok(Some(one));
@@ -108,7 +112,8 @@ fn push_many(
     one: Given,
 ) -> Result<(Option<Given>, Option<Had>), AllocError>
     requires { AreHad (map given_seen items.old.items) known }
-    ensures put { IfOk result (λ both. Puts single (given_seen one) (map given_seen items.old.items) (map given_seen items.new.items) both.0) }
+    ensures put { IfOk result (λ both. Puts single (given_seen one) (map given_seen items.old.items)
+        (map given_seen items.new.items) both.0) }
     ensures had { IfOk result (λ both. IfSome both.1 (AreHad (map given_seen items.new.items))) }
 {
     let mut known = known;
@@ -128,7 +133,8 @@ fn push(
     one: Given,
 ) -> Result<Option<Given>, AllocError>
     requires { IfSome had.old (AreHad (map given_seen items.old.items)) }
-    ensures put { IfOk result (Puts single (given_seen one) (map given_seen items.old.items) (map given_seen items.new.items)) }
+    ensures put { IfOk result (Puts single (given_seen one) (map given_seen items.old.items)
+        (map given_seen items.new.items)) }
     ensures had { IfSome had.new (AreHad (map given_seen items.new.items)) }
 {
     match had.take() {

@@ -30,7 +30,14 @@ use std::alloc::Global;
 
 // The draft that has what the lines gave.
 fn draft_with(dn: Dn, parent: u32, class: ClassId, kept: Kept) -> Draft
-    ensures { draft_seen result ≡ record { rdns = dn.rdns; parent = parent; class = class.0; given = (kept_seen kept).given; sd = (kept_seen kept).sd } }
+    ensures { draft_seen result ≡ record {
+      rdns = dn.rdns;
+      parent = parent;
+      class = class.0;
+      given
+          = (kept_seen kept).given;
+      sd = (kept_seen kept).sd;
+    } }
 {
     let Kept { given, sd } = kept;
     Draft {
@@ -66,9 +73,11 @@ fn standing_of(
     requires found { AreFound schema.now found.old.items }
     ensures stands { IfOk result (λ at. draft_of schema.now (drafts_seen drafts.now) (seen one.now)
         ≡ draft_at schema.now (drafts_seen drafts.now) at.parent at.class.0 (seen one.now)) }
-    ensures fault { IfErr result (λ fault. is_memory fault ≡ false → draft_of schema.now (drafts_seen drafts.now) (seen one.now) ≡ Err fault) }
+    ensures fault { IfErr result (λ fault. is_memory fault ≡ false
+        → draft_of schema.now (drafts_seen drafts.now) (seen one.now) ≡ Err fault) }
     ensures in_range { IfOk result (λ at. at.class.0 < length (classes_of schema.now)) }
-    ensures key { IfOk result (λ at. at.place ≡ place_key at.parent (naming_value one.now.dn.rdns)) }
+    ensures key { IfOk result (λ at. at.place
+        ≡ place_key at.parent (naming_value one.now.dn.rdns)) }
     ensures found { OnOk result (AreFound schema.now found.new.items) }
 {
     let line = one.line;
@@ -102,7 +111,8 @@ fn draft_of(
     requires indexed { IsIndexed drafts.now }
     requires sids { HasSids schema.now drafts.now }
     requires found { AreFound schema.now found.old.items }
-    ensures made { GivesUnless is_memory (λ made. draft_seen made.draft) result (draft_of schema.now (drafts_seen drafts.now) (seen one)) }
+    ensures made { GivesUnless is_memory (λ made. draft_seen made.draft) result
+        (draft_of schema.now (drafts_seen drafts.now) (seen one)) }
     ensures keyed { IfOk result IsKeyed }
     ensures found { OnOk result (AreFound schema.now found.new.items) }
 {
@@ -131,7 +141,8 @@ fn add_record(
     requires indexed { IsIndexed drafts.old }
     requires sids { HasSids schema.now drafts.old }
     requires found { AreFound schema.now found.old.items }
-    ensures made { GivesUnless is_memory (λ _. drafts_seen drafts.new) result (with_record schema.now (drafts_seen drafts.old) (seen one)) }
+    ensures made { GivesUnless is_memory (λ _. drafts_seen drafts.new) result
+        (with_record schema.now (drafts_seen drafts.old) (seen one)) }
     ensures indexed { OnOk result (IsIndexed drafts.new) }
     ensures sids { OnOk result (HasSids schema.now drafts.new) }
     ensures found { OnOk result (AreFound schema.now found.new.items) }
@@ -159,7 +170,8 @@ fn add_records(
     requires indexed { IsIndexed drafts.old }
     requires sids { drafts.old.sids.keys ≡ [] }
     requires found { AreFound schema.now found.old.items }
-    ensures drafts { GivesUnless is_memory (λ _. drafts_seen drafts.new) result (through (with_record schema.now) [] (map seen records.items)) }
+    ensures drafts { GivesUnless is_memory (λ _. drafts_seen drafts.new) result
+        (through (with_record schema.now) [] (map seen records.items)) }
     ensures few { OnOk result (length drafts.new.items.items ≤ 67108864) }
     ensures indexed { OnOk result (IsIndexed drafts.new) }
 {
@@ -172,7 +184,8 @@ fn add_records(
 // The drafts of sorted records.
 fn all_drafts(alloc: Global, schema: &Schema, records: Vec<Record>) -> Result<Drafts, LoadFault>
     requires { length records.items ≤ 67108864 }
-    ensures drafts { GivesUnless is_memory drafts_seen result (through (with_record schema.now) [] (map seen records.items)) }
+    ensures drafts { GivesUnless is_memory drafts_seen result
+        (through (with_record schema.now) [] (map seen records.items)) }
     ensures few { IfOk result (λ drafts. length drafts.items.items ≤ 67108864) }
     ensures indexed { IfOk result IsIndexed }
 {
@@ -187,7 +200,8 @@ fn all_drafts(alloc: Global, schema: &Schema, records: Vec<Record>) -> Result<Dr
 #[tactic(auto, unfolding(crate::specs::Objects::drafts_of))]
 pub fn drafts_of(alloc: Global, schema: &Schema, records: Vec<Record>) -> Result<Drafts, LoadFault>
     requires { length records.items ≤ 67108864 }
-    ensures drafts { GivesUnless is_memory drafts_seen result (drafts_of schema.now (map seen records.items)) }
+    ensures drafts { GivesUnless is_memory drafts_seen result
+        (drafts_of schema.now (map seen records.items)) }
     ensures few { IfOk result (λ drafts. length drafts.items.items ≤ 67108864) }
     ensures indexed { IfOk result IsIndexed }
 {

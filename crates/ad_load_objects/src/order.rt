@@ -10,7 +10,8 @@ use std::alloc::AllocError;
 
 /// Sorts records by the number of parts of their names. Those of one number keep their order.
 pub(crate) fn sort_by_parts(records: &mut Vec<Record>) -> Result<(), AllocError>
-    ensures sorted { OnOk result (map seen records.new.items ≡ by_parts (map seen records.old.items)) }
+    ensures sorted { OnOk result (map seen records.new.items
+        ≡ by_parts (map seen records.old.items)) }
     ensures len { length records.new.items ≡ length records.old.items }
 {
     records.sort_by_key(|one| one.dn.rdns.len())?;

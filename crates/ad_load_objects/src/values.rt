@@ -55,7 +55,8 @@ fn bad_value(alloc: Global, line: u32, name: &Bytes) -> LoadFault
 
 // The same where there is no attribute of the name.
 fn bad_attribute(alloc: Global, field: &HeldLine) -> LoadFault
-    ensures { is_memory result ≡ false → result ≡ at field.now.line (cause.Attribute field.now.name) }
+    ensures { is_memory result ≡ false → result
+        ≡ at field.now.line (cause.Attribute field.now.name) }
 {
     match field.name.copy(alloc) {
         Ok(name) => bad(field.line, LoadCause::Attribute(name)),
@@ -70,7 +71,8 @@ fn read_descriptor(
     last: &mut Option<ReadSd>,
     field: &HeldLine,
 ) -> Result<Rc<NormalSd>, LoadFault>
-    ensures { GivesUnless is_memory (λ sd. sd.value) result (or_fault (at field.now.line cause.Descriptor) (sd_of (bytes_of field.now.held))) }
+    ensures { GivesUnless is_memory (λ sd. sd.value) result
+        (or_fault (at field.now.line cause.Descriptor) (sd_of (bytes_of field.now.held))) }
 {
     match read_again(alloc, last, field.value()) {
         Ok(sd) => Ok(sd),
@@ -87,7 +89,8 @@ fn take_sd(
     kept: &mut Kept,
     field: &HeldLine,
 ) -> Result<(), LoadFault>
-    ensures { GivesUnless is_memory (λ _. kept_seen kept.new) result (with_sd (kept_seen kept.old) (held_field field.now)) }
+    ensures { GivesUnless is_memory (λ _. kept_seen kept.new) result
+        (with_sd (kept_seen kept.old) (held_field field.now)) }
 {
     if kept.sd.is_some() {
         return Err(bad(field.line, LoadCause::Descriptor));
@@ -136,7 +139,8 @@ fn value_of(
     field: &HeldLine,
 ) -> Result<Value, LoadFault>
     requires { attr.0 < length (attrs_of schema.now) }
-    ensures { GivesUnless is_memory (λ value. value) result (value_of schema.now attr.0 (held_field field.now)) }
+    ensures { GivesUnless is_memory (λ value. value) result
+        (value_of schema.now attr.0 (held_field field.now)) }
 {
     if is_password(schema, attr) {
         return Ok(digest_of(alloc, field.value())?);
@@ -164,7 +168,8 @@ fn put_value(
     one: Given,
 ) -> Result<Option<Given>, AllocError>
     requires { one.attr.0 < length (attrs_of schema.now) }
-    ensures { IfOk result (PutsUnless (is_one_too_many schema.now given.old one.attr.0 one.value) (given_seen one) given.old given.new) }
+    ensures { IfOk result (PutsUnless (is_one_too_many schema.now given.old one.attr.0 one.value)
+        (given_seen one) given.old given.new) }
 {
     let single = is_single(schema, one.attr);
     given.push(alloc, single, one)
@@ -200,7 +205,8 @@ fn take_value(
     requires attr { attr.0 < length (attrs_of schema.now) }
     requires sids { HasSids schema.now drafts.now }
     ensures { GivesUnless is_memory (λ _. kept_seen kept.new) result
-        (with_value schema.now (drafts_seen drafts.now) (kept_seen kept.old) attr.0 (held_field field)) }
+        (with_value schema.now (drafts_seen drafts.now) (kept_seen kept.old) attr.0
+        (held_field field)) }
 {
     let line = field.line;
     let value = value_of(alloc, schema, attr, &field)?;
@@ -236,7 +242,8 @@ fn take_ordinary(
     requires sids { HasSids schema.now drafts.now }
     requires found { AreFound schema.now found.old.items }
     ensures made { GivesUnless is_memory (λ _. kept_seen kept.new) result
-        (with_ordinary schema.now (drafts_seen drafts.now) class.0 (kept_seen kept.old) (held_field field)) }
+        (with_ordinary schema.now (drafts_seen drafts.now) class.0 (kept_seen kept.old)
+        (held_field field)) }
     ensures found { OnOk result (AreFound schema.now found.new.items) }
 {
     match attr_of(alloc, schema, found, field.name.as_slice())? {
@@ -272,7 +279,8 @@ fn take_line(
     requires sids { HasSids schema.now drafts.now }
     requires found { AreFound schema.now found.old.items }
     ensures made { GivesUnless is_memory (λ _. kept_seen kept.new) result
-        (with_line schema.now (drafts_seen drafts.now) class.0 (kept_seen kept.old) (held_field field)) }
+        (with_line schema.now (drafts_seen drafts.now) class.0 (kept_seen kept.old)
+        (held_field field)) }
     ensures found { OnOk result (AreFound schema.now found.new.items) }
 {
     if is_descriptor(&field) {
@@ -306,7 +314,8 @@ pub(crate) fn take_lines(
     requires class { class.0 < length (classes_of schema.now) }
     requires sids { HasSids schema.now drafts.now }
     requires found { AreFound schema.now found.old.items }
-    ensures made { GivesUnless is_memory kept_seen result (with_lines schema.now (drafts_seen drafts.now) class.0 (map held_field fields.items)) }
+    ensures made { GivesUnless is_memory kept_seen result
+        (with_lines schema.now (drafts_seen drafts.now) class.0 (map held_field fields.items)) }
     ensures found { OnOk result (AreFound schema.now found.new.items) }
 {
     let mut kept = nothing_kept(alloc, fields.len())?;

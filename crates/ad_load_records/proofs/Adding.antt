@@ -34,17 +34,19 @@ pub fault_of_schema : {A : Type 0} (line : ℕ) (f : SchemaFault) (r : Result A 
 fault_of_schema line f r g m = ap (fault_as (of_schema line)) (g (same_memory line f m))
 
 -- one record at least as long
-one_more : (records next : List SchemaRecord) (kind : SchemaKind) (lines : List Line) → added records kind lines ≡ Ok next → length next ≤ length records + 1
+one_more : (records next : List SchemaRecord) (kind : SchemaKind) (lines : List Line) → added records kind lines
+    ≡ Ok next → length next ≤ length records + 1
 unfolding added
-one_more records next kind lines e = by (checked kind lines) (none_of fault.Repeated (repeated records kind lines)) e where
-  by : (a b : Result (Unit {0}) SchemaFault) → (a >>= λ _. b >>= λ _. Ok
-      (records ++ record { kind = kind; lines = lines } ∷ [])) ≡ Ok next → length next ≤ length records + 1
-  by (Err f) b q = absurd cc
-  by (Ok u) (Err f) q = absurd cc
-  by (Ok u) (Ok v) q =
-      let last : List SchemaRecord = record { kind = kind; lines = lines } ∷ [] in
-      let same : records ++ last ≡ next = cc in
-      omega (arith, ap length same, length-append records last)
+one_more records next kind lines e = by (checked kind lines) (none_of fault.Repeated (repeated records kind lines)) e
+  where
+    by : (a b : Result (Unit {0}) SchemaFault) → (a >>= λ _. b >>= λ _. Ok
+        (records ++ record { kind = kind; lines = lines } ∷ [])) ≡ Ok next → length next ≤ length records + 1
+    by (Err f) b q = absurd cc
+    by (Ok u) (Err f) q = absurd cc
+    by (Ok u) (Ok v) q =
+        let last : List SchemaRecord = record { kind = kind; lines = lines } ∷ [] in
+        let same : records ++ last ≡ next = cc in
+        omega (arith, ap length same, length-append records last)
 
 pub added_more : (records next : List SchemaRecord) (line : ℕ) (kind : Option SchemaKind) (fields : List Field)
     → added_if records line kind fields ≡ Ok next → length next ≤ length records + 1
@@ -57,7 +59,8 @@ added_more records next line (Some kind) fields e = by (added records kind (map 
 
 -- ---- the loop
 
-next_added : (records : List Held) (i : ℕ) (one : Held) (schema : List SchemaRecord) → i < length records → get_or records i one ≡ one
+next_added : (records : List Held) (i : ℕ) (one : Held) (schema : List SchemaRecord) → i < length records
+    → get_or records i one ≡ one
     → all_added schema (map seen (drop i records)) ≡ (added_if schema (seen one).line (seen one).kind
     (seen one).fields >>= λ next. all_added next (map seen (drop (i + 1) records)))
 unfolding all_added
@@ -76,15 +79,18 @@ pub one_refused : (records : List Held) (i : ℕ) (one : Held) (schema : List Sc
 one_refused records i one schema f lt is e = next_added records i one schema lt is
     ∙ ap (λ (r : Result (List SchemaRecord) LoadFault). r >>= λ x. all_added x (map seen (drop (i + 1) records))) e
 
-pub all_are_added : (records : List Held) (i : ℕ) (schema : List SchemaRecord) → length records ≤ i → all_added schema (map seen (drop i records)) ≡ Ok schema
+pub all_are_added : (records : List Held) (i : ℕ) (schema : List SchemaRecord) → length records ≤ i
+    → all_added schema (map seen (drop i records)) ≡ Ok schema
 unfolding all_added
 all_are_added records i schema le = ap (λ rs. all_added schema (map seen rs)) (drop_all i records le)
 
 pub refused : (records : List Record) (f : LoadFault) → all_added [] records ≡ Err f → schema_of records ≡ Err f
 unfolding schema_of
-refused records f e = ap (λ (r : Result (List SchemaRecord) LoadFault). r >>= λ schema. fault_as (of_schema 0) (finished schema)) e
+refused records f e = ap (λ (r : Result (List SchemaRecord) LoadFault). r >>= λ schema.
+    fault_as (of_schema 0) (finished schema)) e
 
 pub all_done : (records : List Record) (schema : List SchemaRecord) → all_added [] records ≡ Ok schema
     → schema_of records ≡ fault_as (of_schema 0) (finished schema)
 unfolding schema_of
-all_done records schema e = ap (λ (r : Result (List SchemaRecord) LoadFault). r >>= λ x. fault_as (of_schema 0) (finished x)) e
+all_done records schema e = ap (λ (r : Result (List SchemaRecord) LoadFault). r >>= λ x.
+    fault_as (of_schema 0) (finished x)) e

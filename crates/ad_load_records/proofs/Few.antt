@@ -1,8 +1,10 @@
 -- A text has no more records than bytes.
-use Rattle.std.proofs.Common.{◌≡◌, ℕ, ◌+◌, ◌≤◌, Bool, true, false, Option, Some, None, Result, Ok, Err, List, [], ◌∷◌, ◌++◌, length, eqb, refl, ap, arith}
+use Rattle.std.proofs.Common.{◌≡◌, ℕ, ◌+◌, ◌≤◌, Bool, true, false, Option, Some, None, Result, Ok, Err, List, [], ◌∷◌}
+use Rattle.std.proofs.Common.{◌++◌, length, eqb, refl, ap, arith}
 use Rattle.std.specs.Prelude.{◌&&◌, if◌then◌else◌}
 use Rattle.ad_bytes.specs.Reading.{◌>>=◌}
-use Rattle.ad_ldif.specs.Lines.{Line, Block, begins_with, is_empty, lengthened, physical, continuation, logical, lines_from, lines_before_empty, blocks}
+use Rattle.ad_ldif.specs.Lines.{Line, Block, begins_with, is_empty, lengthened, physical, continuation, logical}
+use Rattle.ad_ldif.specs.Lines.{lines_from, lines_before_empty, blocks}
 use Rattle.ad_ldif.specs.Records.{Entry, Fault, record_of as entry_at}
 use Rattle.ad_ldif.specs.Story.{Story, told, story_of, story_from}
 use Rattle.ad_load_records.specs.declared.fault.LoadFault.{LoadFault}
@@ -24,7 +26,8 @@ physical_few (b ∷ rest) =
     let one : length (lengthened b (physical rest)) ≤ length (physical rest) + 1 = lengthened_one b (physical rest) in
     if_at_most length (eqb b 13 && begins_with 10 rest) (physical rest)
     (if eqb b 10 then [] ∷ physical rest else lengthened b (physical rest)) (length (b ∷ rest)) (omega arith)
-    (if_at_most length (eqb b 10) ([] ∷ physical rest) (lengthened b (physical rest)) (length (b ∷ rest)) (omega arith) (omega arith))
+    (if_at_most length (eqb b 10) ([] ∷ physical rest) (lengthened b (physical rest)) (length (b ∷ rest))
+    (omega arith) (omega arith))
 
 logical_few : (open_line : Bool) (n : ℕ) (lines : List (List ℕ)) → length (logical open_line n lines) ≤ length lines
 unfolding logical
@@ -61,23 +64,26 @@ story_few : (bs : List Block) → length (story_of bs).records ≤ length bs
 unfolding story_of
 story_few [] = omega arith
 story_few (b ∷ bs) =
-    let one : length (told (entry_at b) (story_of bs)).records ≤ length bs + 1 = told_few (entry_at b) (story_of bs) (length bs) (story_few bs) in
+    let one : length (told (entry_at b) (story_of bs)).records ≤ length bs + 1 = told_few (entry_at b) (story_of bs)
+    (length bs) (story_few bs) in
     omega arith
 
-records_as_many : (stop : Option Fault) (entries : List Entry) (rs : List Record) → records_of stop entries ≡ Ok rs → length rs ≤ length entries
+records_as_many : (stop : Option Fault) (entries : List Entry) (rs : List Record) → records_of stop entries ≡ Ok rs
+    → length rs ≤ length entries
 unfolding records_of
 records_as_many None [] rs e = let same : [] ≡ rs = cc in omega (arith, ap length same)
 records_as_many (Some f) [] rs e = absurd cc
-records_as_many stop (entry ∷ entries) rs e = by (record_of entry) (records_of stop entries) (records_as_many stop entries) e where
-  by : (first : Result Record LoadFault) (others : Result (List Record) LoadFault)
-      → ((xs : List Record) → others ≡ Ok xs → length xs ≤ length entries)
-      → (first >>= λ x. others >>= λ xs. Ok (x ∷ xs)) ≡ Ok rs → length rs ≤ length (entry ∷ entries)
-  by (Err f) others few q = absurd cc
-  by (Ok x) (Err f) few q = absurd cc
-  by (Ok x) (Ok xs) few q =
-      let same : x ∷ xs ≡ rs = cc in
-      let le : length xs ≤ length entries = few xs refl in
-      omega (arith, ap length same)
+records_as_many stop (entry ∷ entries) rs e = by (record_of entry) (records_of stop entries)
+    (records_as_many stop entries) e where
+      by : (first : Result Record LoadFault) (others : Result (List Record) LoadFault)
+          → ((xs : List Record) → others ≡ Ok xs → length xs ≤ length entries)
+          → (first >>= λ x. others >>= λ xs. Ok (x ∷ xs)) ≡ Ok rs → length rs ≤ length (entry ∷ entries)
+      by (Err f) others few q = absurd cc
+      by (Ok x) (Err f) few q = absurd cc
+      by (Ok x) (Ok xs) few q =
+          let same : x ∷ xs ≡ rs = cc in
+          let le : length xs ≤ length entries = few xs refl in
+          omega (arith, ap length same)
 
 pub few_from : (n : ℕ) (text : List ℕ) (rs : List Record) → all_of (story_from n text) ≡ Ok rs → length rs ≤ length text
 unfolding lines_from

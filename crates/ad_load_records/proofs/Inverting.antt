@@ -5,11 +5,13 @@ use Rattle.ad_bytes.specs.Reading.{◌>>=◌, need, or_fault}
 use Rattle.ad_schema.specs.declared.fault.SchemaFault.{SchemaFault}
 use Rattle.ad_load_records.specs.declared.fault.LoadFault.{LoadFault}
 
-pub bind_ok : {A B E : Type 0} (r : Result A E) (f : A → Result B E) (y : B) → (r >>= f) ≡ Ok y → (x : A) × (r ≡ Ok x) × (f x ≡ Ok y)
+pub bind_ok : {A B E : Type 0} (r : Result A E) (f : A → Result B E) (y : B) → (r >>= f) ≡ Ok y → (x : A) × (r ≡ Ok x)
+    × (f x ≡ Ok y)
 bind_ok (Ok x) f y e = (x, refl, e)
 bind_ok (Err g) f y e = absurd cc
 
-pub need_ok : {B E : Type 0} (b : Bool) (g : E) (f : Unit {0} → Result B E) (y : B) → (need b g >>= f) ≡ Ok y → (b ≡ true) × (f tt ≡ Ok y)
+pub need_ok : {B E : Type 0} (b : Bool) (g : E) (f : Unit {0} → Result B E) (y : B) → (need b g >>= f) ≡ Ok y
+    → (b ≡ true) × (f tt ≡ Ok y)
 need_ok true g f y e = (refl, e)
 need_ok false g f y e = absurd cc
 

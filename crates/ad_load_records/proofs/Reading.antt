@@ -47,7 +47,8 @@ pub kind_none : (lines : List HeldLine) (i : ℕ) → length lines ≤ i → kin
 unfolding kind_of
 kind_none lines i le = ap (λ ls. kind_of (map held_field ls)) (drop_all i lines le)
 
-pub more_told : (before after : Story) (entry : Entry) → before ≡ told (Ok entry) after → all_of before ≡ first_then (record_of entry) (all_of after)
+pub more_told : (before after : Story) (entry : Entry) → before ≡ told (Ok entry) after → all_of before
+    ≡ first_then (record_of entry) (all_of after)
 unfolding records_of
 more_told before after entry e = ap all_of e
 
@@ -55,7 +56,8 @@ pub none_told : (before : Story) → before ≡ nothing → all_of before ≡ Ok
 unfolding records_of
 none_told before e = ap all_of e
 
-pub stop_told : (before after : Story) (f : LdifFault) → Tells before (Err f) after → is_memory (of_reader f) ≡ false → all_of before ≡ Err (of_reader f)
+pub stop_told : (before after : Story) (f : LdifFault) → Tells before (Err f) after → is_memory (of_reader f) ≡ false
+    → all_of before ≡ Err (of_reader f)
 unfolding records_of
 stop_told before after (reader.Bad n k) t m = ap all_of t
 stop_told before after reader.Memory t m = absurd (true≢false m)

@@ -1,5 +1,6 @@
 -- No value of a text that was read is too long, so none of its schema is.
-use Rattle.std.proofs.Common.{◌≡◌, ℕ, Bool, true, false, Option, Some, None, Result, Ok, Err, List, [], ◌∷◌, ◌++◌, length, map, refl, sym, ap, subst, ◌∙◌}
+use Rattle.std.proofs.Common.{◌≡◌, ℕ, Bool, true, false, Option, Some, None, Result, Ok, Err, List, [], ◌∷◌, ◌++◌}
+use Rattle.std.proofs.Common.{length, map, refl, sym, ap, subst, ◌∙◌}
 use Rattle.std.specs.Prelude.{nat_le, if◌then◌else◌, ok_or, is_some, codes}
 use Rattle.std.specs.List.{AllByRecursion, list_all}
 use Rattle.std.proofs.lemmas.Bool.{and_from}
@@ -25,7 +26,8 @@ use Rattle.ad_dir_model.specs.Limits.{max_text as max_value}
 use Rattle.ad_dir_model.specs.Soundness.{is_short_record}
 use Rattle.ad_load_records.specs.declared.fault.LoadCause.TheVariants as cause
 use Rattle.ad_load_records.specs.Faults.{at, of_all, of_schema}
-use Rattle.ad_load_records.specs.Records.{Record, kind_of, may_be_named, max_text, record_of, records_of, all_of, records_in}
+use Rattle.ad_load_records.specs.Records.{Record, kind_of, may_be_named, max_text, record_of, records_of, all_of}
+use Rattle.ad_load_records.specs.Records.{records_in}
 use Rattle.ad_load_records.specs.Schema.{line_of, added_if, all_added, schema_of}
 use Rattle.ad_load_records.proofs.Inverting.{bind_ok, need_ok, load_is, schema_is, and_true}
 
@@ -72,7 +74,8 @@ opening_short line fields e =
     let a = bind_ok (is_changetype line) _ fields e in
     by a.0 a.2
   where
-    by : (test : Bool) → (if test then Ok [] else (field_at line >>= λ field. Ok (field ∷ []))) ≡ Ok fields → AreShort fields
+    by : (test : Bool) → (if test then Ok [] else (field_at line >>= λ field. Ok (field ∷ []))) ≡ Ok fields
+        → AreShort fields
     by true q = let same : [] ≡ fields = cc in subst AreShort same tt
     by false q =
         let b = bind_ok (field_at line) _ fields q in
@@ -121,7 +124,13 @@ record_short entry r short e =
     let a = bind_ok (ok_or (dn_of entry.dn) (at entry.line cause.Dn)) _ r e in
     let dn : Dn = a.0 in
     let b = need_ok (may_be_named (kind_of entry.fields) dn.rdns) (at entry.line cause.Dn) _ r a.2 in
-    let made : Record = record { line = entry.line; rdns = dn.rdns; kind = kind_of entry.fields; fields = entry.fields } in
+    let made : Record = record {
+      line = entry.line;
+      rdns = dn.rdns;
+      kind = kind_of entry.fields;
+      fields
+          = entry.fields;
+    } in
     subst HasShortFields (load_is made r b.1) short
 
 records_short : (stop : Option Fault) (entries : List Entry) (rs : List Record) → AllByRecursion HasShort entries
@@ -133,17 +142,23 @@ records_short stop (entry ∷ entries) rs all e =
     let a = bind_ok (record_of entry) _ rs e in
     let b = bind_ok (records_of stop entries) _ rs a.2 in
     let same : a.0 ∷ b.0 ≡ rs = cc in
-    subst (AllByRecursion HasShortFields) same (record_short entry a.0 all.0 a.1, records_short stop entries b.0 all.1 b.1)
+    subst (AllByRecursion HasShortFields) same (
+      record_short entry a.0 all.0 a.1,
+      records_short stop entries b.0 all.1
+          b.1,
+    )
 
 pub text_short : (text : List ℕ) (rs : List Record) → records_in text ≡ Ok rs → AllByRecursion HasShortFields rs
 unfolding records_in story
 text_short text rs e =
-    let a = need_ok (nat_le (length text) max_text) (of_all cause.TooLong) (λ (u : Unit {0}). all_of (story text)) rs e in
+    let a = need_ok (nat_le (length text) max_text) (of_all cause.TooLong) (λ (u : Unit {0}). all_of (story text)) rs
+    e in
     records_short (story text).stop (story text).records rs (story_short (blocks false (lines_from 1 text))) a.1
 
 -- ---- the schema
 
-lines_short : (fields : List Field) → AreShort fields → list_all (λ (line : SchemaLine). nat_le (length line.value) max_value) (map line_of fields) ≡ true
+lines_short : (fields : List Field) → AreShort fields
+    → list_all (λ (line : SchemaLine). nat_le (length line.value) max_value) (map line_of fields) ≡ true
 unfolding max_value
 lines_short [] all = refl
 lines_short (f ∷ fields) all = and_from _ _ all.0 (lines_short fields all.1)
@@ -182,7 +197,8 @@ all_short : (schema end : List SchemaRecord) (records : List Record) → AllByRe
     → list_all is_short_record schema ≡ true → all_added schema records ≡ Ok end
     → list_all is_short_record end ≡ true
 unfolding all_added
-all_short schema end [] short all e = let same : schema ≡ end = cc in subst (λ (rs : List SchemaRecord). list_all is_short_record rs ≡ true) same all
+all_short schema end [] short all e = let same : schema ≡ end = cc
+    in subst (λ (rs : List SchemaRecord). list_all is_short_record rs ≡ true) same all
 all_short schema end (r ∷ records) short all e =
     let a = bind_ok (added_if schema r.line r.kind r.fields) _ end e in
     all_short a.0 end records short.1 (if_short schema a.0 r.line r.kind r.fields short.0 all a.1) a.2
@@ -191,7 +207,8 @@ finished_same : (schema end : List SchemaRecord) → finished schema ≡ Ok end 
 unfolding finished
 finished_same schema end e =
     let a = bind_ok (none_of schema_fault.Unknown (unknown schema)) _ end e in
-    let b = need_ok (is_some (place_of (names_of Attribute schema) (codes "cn"))) (schema_fault.Unknown (codes "cn")) _ end a.2 in
+    let b = need_ok (is_some (place_of (names_of Attribute schema) (codes "cn"))) (schema_fault.Unknown (codes "cn"))
+    _ end a.2 in
     let c = bind_ok (none_of schema_fault.Loop (endless schema)) _ end b.1 in
     schema_is schema end c.2
 
@@ -201,4 +218,5 @@ unfolding schema_of
 schema_short records schema short e =
     let a = bind_ok (all_added [] records) _ schema e in
     let same : a.0 ≡ schema = finished_same a.0 schema (fault_as_ok (of_schema 0) (finished a.0) schema a.2) in
-    subst (λ (rs : List SchemaRecord). list_all is_short_record rs ≡ true) same (all_short [] a.0 records short refl a.1)
+    subst (λ (rs : List SchemaRecord). list_all is_short_record rs ≡ true) same
+    (all_short [] a.0 records short refl a.1)

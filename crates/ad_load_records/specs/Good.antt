@@ -19,4 +19,5 @@ pub record IsGoodRecord (r : Record) : Type 0 where
 
 -- what a value shows reads back
 abbrev pub ReadsBack : Type 0
-ReadsBack = (s : Syntax) (bytes : List ℕ) (v : Value) → IsBytes bytes → normal_or_fault s bytes ≡ Ok v → normal_or_fault s v.shown ≡ Ok v
+ReadsBack = (s : Syntax) (bytes : List ℕ) (v : Value) → IsBytes bytes → normal_or_fault s bytes ≡ Ok v
+    → normal_or_fault s v.shown ≡ Ok v

@@ -1,5 +1,6 @@
 -- Phase 1: the records of the file in their order, each with its name after its grammar.
-use Rattle.std.specs.Prelude.{ℕ, nat_le, Bool, true, false, if◌then◌else◌, codes, Option, Some, None, ok_or, List, [], ◌∷◌, length, Result, Ok, Err}
+use Rattle.std.specs.Prelude.{ℕ, nat_le, Bool, true, false, if◌then◌else◌, codes, Option, Some, None, ok_or, List, []}
+use Rattle.std.specs.Prelude.{◌∷◌, length, Result, Ok, Err}
 use Rattle.std.specs.Option.{option_or}
 use Rattle.ad_bytes.specs.Reading.{◌>>=◌, need}
 use Rattle.ad_dn.specs.declared.rdn.Rdn.{Rdn}

@@ -1,7 +1,8 @@
 //! The records of a text that comes in pieces. Each is read as soon as it is whole, so that the text is never held
 //! as a whole.
 
-ghost use Rattle.std.specs.Prelude.{◌≡◌, ◌+◌, ◌<◌, ◌≤◌, ◌++◌, ℕ, List, [], true, false, map, take, drop, length, Ok, Err};
+ghost use Rattle.std.specs.Prelude.{◌≡◌, ◌+◌, ◌<◌, ◌≤◌, ◌++◌, ℕ, List, [], true, false, map, take, drop, length, Ok};
+ghost use Rattle.std.specs.Prelude.{Err};
 ghost use Rattle.std.specs.Prelude.{IfOk, IfErr};
 ghost use Rattle.ad_bytes.specs.Reading.{GivesUnless};
 ghost use Rattle.ad_ldif.specs.Pieces.{EndsRecord};
@@ -70,12 +71,15 @@ impl Front {
         requires range { self.old.line + length self.old.held.items ≤ 67108865 }
         ensures next { IfOk result (λ _. (rest : List ℕ)
             → read_on (map seen self.old.records.items) self.old.line (self.old.held.items ++ rest)
-            ≡ read_on (map seen self.new.records.items) self.new.line (self.new.held.items ++ rest)) }
-        ensures range { IfOk result (λ _. self.new.line + length self.new.held.items ≤ self.old.line + length self.old.held.items) }
+            ≡ read_on (map seen self.new.records.items) self.new.line
+            (self.new.held.items ++ rest)) }
+        ensures range { IfOk result (λ _. self.new.line + length self.new.held.items ≤ self.old.line
+            + length self.old.held.items) }
         ensures few { IfOk result (λ _. length self.new.records.items + length self.new.held.items
             ≤ length self.old.records.items + length self.old.held.items) }
         ensures fault { IfErr result (λ f. is_memory f ≡ false → (rest : List ℕ)
-            → read_on (map seen self.old.records.items) self.old.line (self.old.held.items ++ rest) ≡ Err f) }
+            → read_on (map seen self.old.records.items) self.old.line (self.old.held.items ++ rest)
+            ≡ Err f) }
     {
         let kept = mem::replace(&mut self.kept, Kept::nothing());
         let text = &self.held[..end];
@@ -90,14 +94,17 @@ impl Front {
     fn push(&mut self, alloc: Global, piece: &[u8]) -> Result<(), LoadFault>
         requires { self.old.line + length self.old.held.items + length piece.now ≤ 67108865 }
         ensures next { IfOk result (λ _. (rest : List ℕ)
-            → read_on (map seen self.old.records.items) self.old.line (self.old.held.items ++ (piece.now ++ rest))
-            ≡ read_on (map seen self.new.records.items) self.new.line (self.new.held.items ++ rest)) }
+            → read_on (map seen self.old.records.items) self.old.line
+            (self.old.held.items ++ (piece.now ++ rest))
+            ≡ read_on (map seen self.new.records.items) self.new.line
+            (self.new.held.items ++ rest)) }
         ensures range { IfOk result (λ _. self.new.line + length self.new.held.items
             ≤ self.old.line + length self.old.held.items + length piece.now) }
         ensures few { IfOk result (λ _. length self.new.records.items + length self.new.held.items
             ≤ length self.old.records.items + length self.old.held.items + length piece.now) }
         ensures fault { IfErr result (λ f. is_memory f ≡ false → (rest : List ℕ)
-            → read_on (map seen self.old.records.items) self.old.line (self.old.held.items ++ (piece.now ++ rest)) ≡ Err f) }
+            → read_on (map seen self.old.records.items) self.old.line
+            (self.old.held.items ++ (piece.now ++ rest)) ≡ Err f) }
     {
         // The two bytes before the piece may begin the end of a record.
         let from = self.held.len().saturating_sub(2);
@@ -172,10 +179,14 @@ impl Pieces {
 
     /// Takes the next piece; false where the text is too long, with more than 67,108,864 bytes, whatever comes.
     pub fn push(&mut self, alloc: Global, piece: &[u8]) -> Result<bool, AllocError>
-        ensures more { IfOk result (λ more. more ≡ nat_le (self.old.count + length piece.now) max_text) }
-        ensures count { IfOk result (λ more. more ≡ true → self.new.count ≡ self.old.count + length piece.now) }
-        ensures next { IfOk result (λ more. more ≡ true → (rest : List ℕ) → gives self.old (piece.now ++ rest) ≡ gives self.new rest) }
-        ensures long { IfOk result (λ more. more ≡ false → (rest : List ℕ) → gives self.old (piece.now ++ rest) ≡ Err (of_all TooLong)) }
+        ensures more { IfOk result (λ more. more ≡ nat_le (self.old.count + length piece.now)
+            max_text) }
+        ensures count { IfOk result (λ more. more ≡ true → self.new.count ≡ self.old.count
+            + length piece.now) }
+        ensures next { IfOk result (λ more. more ≡ true → (rest : List ℕ)
+            → gives self.old (piece.now ++ rest) ≡ gives self.new rest) }
+        ensures long { IfOk result (λ more. more ≡ false → (rest : List ℕ)
+            → gives self.old (piece.now ++ rest) ≡ Err (of_all TooLong)) }
     {
         if piece.len() > MAX_TEXT - self.count {
             return Ok(false);
@@ -209,7 +220,8 @@ impl Pieces {
     /// The first fault of the whole text as LDIF, and of the names of its records. `Memory` may come instead of any
     /// answer.
     pub fn finish(self, alloc: Global) -> Result<Vec<Record>, LoadFault>
-        ensures records { GivesUnless is_memory (λ records. map seen records.items) result (gives self []) }
+        ensures records { GivesUnless is_memory (λ records. map seen records.items) result
+            (gives self []) }
         ensures few { IfOk result (λ records. length records.items ≤ 67108864) }
     {
         let Pieces {

@@ -7,7 +7,8 @@ ghost use Rattle.ad_ldif.specs.Story.{untold};
 ghost use Rattle.ad_load_records.specs.Faults.{is_memory, of_grammar};
 ghost use Rattle.ad_load_records.specs.Pieces.{read_on};
 ghost use Rattle.ad_load_records.specs.Prefixed.{prefixed};
-ghost use Rattle.ad_load_records.specs.Records.{kind_named, kind_in, kind_of, may_be_named, record_of, all_of, records_in};
+ghost use Rattle.ad_load_records.specs.Records.{kind_named, kind_in, kind_of, may_be_named, record_of, all_of};
+ghost use Rattle.ad_load_records.specs.Records.{records_in};
 ghost use Rattle.ad_load_records.specs.Seen.{held_field, seen, of_reader};
 
 use crate::fault::{LoadCause, LoadFault};
@@ -136,12 +137,14 @@ fn read_one(
     reader: &mut Reader<'_>,
     records: &mut Vec<Record>,
 ) -> Result<bool, LoadFault>
-    ensures one { IfOk result (λ one. one ≡ true → prefixed (map seen records.old.items) (all_of (untold reader.old))
+    ensures one { IfOk result (λ one. one ≡ true → prefixed (map seen records.old.items)
+        (all_of (untold reader.old))
         ≡ prefixed (map seen records.new.items) (all_of (untold reader.new))) }
     ensures fewer { IfOk result (λ one. one ≡ true
         → length (untold reader.new).records < length (untold reader.old).records) }
     ensures end { IfOk result (λ one. one ≡ false
-        → prefixed (map seen records.old.items) (all_of (untold reader.old)) ≡ Ok (map seen records.new.items)) }
+        → prefixed (map seen records.old.items) (all_of (untold reader.old))
+        ≡ Ok (map seen records.new.items)) }
     ensures fault { IfErr result (λ f. is_memory f ≡ false
         → prefixed (map seen records.old.items) (all_of (untold reader.old)) ≡ Err f) }
 {
@@ -164,8 +167,10 @@ pub(crate) fn read_all(
     records: &mut Vec<Record>,
 ) -> Result<Kept, LoadFault>
     requires { line + length text.now ≤ 67108865 }
-    ensures read { IfOk result (λ _. read_on (map seen records.old.items) line text.now ≡ Ok (map seen records.new.items)) }
-    ensures fault { IfErr result (λ f. is_memory f ≡ false → read_on (map seen records.old.items) line text.now ≡ Err f) }
+    ensures read { IfOk result (λ _. read_on (map seen records.old.items) line text.now
+        ≡ Ok (map seen records.new.items)) }
+    ensures fault { IfErr result (λ f. is_memory f ≡ false → read_on (map seen records.old.items)
+        line text.now ≡ Err f) }
 {
     let mut reader = Reader::behind(text, line, kept);
     'records: while read_one(alloc, &mut reader, records)? {}
@@ -175,7 +180,8 @@ pub(crate) fn read_all(
 /// The records of a text of LDIF.
 #[tactic(auto, unfolding(crate::specs::Records::records_in))]
 pub fn records_in(alloc: Global, text: &[u8]) -> Result<Vec<Record>, LoadFault>
-    ensures records { GivesUnless is_memory (λ records. map seen records.items) result (records_in text.now) }
+    ensures records { GivesUnless is_memory (λ records. map seen records.items) result
+        (records_in text.now) }
     ensures few { IfOk result (λ records. length records.items ≤ 67108864) }
 {
     if text.len() > MAX_TEXT {

@@ -67,7 +67,8 @@ fn builder(alloc: Global) -> Result<Builder, LoadFault>
 }
 
 fn finish(builder: Builder) -> Result<Schema, LoadFault>
-    ensures { GivesUnless is_memory (λ schema. schema) result (fault_as (of_schema 0) (finished builder)) }
+    ensures { GivesUnless is_memory (λ schema. schema) result
+        (fault_as (of_schema 0) (finished builder)) }
 {
     match builder.finish() {
         Ok(schema) => Ok(schema),

@@ -1,5 +1,6 @@
 -- What a rename is answered with, by how far the code comes.
-use Rattle.std.proofs.Common.{◌≡◌, ℕ, zero, suc, ◌-◌, arith, ◌<◌, true, false, not, List, [], ◌∷◌, ◌++◌, Option, Some, None, refl, sym, ap, ◌∙◌}
+use Rattle.std.proofs.Common.{◌≡◌, ℕ, zero, suc, ◌-◌, arith, ◌<◌, true, false, not, List, [], ◌∷◌, ◌++◌, Option, Some}
+use Rattle.std.proofs.Common.{None, refl, sym, ap, ◌∙◌}
 use Rattle.std.specs.Prelude.{codes, ◌==◌, option_map}
 use Rattle.std.proofs.lemmas.Bool.{eq-eqb, ne_eqb}
 use Rattle.std.proofs.lemmas.List.{map-append}
@@ -25,7 +26,8 @@ use Rattle.ad_needs_rules.specs.Needs.{Alternative, needs}
 use Rattle.ad_needs_rules.specs.Checks.{first_failing, or_code, or_missing, all_met}
 use Rattle.ad_needs_rules.specs.Requests.{object_named, class_at, class_path}
 use Rattle.ad_needs.specs.Deleting.{to_leave}
-use Rattle.ad_needs.specs.Renaming.{new_rdn, new_parent, is_typed, move_needs, to_write, name_needs, rename_needs, rename_checks}
+use Rattle.ad_needs.specs.Renaming.{new_rdn, new_parent, is_typed, move_needs, to_write, name_needs, rename_needs}
+use Rattle.ad_needs.specs.Renaming.{rename_checks}
 use Rattle.ad_needs.specs.Moves.{parent_by, is_outside, rename_rest, rename_judged, in_place_judged, moved_judged}
 use Rattle.ad_needs.specs.Verdicts.{verdict_of}
 use Rattle.ad_needs_rules.specs.Judged.{refusal_of}
@@ -41,7 +43,8 @@ needs_stop dir token xs ys verdict some =
     ∙ ap refusal_of (sym (map-append (or_missing dir token) xs ys))
 
 pub needs_go_on : (dir : Directory) (token : Token) (xs ys : List (List Alternative)) (found : Option Verdict)
-    → None ≡ refusal_of (all_met dir token xs) → found ≡ refusal_of (all_met dir token ys) → found ≡ refusal_of (all_met dir token (xs ++ ys))
+    → None ≡ refusal_of (all_met dir token xs) → found ≡ refusal_of (all_met dir token ys) → found
+    ≡ refusal_of (all_met dir token (xs ++ ys))
 needs_go_on dir token xs ys found none is =
     is ∙ sym (goes_on (all_met dir token xs) (all_met dir token ys) none)
     ∙ ap refusal_of (sym (map-append (or_missing dir token) xs ys))
@@ -53,21 +56,27 @@ pub rest_root : (dir : Directory) (token : Token) (number : ℕ) (rdn : Rdn) (su
 unfolding rename_rest
 rest_root dir token number rdn superior same =
     coded (or_code (is_typed dir.schema (class_at dir number) rdn) 64 ∷ or_code (is_outside dir number superior) 53
-    ∷ all_met dir token (rename_needs dir number (parent_by dir number superior))) 53 (not (number == root)) (ap not (eq-eqb number root same))
+    ∷ all_met dir token (rename_needs dir number (parent_by dir number superior))) 53 (not (number == root))
+    (ap not (eq-eqb number root same))
 
 rest_below : (dir : Directory) (token : Token) (number : ℕ) (rdn : Rdn) (superior : Option ℕ) → (number ≡ root → ⊥)
-    → refusal_of (or_code (is_typed dir.schema (class_at dir number) rdn) 64 ∷ or_code (is_outside dir number superior) 53
-    ∷ all_met dir token (rename_needs dir number (parent_by dir number superior))) ≡ refusal_of (rename_rest dir token number rdn superior)
+    → refusal_of (or_code (is_typed dir.schema (class_at dir number) rdn) 64
+    ∷ or_code (is_outside dir number superior) 53
+    ∷ all_met dir token (rename_needs dir number (parent_by dir number superior)))
+    ≡ refusal_of (rename_rest dir token number rdn superior)
 unfolding rename_rest
 rest_below dir token number rdn superior below =
     sym (holds (or_code (is_typed dir.schema (class_at dir number) rdn) 64 ∷ or_code (is_outside dir number superior) 53
-    ∷ all_met dir token (rename_needs dir number (parent_by dir number superior))) 53 (not (number == root)) (ap not (ne_eqb number root below)))
+    ∷ all_met dir token (rename_needs dir number (parent_by dir number superior))) 53 (not (number == root))
+    (ap not (ne_eqb number root below)))
 
-pub rest_untyped : (dir : Directory) (token : Token) (number : ℕ) (rdn : Rdn) (superior : Option ℕ) → (number ≡ root → ⊥)
+pub rest_untyped : (dir : Directory) (token : Token) (number : ℕ) (rdn : Rdn) (superior : Option ℕ)
+    → (number ≡ root → ⊥)
     → is_typed dir.schema (class_at dir number) rdn ≡ false
     → Some (Refused 64) ≡ refusal_of (rename_rest dir token number rdn superior)
 rest_untyped dir token number rdn superior below untyped =
-    coded (or_code (is_outside dir number superior) 53 ∷ all_met dir token (rename_needs dir number (parent_by dir number superior))) 64
+    coded (or_code (is_outside dir number superior) 53
+    ∷ all_met dir token (rename_needs dir number (parent_by dir number superior))) 64
     (is_typed dir.schema (class_at dir number) rdn) untyped
     ∙ rest_below dir token number rdn superior below
 
@@ -75,18 +84,25 @@ pub rest_inside : (dir : Directory) (token : Token) (number : ℕ) (rdn : Rdn) (
     → is_typed dir.schema (class_at dir number) rdn ≡ true → is_outside dir number superior ≡ false
     → Some (Refused 53) ≡ refusal_of (rename_rest dir token number rdn superior)
 rest_inside dir token number rdn superior below typed inside =
-    coded (all_met dir token (rename_needs dir number (parent_by dir number superior))) 53 (is_outside dir number superior) inside
-    ∙ sym (holds (or_code (is_outside dir number superior) 53 ∷ all_met dir token (rename_needs dir number (parent_by dir number superior))) 64
+    coded (all_met dir token (rename_needs dir number (parent_by dir number superior))) 53
+    (is_outside dir number superior) inside
+    ∙ sym (holds (or_code (is_outside dir number superior) 53
+    ∷ all_met dir token (rename_needs dir number (parent_by dir number superior))) 64
     (is_typed dir.schema (class_at dir number) rdn) typed)
     ∙ rest_below dir token number rdn superior below
 
-pub rest_needs : (dir : Directory) (token : Token) (number : ℕ) (rdn : Rdn) (superior : Option ℕ) (parent : ℕ) → (number ≡ root → ⊥)
-    → is_typed dir.schema (class_at dir number) rdn ≡ true → is_outside dir number superior ≡ true → parent ≡ parent_by dir number superior
-    → refusal_of (all_met dir token (rename_needs dir number parent)) ≡ refusal_of (rename_rest dir token number rdn superior)
+pub rest_needs : (dir : Directory) (token : Token) (number : ℕ) (rdn : Rdn) (superior : Option ℕ) (parent : ℕ)
+    → (number ≡ root → ⊥)
+    → is_typed dir.schema (class_at dir number) rdn ≡ true → is_outside dir number superior ≡ true → parent
+    ≡ parent_by dir number superior
+    → refusal_of (all_met dir token (rename_needs dir number parent))
+    ≡ refusal_of (rename_rest dir token number rdn superior)
 rest_needs dir token number rdn superior parent below typed outside is =
     ap (λ (p : ℕ). refusal_of (all_met dir token (rename_needs dir number p))) is
-    ∙ sym (holds (all_met dir token (rename_needs dir number (parent_by dir number superior))) 53 (is_outside dir number superior) outside)
-    ∙ sym (holds (or_code (is_outside dir number superior) 53 ∷ all_met dir token (rename_needs dir number (parent_by dir number superior))) 64
+    ∙ sym (holds (all_met dir token (rename_needs dir number (parent_by dir number superior))) 53
+    (is_outside dir number superior) outside)
+    ∙ sym (holds (or_code (is_outside dir number superior) 53
+    ∷ all_met dir token (rename_needs dir number (parent_by dir number superior))) 64
     (is_typed dir.schema (class_at dir number) rdn) typed)
     ∙ rest_below dir token number rdn superior below
 
@@ -97,7 +113,8 @@ pub in_place_unseen : (dir : Directory) (token : Token) (rdns : List Rdn) (rdn :
 unfolding in_place_judged first_failing
 in_place_unseen dir token rdns rdn none = rw (sym none) refl
 
-pub in_place_seen : (dir : Directory) (token : Token) (rdns : List Rdn) (rdn : Rdn) (number : ℕ) → Some number ≡ visible_of dir token rdns
+pub in_place_seen : (dir : Directory) (token : Token) (rdns : List Rdn) (rdn : Rdn) (number : ℕ) → Some number
+    ≡ visible_of dir token rdns
     → rename_judged dir token number rdn None ≡ in_place_judged dir token rdns rdn
 unfolding in_place_judged rename_judged first_failing
 in_place_seen dir token rdns rdn number some = rw (sym some) refl
@@ -107,18 +124,22 @@ pub moved_unread : (dir : Directory) (token : Token) (rdns : List Rdn) (rdn : Rd
 unfolding moved_judged first_failing
 moved_unread dir token rdns rdn text none = rw (sym none) refl
 
-pub moved_unseen : (dir : Directory) (token : Token) (rdns : List Rdn) (rdn : Rdn) (text : List ℕ) (above : Dn) → Some above ≡ dn_of text
-    → None ≡ visible_of dir token rdns → Hidden (record { rdns = matched dir token rdns }) ≡ moved_judged dir token rdns rdn text
+pub moved_unseen : (dir : Directory) (token : Token) (rdns : List Rdn) (rdn : Rdn) (text : List ℕ) (above : Dn)
+    → Some above ≡ dn_of text
+    → None ≡ visible_of dir token rdns → Hidden (record { rdns = matched dir token rdns })
+    ≡ moved_judged dir token rdns rdn text
 unfolding moved_judged first_failing
 moved_unseen dir token rdns rdn text above read none = rw (sym read, sym none) refl
 
-pub moved_nowhere : (dir : Directory) (token : Token) (rdns : List Rdn) (rdn : Rdn) (text : List ℕ) (above : Dn) (number : ℕ) → Some above ≡ dn_of text
+pub moved_nowhere : (dir : Directory) (token : Token) (rdns : List Rdn) (rdn : Rdn) (text : List ℕ) (above : Dn)
+    (number : ℕ) → Some above ≡ dn_of text
     → Some number ≡ visible_of dir token rdns → None ≡ visible_of dir token above.rdns
     → Hidden (record { rdns = matched dir token above.rdns }) ≡ moved_judged dir token rdns rdn text
 unfolding moved_judged first_failing object_named
 moved_nowhere dir token rdns rdn text above number read some none = rw (sym read, sym some, sym none) refl
 
-pub moved_seen : (dir : Directory) (token : Token) (rdns : List Rdn) (rdn : Rdn) (text : List ℕ) (above : Dn) (number parent : ℕ)
+pub moved_seen : (dir : Directory) (token : Token) (rdns : List Rdn) (rdn : Rdn) (text : List ℕ) (above : Dn)
+    (number parent : ℕ)
     → Some above ≡ dn_of text → Some number ≡ visible_of dir token rdns → Some parent ≡ visible_of dir token above.rdns
     → rename_judged dir token number rdn (Some parent) ≡ moved_judged dir token rdns rdn text
 unfolding moved_judged rename_judged first_failing object_named
@@ -136,13 +157,17 @@ pub rename_partless : (dir : Directory) (token : Token) (r : Rename) (s : Settin
 unfolding verdict_of rename_checks first_failing
 rename_partless dir token r s dn read none = rw (sym read, sym none) refl
 
-pub rename_in_place : (dir : Directory) (token : Token) (r : Rename) (s : Settings) (dn : Dn) (rdn : Rdn) → Some dn ≡ dn_of r.dn
-    → Some rdn ≡ new_rdn r → None ≡ r.superior → in_place_judged dir token dn.rdns rdn ≡ verdict_of dir token (RenameOf r) s
+pub rename_in_place : (dir : Directory) (token : Token) (r : Rename) (s : Settings) (dn : Dn) (rdn : Rdn) → Some dn
+    ≡ dn_of r.dn
+    → Some rdn ≡ new_rdn r → None ≡ r.superior → in_place_judged dir token dn.rdns rdn
+    ≡ verdict_of dir token (RenameOf r) s
 unfolding verdict_of rename_checks in_place_judged rename_rest first_failing object_named new_parent
 rename_in_place dir token r s dn rdn read part none = rw (sym read, sym part, sym none) refl
 
-pub rename_moved : (dir : Directory) (token : Token) (r : Rename) (s : Settings) (dn : Dn) (rdn : Rdn) (text : List ℕ) → Some dn ≡ dn_of r.dn
-    → Some rdn ≡ new_rdn r → Some text ≡ r.superior → moved_judged dir token dn.rdns rdn text ≡ verdict_of dir token (RenameOf r) s
+pub rename_moved : (dir : Directory) (token : Token) (r : Rename) (s : Settings) (dn : Dn) (rdn : Rdn) (text : List ℕ)
+    → Some dn ≡ dn_of r.dn
+    → Some rdn ≡ new_rdn r → Some text ≡ r.superior → moved_judged dir token dn.rdns rdn text
+    ≡ verdict_of dir token (RenameOf r) s
 unfolding verdict_of rename_checks moved_judged rename_rest first_failing object_named new_parent
 rename_moved dir token r s dn rdn text read part some = rw (sym read, sym part, sym some) refl
 
@@ -154,7 +179,8 @@ unfolding is_below_within
 up_ends parent zero other at above same = absurd (omega (arith, above))
 up_ends parent (suc left) other at above same = rw (eq-eqb at root same) refl
 
-pub up_found : (parent : ℕ → ℕ) (left other at : ℕ) → 0 < left → (at ≡ root → ⊥) → parent at ≡ other → is_below_within parent left other at ≡ true
+pub up_found : (parent : ℕ → ℕ) (left other at : ℕ) → 0 < left → (at ≡ root → ⊥) → parent at ≡ other
+    → is_below_within parent left other at ≡ true
 unfolding is_below_within
 up_found parent zero other at above below same = absurd (omega (arith, above))
 up_found parent (suc left) other at above below same = rw (ne_eqb at root below, eq-eqb (parent at) other same) refl
@@ -165,7 +191,8 @@ unfolding is_below_within
 up_more parent zero other at above below differs = absurd (omega (arith, above))
 up_more parent (suc left) other at above below differs =
     let one : suc left - 1 ≡ left = omega arith in
-    rw (ne_eqb at root below, ne_eqb (parent at) other differs) (ap (λ (l : ℕ). is_below_within parent l other (parent at)) (sym one))
+    rw (ne_eqb at root below, ne_eqb (parent at) other differs)
+    (ap (λ (l : ℕ). is_below_within parent l other (parent at)) (sym one))
 
 pub up_none : (parent : ℕ → ℕ) (left other at : ℕ) → left ≡ 0 → is_below_within parent left other at ≡ false
 unfolding is_below_within
@@ -179,20 +206,28 @@ unfolding refusal_of first_failing
 stays dir token number parent same = rw (eq-eqb (parent_at dir.objects number) parent same) refl
 
 moving : (dir : Directory) (number parent : ℕ) → (parent_at dir.objects number ≡ parent → ⊥)
-    → to_leave dir number ∷ (needs parent create_child (class_path dir.schema (class_at dir number)) ∷ []) ∷ [] ≡ move_needs dir number parent
+    → to_leave dir number ∷ (needs parent create_child (class_path dir.schema (class_at dir number)) ∷ []) ∷ []
+    ≡ move_needs dir number parent
 moving dir number parent differs = rw (ne_eqb (parent_at dir.objects number) parent differs) refl
 
-pub leaves_not : (dir : Directory) (token : Token) (number parent : ℕ) (verdict : Verdict) → (parent_at dir.objects number ≡ parent → ⊥)
-    → Some verdict ≡ refusal_of (all_met dir token (to_leave dir number ∷ [])) → Some verdict ≡ refusal_of (all_met dir token (move_needs dir number parent))
+pub leaves_not : (dir : Directory) (token : Token) (number parent : ℕ) (verdict : Verdict)
+    → (parent_at dir.objects number ≡ parent → ⊥)
+    → Some verdict ≡ refusal_of (all_met dir token (to_leave dir number ∷ [])) → Some verdict
+    ≡ refusal_of (all_met dir token (move_needs dir number parent))
 leaves_not dir token number parent verdict differs refused =
-    needs_stop dir token (to_leave dir number ∷ []) ((needs parent create_child (class_path dir.schema (class_at dir number)) ∷ []) ∷ []) verdict refused
+    needs_stop dir token (to_leave dir number ∷ [])
+    ((needs parent create_child (class_path dir.schema (class_at dir number)) ∷ []) ∷ []) verdict refused
     ∙ ap (λ (all : List (List Alternative)). refusal_of (all_met dir token all)) (moving dir number parent differs)
 
-pub leaves : (dir : Directory) (token : Token) (number parent : ℕ) (path : List Guid) (found : Option Verdict) → (parent_at dir.objects number ≡ parent → ⊥)
-    → path ≡ class_path dir.schema (class_at dir number) → None ≡ refusal_of (all_met dir token (to_leave dir number ∷ []))
-    → found ≡ refusal_of (all_met dir token ((needs parent create_child path ∷ []) ∷ [])) → found ≡ refusal_of (all_met dir token (move_needs dir number parent))
+pub leaves : (dir : Directory) (token : Token) (number parent : ℕ) (path : List Guid) (found : Option Verdict)
+    → (parent_at dir.objects number ≡ parent → ⊥)
+    → path ≡ class_path dir.schema (class_at dir number) → None
+    ≡ refusal_of (all_met dir token (to_leave dir number ∷ []))
+    → found ≡ refusal_of (all_met dir token ((needs parent create_child path ∷ []) ∷ [])) → found
+    ≡ refusal_of (all_met dir token (move_needs dir number parent))
 leaves dir token number parent path found differs is none rest =
-    needs_go_on dir token (to_leave dir number ∷ []) ((needs parent create_child (class_path dir.schema (class_at dir number)) ∷ []) ∷ []) found none
+    needs_go_on dir token (to_leave dir number ∷ [])
+    ((needs parent create_child (class_path dir.schema (class_at dir number)) ∷ []) ∷ []) found none
     (rest ∙ ap (λ (p : List Guid). refusal_of (all_met dir token ((needs parent create_child p ∷ []) ∷ []))) is)
     ∙ ap (λ (all : List (List Alternative)). refusal_of (all_met dir token all)) (moving dir number parent differs)
 
@@ -202,16 +237,21 @@ pub nameless : (dir : Directory) (token : Token) (number : ℕ) → None ≡ att
     → None ≡ refusal_of (all_met dir token (name_needs dir number (attr_place dir.schema (codes "name"))))
 unfolding refusal_of first_failing
 nameless dir token number none =
-    ap (λ (o : Option AttrId). refusal_of (all_met dir token (name_needs dir number (option_map (λ (id : AttrId). id.0) o)))) none
+    ap (λ (o : Option AttrId). refusal_of
+    (all_met dir token (name_needs dir number (option_map (λ (id : AttrId). id.0) o)))) none
 
-pub named_not : (dir : Directory) (token : Token) (number attr naming : ℕ) (rest : List (List Alternative)) (verdict : Verdict) → attr ≡ naming
-    → Some verdict ≡ refusal_of (all_met dir token (to_write dir number attr ∷ [])) → Some verdict ≡ refusal_of (all_met dir token (to_write dir number naming ∷ rest))
+pub named_not : (dir : Directory) (token : Token) (number attr naming : ℕ) (rest : List (List Alternative))
+    (verdict : Verdict) → attr ≡ naming
+    → Some verdict ≡ refusal_of (all_met dir token (to_write dir number attr ∷ [])) → Some verdict
+    ≡ refusal_of (all_met dir token (to_write dir number naming ∷ rest))
 named_not dir token number attr naming rest verdict is refused =
     needs_stop dir token (to_write dir number naming ∷ []) rest verdict
     (refused ∙ ap (λ (n : ℕ). refusal_of (all_met dir token (to_write dir number n ∷ []))) is)
 
-pub named_so : (dir : Directory) (token : Token) (number attr naming : ℕ) (rest : List (List Alternative)) (found : Option Verdict) → attr ≡ naming
-    → None ≡ refusal_of (all_met dir token (to_write dir number attr ∷ [])) → found ≡ refusal_of (all_met dir token rest)
+pub named_so : (dir : Directory) (token : Token) (number attr naming : ℕ) (rest : List (List Alternative))
+    (found : Option Verdict) → attr ≡ naming
+    → None ≡ refusal_of (all_met dir token (to_write dir number attr ∷ [])) → found
+    ≡ refusal_of (all_met dir token rest)
     → found ≡ refusal_of (all_met dir token (to_write dir number naming ∷ rest))
 named_so dir token number attr naming rest found is none other =
     needs_go_on dir token (to_write dir number naming ∷ []) rest found

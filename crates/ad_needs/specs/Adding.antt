@@ -53,7 +53,11 @@ abbrev pub parent_number : Directory → Token → Add → ℕ
 parent_number dir token a = unwrap_or (parent_named dir token a) 0
 
 abbrev pub parent_seen : Directory → Token → Add → Check
-parent_seen dir token a = record { holds = is_some (parent_named dir token a); refusal = hidden (matched dir token (parts_in a.dn)) }
+parent_seen dir token a = record {
+  holds = is_some (parent_named dir token a);
+  refusal
+      = hidden (matched dir token (parts_in a.dn));
+}
 
 -- ---- attributes as they were sent
 
@@ -71,9 +75,11 @@ naming_checks schema earlier attr =
     ∷ or_code (not (list_any (is_of attr.0) earlier)) 20
     ∷ []
 
-unfoldable pub all_naming_checks : List SchemaRecord → List (List ℕ × List (List ℕ)) → List (List ℕ × List (List ℕ)) → List Check
+unfoldable pub all_naming_checks : List SchemaRecord → List (List ℕ × List (List ℕ)) → List (List ℕ × List (List ℕ))
+    → List Check
 all_naming_checks schema earlier [] = []
-all_naming_checks schema earlier (attr ∷ attrs) = naming_checks schema earlier attr ++ all_naming_checks schema (earlier ++ attr ∷ []) attrs
+all_naming_checks schema earlier (attr ∷ attrs) = naming_checks schema earlier attr ++ all_naming_checks schema
+    (earlier ++ attr ∷ []) attrs
 
 -- ---- the class
 
@@ -100,7 +106,8 @@ brings_sacl sd = option_map_or (λ parts. is_some parts.sacl) sd false
 
 -- an ordinary attribute with its values
 abbrev pub ordinary : List SchemaRecord → List ℕ × List (List ℕ) → Option (ℕ × List (List ℕ))
-ordinary schema attr = if is_descriptor attr.0 then None else option_map (λ place. (place, attr.1)) (attr_place schema attr.0)
+ordinary schema attr = if is_descriptor attr.0 then None else option_map (λ place. (place, attr.1))
+    (attr_place schema attr.0)
 
 unfoldable pub all_ordinary : List SchemaRecord → Add → List (ℕ × List (List ℕ))
 all_ordinary schema a = filter_map (ordinary schema) a.attrs
@@ -108,7 +115,8 @@ all_ordinary schema a = filter_map (ordinary schema) a.attrs
 -- objectSid, distinguishedName and back links are nobody's to give
 abbrev pub is_kept_back : List SchemaRecord → ℕ → Bool
 is_kept_back schema attr =
-    option_map_or (λ sid. sid == attr) (object_sid schema) false || (is_named schema (codes "distinguishedName") attr || attr_is_back_link schema attr)
+    option_map_or (λ sid. sid == attr) (object_sid schema) false
+    || (is_named schema (codes "distinguishedName") attr || attr_is_back_link schema attr)
 
 -- name and the naming attribute may be sent, as they are in the name
 abbrev pub own_checks : List SchemaRecord → ℕ → List ℕ → ℕ × List (List ℕ) → List Check
@@ -135,7 +143,8 @@ sacl_needs parent true = (needs parent access_system_security [] ∷ []) ∷ []
 sacl_needs parent false = []
 
 abbrev pub add_needs : Directory → ℕ → ℕ → Option SdParts → List (List Alternative)
-add_needs dir parent class sd = (needs parent create_child (class_path dir.schema class) ∷ []) ∷ sacl_needs parent (brings_sacl sd)
+add_needs dir parent class sd = (needs parent create_child (class_path dir.schema class) ∷ [])
+    ∷ sacl_needs parent (brings_sacl sd)
 
 -- ---- checks
 
@@ -156,4 +165,5 @@ add_checks dir token a flags =
 abbrev pub add_act : Directory → Token → Add → ℕ → Act
 add_act dir token a flags =
     let class = class_number dir a in
-    act.Add (parent_number dir token a) (record { 0 = class }) (new_part a).value (new_values dir.schema class a) (new_sd a flags)
+    act.Add (parent_number dir token a) (record { 0 = class }) (new_part a).value (new_values dir.schema class a)
+    (new_sd a flags)

@@ -16,12 +16,14 @@ use Rattle.ad_needs_rules.specs.Requests.{is_descriptor}
 use Rattle.ad_needs_rules.specs.Descriptors.{sd_in_one}
 use Rattle.ad_schema_defaults.specs.NewClass.{is_schema_class}
 use Rattle.ad_needs.specs.Renaming.{is_typed}
-use Rattle.ad_needs.specs.Adding.{is_of, sent, all_naming_checks, new_class, class_number, descriptor_reads, new_sd, ordinary}
+use Rattle.ad_needs.specs.Adding.{is_of, sent, all_naming_checks, new_class, class_number, descriptor_reads, new_sd}
+use Rattle.ad_needs.specs.Adding.{ordinary}
 use Rattle.ad_needs.specs.Adding.{all_ordinary, own_checks, new_values, add_needs}
 
 -- the parts of the descriptor that is sent, where it reads; none where none is sent
 unfoldable pub sd_sent : Add → Option (Option SdParts)
-sd_sent a = option_map_or (λ values. option_map Some (sd_in_one values)) (sent a (codes "nTSecurityDescriptor")) (Some None)
+sd_sent a = option_map_or (λ values. option_map Some (sd_in_one values)) (sent a (codes "nTSecurityDescriptor"))
+    (Some None)
 
 -- those of the name of an attribute that the schema doesn't have
 abbrev pub unplaced_checks : List (List ℕ × List (List ℕ)) → List ℕ → List Check
@@ -42,7 +44,8 @@ class_checks dir token parent rdn class a flags =
     ++ all_met dir token (add_needs dir parent class (new_sd a flags)))
 
 abbrev pub act_of : Directory → ℕ → Rdn → ℕ → Add → ℕ → Act
-act_of dir parent rdn class a flags = act.Add parent (record { 0 = class }) rdn.value (new_values dir.schema class a) (new_sd a flags)
+act_of dir parent rdn class a flags = act.Add parent (record { 0 = class }) rdn.value (new_values dir.schema class a)
+    (new_sd a flags)
 
 unfoldable pub class_judged : Directory → Token → ℕ → Rdn → ℕ → Add → ℕ → Verdict
 class_judged dir token parent rdn class a flags =

@@ -1,5 +1,6 @@
 -- Words for how the items of a Modify are judged.
-use Rattle.std.specs.Prelude.{◌≡◌, ℕ, ◌<◌, Bool, false, not, ◌==◌, ◌||◌, if◌then◌else◌, Option, Some, None, codes, List, [], ◌∷◌, ◌++◌, length}
+use Rattle.std.specs.Prelude.{◌≡◌, ℕ, ◌<◌, Bool, false, not, ◌==◌, ◌||◌, if◌then◌else◌, Option, Some, None, codes}
+use Rattle.std.specs.Prelude.{List, [], ◌∷◌, ◌++◌, length}
 use Rattle.std.specs.Prelude.{slice_index_or}
 use Rattle.std.specs.Option.{option_map_or}
 use Rattle.std.specs.List.{list_any, flat_map}
@@ -34,7 +35,8 @@ is_kept_from_all schema name attr =
 
 -- the items of a password have one of its two forms
 abbrev pub has_its_form : List Item → List ℕ → Bool
-has_its_form items name = not (is_password name) || (is_forced (items_of items name) || is_changed (items_of items name))
+has_its_form items name = not (is_password name)
+    || (is_forced (items_of items name) || is_changed (items_of items name))
 
 -- the checks of an item after that of its place, which is there
 abbrev pub placed_checks : Directory → ℕ → List Item → List ℕ → ℕ → List Check
@@ -48,9 +50,11 @@ placed_checks dir number items name attr =
 -- ---- needs
 
 -- each attribute of the schema has a flag, which is set where one of these has a name of it
-pub record HaveFlags {X : Type 0} (name_of : X → List ℕ) (schema : List SchemaRecord) (flags : List Bool) (xs : List X) : Type 0 where
+pub record HaveFlags {X : Type 0} (name_of : X → List ℕ) (schema : List SchemaRecord) (flags : List Bool)
+    (xs : List X) : Type 0 where
   pub len : length flags ≡ length (attrs_of schema)
-  pub each : (place : ℕ) → place < length flags → slice_index_or flags place false ≡ list_any (λ x. is_named schema (name_of x) place) xs
+  pub each : (place : ℕ) → place < length flags → slice_index_or flags place false
+      ≡ list_any (λ x. is_named schema (name_of x) place) xs
 
 -- where one of the items names it
 abbrev pub AreNamed : List SchemaRecord → List Bool → List Item → Type 0
@@ -80,7 +84,8 @@ act_at dir number items flags = act.Modify number (act_items dir.schema items) (
 -- what is said of items on the object of the number
 abbrev pub verdict_at : Directory → Token → ℕ → List Item → ℕ → Verdict
 verdict_at dir token number items flags =
-    by_checks (first_failing (flat_map (item_checks dir number flags items) items ++ all_met dir token (modify_needs dir token number flags items)))
+    by_checks (first_failing (flat_map (item_checks dir number flags items) items
+    ++ all_met dir token (modify_needs dir token number flags items)))
     (act_at dir number items flags)
 
 -- and on that which is found, where there is one

@@ -5,7 +5,8 @@ use Rattle.std.specs.Option.{option_map_or, option_and_then}
 use Rattle.std.specs.List.{list_any, flat_map}
 use Rattle.ad_ids.specs.declared.guid.Guid.{Guid}
 use Rattle.ad_ids.specs.declared.token.Token.{Token}
-use Rattle.ad_acl.specs.Mask.{self_write, write_property, control_access, write_dac, write_owner, access_system_security}
+use Rattle.ad_acl.specs.Mask.{self_write, write_property, control_access, write_dac, write_owner}
+use Rattle.ad_acl.specs.Mask.{access_system_security}
 use Rattle.ad_sd.specs.declared.parts.SdParts.{SdParts}
 use Rattle.ad_ldap.specs.declared.items.Item.{Item}
 use Rattle.ad_ldap.specs.declared.requests.Modify.{Modify}
@@ -20,7 +21,8 @@ use Rattle.ad_dir_model.specs.Attributes.{attr_place, object_sid}
 use Rattle.ad_dir_model.specs.Directory.{Directory}
 use Rattle.ad_needs_rules.specs.Needs.{Alternative, needs}
 use Rattle.ad_needs_rules.specs.Checks.{Check, or_code, all_met}
-use Rattle.ad_needs_rules.specs.Requests.{is_name, number_named, or_hidden, is_descriptor, is_password, has_place, class_at, attr_path}
+use Rattle.ad_needs_rules.specs.Requests.{is_name, number_named, or_hidden, is_descriptor, is_password, has_place}
+use Rattle.ad_needs_rules.specs.Requests.{class_at, attr_path}
 use Rattle.ad_needs_rules.specs.Descriptors.{sd_in_one, asked_parts, has_owner_or_group, has_asked_part}
 use Rattle.ad_needs_rules.specs.Validated.{validated_write}
 
@@ -47,11 +49,17 @@ is_changed _ = false
 
 -- User-Force-Change-Password, 00299570-246d-11d0-a768-00aa006e0529
 abbrev pub force_change : Guid
-force_change = record { bytes = 0x70 ∷ 0x95 ∷ 0x29 ∷ 0x00 ∷ 0x6d ∷ 0x24 ∷ 0xd0 ∷ 0x11 ∷ 0xa7 ∷ 0x68 ∷ 0x00 ∷ 0xaa ∷ 0x00 ∷ 0x6e ∷ 0x05 ∷ 0x29 ∷ [] }
+force_change = record {
+  bytes = 0x70 ∷ 0x95 ∷ 0x29 ∷ 0x00 ∷ 0x6d ∷ 0x24 ∷ 0xd0 ∷ 0x11 ∷ 0xa7 ∷ 0x68 ∷ 0x00 ∷ 0xaa
+      ∷ 0x00 ∷ 0x6e ∷ 0x05 ∷ 0x29 ∷ [];
+}
 
 -- User-Change-Password, ab721a53-1e2f-11d0-9819-00aa0040529b
 abbrev pub change : Guid
-change = record { bytes = 0x53 ∷ 0x1a ∷ 0x72 ∷ 0xab ∷ 0x2f ∷ 0x1e ∷ 0xd0 ∷ 0x11 ∷ 0x98 ∷ 0x19 ∷ 0x00 ∷ 0xaa ∷ 0x00 ∷ 0x40 ∷ 0x52 ∷ 0x9b ∷ [] }
+change = record {
+  bytes = 0x53 ∷ 0x1a ∷ 0x72 ∷ 0xab ∷ 0x2f ∷ 0x1e ∷ 0xd0 ∷ 0x11 ∷ 0x98 ∷ 0x19 ∷ 0x00 ∷ 0xaa ∷ 0x00
+      ∷ 0x40 ∷ 0x52 ∷ 0x9b ∷ [];
+}
 
 -- ---- checks of one item
 
@@ -59,7 +67,8 @@ change = record { bytes = 0x53 ∷ 0x1a ∷ 0x72 ∷ 0xab ∷ 0x2f ∷ 0x1e ∷ 
 abbrev pub is_unwritable : List SchemaRecord → List ℕ → Bool
 is_unwritable schema name =
     same_name name (codes "distinguishedName") || (same_name name (codes "name")
-    || (has_place schema (λ attr. option_map_or (λ sid. sid == attr) (object_sid schema) false) name || has_place schema (attr_is_back_link schema) name))
+    || (has_place schema (λ attr. option_map_or (λ sid. sid == attr) (object_sid schema) false) name
+    || has_place schema (attr_is_back_link schema) name))
 
 abbrev pub ordinary_checks : Directory → ℕ → List Item → Item → List Check
 ordinary_checks dir number items item =
@@ -67,7 +76,8 @@ ordinary_checks dir number items item =
     ∷ or_code (not (same_name item.attr (codes "objectClass"))) 69
     ∷ or_code (not (has_place dir.schema (λ attr. naming_of dir.schema (class_at dir number) == attr) item.attr)) 67
     ∷ or_code (not (is_unwritable dir.schema item.attr)) 53
-    ∷ or_code (not (is_password item.attr) || (is_forced (items_of items item.attr) || is_changed (items_of items item.attr))) 53
+    ∷ or_code (not (is_password item.attr)
+    || (is_forced (items_of items item.attr) || is_changed (items_of items item.attr))) 53
     ∷ []
 
 -- a descriptor is replaced, by one item, and has a part that is asked for
@@ -85,7 +95,8 @@ item_checks dir number flags items item =
 
 -- the parts of the descriptor that are written
 abbrev pub written_sd : List Item → ℕ → Option SdParts
-written_sd items flags = option_map (asked_parts flags) (option_and_then (λ item. sd_in_one item.values) (find (λ item. is_descriptor item.attr) items))
+written_sd items flags = option_map (asked_parts flags)
+    (option_and_then (λ item. sd_in_one item.values) (find (λ item. is_descriptor item.attr) items))
 
 abbrev pub need_if : Bool → ℕ → ℕ → List (List Alternative)
 need_if true number bit = (needs number bit [] ∷ []) ∷ []
@@ -103,7 +114,8 @@ descriptor_needs number (Some parts) = parts_needs number parts
 
 -- CR on the right for the form that the items have
 abbrev pub password_needs : ℕ → List Item → List (List Alternative)
-password_needs number items = (needs number control_access ((if is_forced items then force_change else change) ∷ []) ∷ []) ∷ []
+password_needs number items = (needs number control_access ((if is_forced items then force_change else change) ∷ [])
+    ∷ []) ∷ []
 
 abbrev pub or_validated : ℕ → Option Guid → List Alternative
 or_validated number None = []
@@ -112,7 +124,8 @@ or_validated number (Some guid) = needs number self_write (guid ∷ []) ∷ []
 -- WP on the attribute, or SW on the validated write where all its items are valid
 abbrev pub attr_needs : Directory → Token → ℕ → ℕ → List Item → List (List Alternative)
 attr_needs dir token number attr items =
-    (needs number write_property (attr_path dir.schema (class_at dir number) attr) ∷ or_validated number (validated_write dir token number attr items)) ∷ []
+    (needs number write_property (attr_path dir.schema (class_at dir number) attr)
+    ∷ or_validated number (validated_write dir token number attr items)) ∷ []
 
 abbrev pub ordinary_needs : Directory → Token → ℕ → List Item → Option ℕ → List (List Alternative)
 ordinary_needs dir token number items None = []
@@ -156,4 +169,5 @@ unfoldable pub act_items : List SchemaRecord → List Item → List ActItem
 act_items schema items = filter_map (act_item schema) items
 
 abbrev pub modify_act : Directory → Token → Modify → ℕ → Act
-modify_act dir token m flags = act.Modify (number_named dir token m.dn) (act_items dir.schema m.items) (written_sd m.items flags)
+modify_act dir token m flags = act.Modify (number_named dir token m.dn) (act_items dir.schema m.items)
+    (written_sd m.items flags)

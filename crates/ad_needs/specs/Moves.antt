@@ -33,12 +33,17 @@ rename_rest dir token number rdn superior =
 
 unfoldable pub rename_judged : Directory → Token → ℕ → Rdn → Option ℕ → Verdict
 rename_judged dir token number rdn superior =
-    by_checks (first_failing (rename_rest dir token number rdn superior)) (act.Rename number (parent_by dir number superior) rdn.value)
+    by_checks (first_failing (rename_rest dir token number rdn superior))
+    (act.Rename number (parent_by dir number superior) rdn.value)
 
 -- ---- with the names that were read
 
 abbrev pub or_unseen : Directory → Token → List Rdn → Check
-or_unseen dir token rdns = record { holds = is_some (visible_of dir token rdns); refusal = hidden (matched dir token rdns) }
+or_unseen dir token rdns = record {
+  holds = is_some (visible_of dir token rdns);
+  refusal
+      = hidden (matched dir token rdns);
+}
 
 abbrev pub number_seen : Directory → Token → List Rdn → ℕ
 number_seen dir token rdns = unwrap_or (visible_of dir token rdns) 0
@@ -55,5 +60,6 @@ unfoldable pub moved_judged : Directory → Token → List Rdn → Rdn → List 
 moved_judged dir token rdns rdn superior =
     let number = number_seen dir token rdns in
     let above = Some (number_named dir token superior) in
-    by_checks (first_failing (or_code (is_name superior) 34 ∷ or_unseen dir token rdns ∷ or_hidden dir token superior ∷ rename_rest dir token number rdn above))
+    by_checks (first_failing (or_code (is_name superior) 34 ∷ or_unseen dir token rdns ∷ or_hidden dir token superior
+    ∷ rename_rest dir token number rdn above))
     (act.Rename number (parent_by dir number above) rdn.value)

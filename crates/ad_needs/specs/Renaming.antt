@@ -1,5 +1,6 @@
 -- Rename and move: their checks after the controls, up to the required rights.
-use Rattle.std.specs.Prelude.{ℕ, Bool, true, not, ◌==◌, if◌then◌else◌, Option, Some, None, is_some, unwrap_or, codes, List, [], ◌∷◌, ◌++◌}
+use Rattle.std.specs.Prelude.{ℕ, Bool, true, not, ◌==◌, if◌then◌else◌, Option, Some, None, is_some, unwrap_or, codes}
+use Rattle.std.specs.Prelude.{List, [], ◌∷◌, ◌++◌}
 use Rattle.std.specs.Option.{option_map_or, option_and_then}
 use Rattle.ad_ids.specs.declared.token.Token.{Token}
 use Rattle.ad_acl.specs.Mask.{create_child, write_property}
@@ -17,7 +18,8 @@ use Rattle.ad_dir_model.specs.Directory.{Directory}
 use Rattle.ad_dir_model.specs.Changes.{goes_with}
 use Rattle.ad_needs_rules.specs.Needs.{Alternative, needs}
 use Rattle.ad_needs_rules.specs.Checks.{Check, or_code, all_met}
-use Rattle.ad_needs_rules.specs.Requests.{no_rdn, name_in, is_name, number_named, or_hidden, class_at, class_path, attr_path}
+use Rattle.ad_needs_rules.specs.Requests.{no_rdn, name_in, is_name, number_named, or_hidden, class_at, class_path}
+use Rattle.ad_needs_rules.specs.Requests.{attr_path}
 use Rattle.ad_needs.specs.Deleting.{to_leave}
 
 -- ---- what is asked for
@@ -32,7 +34,8 @@ new_rdn r = option_and_then one_part (name_in r.rdn)
 
 -- the number of the new parent: that of the superior, or the present one where none is named
 unfoldable pub new_parent : Directory → Token → Rename → ℕ
-new_parent dir token r = option_map_or (number_named dir token) r.superior (parent_at dir.objects (number_named dir token r.dn))
+new_parent dir token r = option_map_or (number_named dir token) r.superior
+    (parent_at dir.objects (number_named dir token r.dn))
 
 -- ---- checks of the superior, where one is named
 
@@ -45,7 +48,8 @@ superior_seen dir token (Some superior) = or_hidden dir token superior ∷ []
 
 -- it is neither the object nor below it
 abbrev pub superior_outside : Directory → Token → ℕ → Option (List ℕ) → Bool
-superior_outside dir token number superior = option_map_or (λ text. not (goes_with dir number (number_named dir token text))) superior true
+superior_outside dir token number superior
+    = option_map_or (λ text. not (goes_with dir number (number_named dir token text))) superior true
 
 -- the type is the naming attribute of the class
 abbrev pub is_typed : List SchemaRecord → ℕ → Rdn → Bool
@@ -71,7 +75,8 @@ name_needs dir number (Some attr) = to_write dir number attr ∷ []
 abbrev pub rename_needs : Directory → ℕ → ℕ → List (List Alternative)
 rename_needs dir number parent =
     move_needs dir number parent
-    ++ (to_write dir number (naming_of dir.schema (class_at dir number)) ∷ name_needs dir number (attr_place dir.schema (codes "name")))
+    ++ (to_write dir number (naming_of dir.schema (class_at dir number))
+    ∷ name_needs dir number (attr_place dir.schema (codes "name")))
 
 -- ---- checks
 
@@ -89,4 +94,5 @@ rename_checks dir token r =
     ∷ all_met dir token (rename_needs dir number (new_parent dir token r))))
 
 abbrev pub rename_act : Directory → Token → Rename → Act
-rename_act dir token r = act.Rename (number_named dir token r.dn) (new_parent dir token r) (unwrap_or (new_rdn r) no_rdn).value
+rename_act dir token r = act.Rename (number_named dir token r.dn) (new_parent dir token r)
+    (unwrap_or (new_rdn r) no_rdn).value

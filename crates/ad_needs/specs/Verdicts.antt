@@ -16,10 +16,13 @@ use Rattle.ad_needs.specs.Modifying.{modify_checks, modify_act}
 
 -- Nothing else is a change, and would be refused.
 unfoldable pub verdict_of : Directory → Token → OpValue → Settings → Verdict
-verdict_of dir token (AddOf a) s = by_checks (first_failing (add_checks dir token a s.sd_flags)) (add_act dir token a s.sd_flags)
-verdict_of dir token (DeleteOf dn) s = by_checks (first_failing (delete_checks dir token dn s.tree)) (delete_act dir token dn s.tree)
+verdict_of dir token (AddOf a) s = by_checks (first_failing (add_checks dir token a s.sd_flags))
+    (add_act dir token a s.sd_flags)
+verdict_of dir token (DeleteOf dn) s = by_checks (first_failing (delete_checks dir token dn s.tree))
+    (delete_act dir token dn s.tree)
 verdict_of dir token (RenameOf r) s = by_checks (first_failing (rename_checks dir token r)) (rename_act dir token r)
-verdict_of dir token (ModifyOf m) s = by_checks (first_failing (modify_checks dir token m s.sd_flags)) (modify_act dir token m s.sd_flags)
+verdict_of dir token (ModifyOf m) s = by_checks (first_failing (modify_checks dir token m s.sd_flags))
+    (modify_act dir token m s.sd_flags)
 verdict_of dir token _ s = Refused 53
 
 -- ---- the operations that change a directory

@@ -14,7 +14,8 @@ ghost use Rattle.ad_needs_rules.specs.Checks.{all_met};
 ghost use Rattle.ad_needs_rules.specs.Descriptors.{sd_in_one, asked_parts};
 ghost use Rattle.ad_schema_defaults.specs.NewClass.{is_schema_class};
 ghost use Rattle.ad_needs.specs.Renaming.{is_typed};
-ghost use Rattle.ad_needs.specs.Adding.{first_part, sent, new_class, new_sd, all_ordinary, own_checks, brings_sacl, sacl_needs, add_needs};
+ghost use Rattle.ad_needs.specs.Adding.{first_part, sent, new_class, new_sd, all_ordinary, own_checks, brings_sacl};
+ghost use Rattle.ad_needs.specs.Adding.{sacl_needs, add_needs};
 ghost use Rattle.ad_needs.specs.Additions.{sd_sent, class_judged, below_judged};
 ghost use Rattle.ad_needs_rules.specs.Judged.{refusal_of};
 ghost use Rattle.ad_needs.specs.Verdicts.{verdict_of};
@@ -56,8 +57,10 @@ fn class_names(add: &Add) -> &[Bytes]
 /// Memory ran out.
 #[tactic(auto, unfolding(crate::specs::Adding::new_class))]
 pub fn new_class(alloc: Global, dir: &Dir, add: &Add) -> Result<Option<ClassId>, AllocError>
-    ensures class { IfOk result (λ class. option_map (λ id. id.0) class ≡ new_class dir.now add.now) }
-    ensures in_range { IfOk result (λ class. IfSome class (λ id. id.0 < length (classes_of dir.now.schema))) }
+    ensures class { IfOk result (λ class. option_map (λ id. id.0) class
+        ≡ new_class dir.now add.now) }
+    ensures in_range { IfOk result (λ class.
+        IfSome class (λ id. id.0 < length (classes_of dir.now.schema))) }
 {
     class_by_names(alloc, dir.schema(), class_names(add))
 }
@@ -127,7 +130,8 @@ fn unless_audits(
     sacl: bool,
 ) -> Result<Option<Verdict>, AllocError>
     requires { is_live dir.now.objects parent ≡ true }
-    ensures { IfOk result (λ refusal. refusal ≡ refusal_of (all_met dir.now token.now (sacl_needs parent sacl))) }
+    ensures { IfOk result (λ refusal. refusal
+        ≡ refusal_of (all_met dir.now token.now (sacl_needs parent sacl))) }
 {
     if sacl {
         let ask = Ask {
@@ -152,7 +156,8 @@ fn unless_creates(
 ) -> Result<Option<Verdict>, AllocError>
     requires parent { is_live dir.now.objects parent ≡ true }
     requires class { class.0 < length (classes_of dir.now.schema) }
-    ensures { IfOk result (λ refusal. refusal ≡ refusal_of (all_met dir.now token.now (add_needs dir.now parent class.0 sd.now))) }
+    ensures { IfOk result (λ refusal. refusal
+        ≡ refusal_of (all_met dir.now token.now (add_needs dir.now parent class.0 sd.now))) }
 {
     let ask = Ask {
         object: parent,
@@ -181,7 +186,8 @@ fn unless_adds(
     requires parent { is_live dir.now.objects parent ≡ true }
     requires class { class.0 < length (classes_of dir.now.schema) }
     ensures { IfOk result (λ refusal. refusal
-        ≡ refusal_of (flat_map (own_checks dir.now.schema class.0 rdn.now.value) (all_ordinary dir.now.schema add.now)
+        ≡ refusal_of (flat_map (own_checks dir.now.schema class.0 rdn.now.value)
+        (all_ordinary dir.now.schema add.now)
         ++ all_met dir.now token.now (add_needs dir.now parent class.0 sd.now))) }
 {
     let attrs = add.attrs.as_slice();
@@ -209,7 +215,8 @@ fn judged_with(
     requires other { is_schema_class dir.now.schema class.0 ≡ false }
     requires typed { is_typed dir.now.schema class.0 rdn ≡ true }
     requires sent { Some sd ≡ sd_sent add.now }
-    ensures { IfOk result (λ verdict. verdict ≡ class_judged dir.now token.now parent rdn class.0 add.now flags) }
+    ensures { IfOk result (λ verdict. verdict ≡ class_judged dir.now token.now parent rdn class.0
+        add.now flags) }
 {
     let sd = sd_asked(flags, sd);
     match unless_adds(alloc, dir, token, parent, &rdn, class, add, &sd)? {
@@ -240,7 +247,8 @@ fn judged_of_class(
 ) -> Result<Verdict, AllocError>
     requires parent { is_live dir.now.objects parent ≡ true }
     requires class { class.0 < length (classes_of dir.now.schema) }
-    ensures { IfOk result (λ verdict. verdict ≡ class_judged dir.now token.now parent rdn class.0 add.now flags) }
+    ensures { IfOk result (λ verdict. verdict ≡ class_judged dir.now token.now parent rdn class.0
+        add.now flags) }
 {
     if is_schema_class(dir.schema(), class) {
         return Ok(Verdict::Refused(53));
@@ -265,7 +273,8 @@ fn judged_below(
     flags: u8,
 ) -> Result<Verdict, AllocError>
     requires { is_live dir.now.objects parent ≡ true }
-    ensures { IfOk result (λ verdict. verdict ≡ below_judged dir.now token.now parent rdn add.now flags) }
+    ensures { IfOk result (λ verdict. verdict ≡ below_judged dir.now token.now parent rdn add.now
+        flags) }
 {
     let named = unless_named_once(alloc, dir.schema(), add.attrs.as_slice())?;
     if let Some(refusal) = named {
@@ -281,7 +290,8 @@ fn judged_below(
 
 // The first part of a name, where it has one.
 fn first_part(alloc: Global, dn: &Dn) -> Result<Option<Rdn>, AllocError>
-    ensures { IfOk result (λ rdn. MatchOption rdn (dn.now.rdns ≡ []) (λ rdn. (rdn ≡ first_part dn.now.rdns) × (1 ≤ length dn.now.rdns))) }
+    ensures { IfOk result (λ rdn. MatchOption rdn (dn.now.rdns ≡ [])
+        (λ rdn. (rdn ≡ first_part dn.now.rdns) × (1 ≤ length dn.now.rdns))) }
 {
     match dn.rdns.as_slice() {
         [first, ..] => Ok(Some(first.copy(alloc)?)),
@@ -291,7 +301,8 @@ fn first_part(alloc: Global, dn: &Dn) -> Result<Option<Rdn>, AllocError>
 
 // Whether the name is the root's.
 fn is_root_named(alloc: Global, dir: &Dir, dn: &Dn) -> Result<bool, AllocError>
-    ensures { IfOk result (λ is. is ≡ option_map_or (λ number. number == root) (found dir.now dn.now.rdns) false) }
+    ensures { IfOk result (λ is. is ≡ option_map_or (λ number. number == root)
+        (found dir.now dn.now.rdns) false) }
 {
     match dir.find(alloc, dn)? {
         Some(number) => Ok(number == ROOT),
@@ -311,8 +322,10 @@ pub fn parent_named(
     dn: &Dn,
 ) -> Result<Option<u32>, AllocError>
     requires { 1 ≤ length dn.now.rdns }
-    ensures found { IfOk result (λ parent. parent ≡ visible_of dir.now token.now (drop 1 dn.now.rdns)) }
-    ensures live { IfOk result (λ parent. IfSome parent (λ number. is_live dir.now.objects number ≡ true)) }
+    ensures found { IfOk result (λ parent. parent ≡ visible_of dir.now token.now
+        (drop 1 dn.now.rdns)) }
+    ensures live { IfOk result (λ parent.
+        IfSome parent (λ number. is_live dir.now.objects number ≡ true)) }
 {
     let above = dn.ancestor(alloc, 1)?;
     visible(alloc, dir, token, &above)
@@ -330,7 +343,8 @@ pub(crate) fn add_verdict(
     add: &Add,
     settings: &Settings,
 ) -> Result<Verdict, AllocError>
-    ensures { IfOk result (λ verdict. verdict ≡ verdict_of dir.now token.now (AddOf add.now) settings.now) }
+    ensures { IfOk result (λ verdict. verdict ≡ verdict_of dir.now token.now (AddOf add.now)
+        settings.now) }
 {
     let Some(dn) = read_name(alloc, add.dn.as_slice())? else {
         return Ok(Verdict::Refused(34));

@@ -33,7 +33,8 @@ pub(crate) fn unless_leaves(
 ) -> Result<Option<Verdict>, AllocError>
     requires live { is_live dir.now.objects number ≡ true }
     requires below { number ≢ root }
-    ensures { IfOk result (λ refusal. refusal ≡ refusal_of (all_met dir.now token.now (to_leave dir.now number ∷ []))) }
+    ensures { IfOk result (λ refusal. refusal
+        ≡ refusal_of (all_met dir.now token.now (to_leave dir.now number ∷ []))) }
 {
     let alone = Ask {
         object: number,
@@ -56,7 +57,8 @@ fn unless_all_go(
     number: u32,
 ) -> Result<Option<Verdict>, AllocError>
     requires { is_live dir.now.objects number ≡ true }
-    ensures { IfOk result (λ refusal. refusal ≡ refusal_of (all_met dir.now token.now (delete_needs dir.now number true))) }
+    ensures { IfOk result (λ refusal. refusal
+        ≡ refusal_of (all_met dir.now token.now (delete_needs dir.now number true))) }
 {
     let ask = Ask {
         object: number,
@@ -76,7 +78,8 @@ fn unless_deletes(
 ) -> Result<Option<Verdict>, AllocError>
     requires live { is_live dir.now.objects number ≡ true }
     requires below { number ≢ root }
-    ensures { IfOk result (λ refusal. refusal ≡ refusal_of (all_met dir.now token.now (delete_needs dir.now number tree))) }
+    ensures { IfOk result (λ refusal. refusal
+        ≡ refusal_of (all_met dir.now token.now (delete_needs dir.now number tree))) }
 {
     if tree {
         unless_all_go(alloc, dir, token, number)
@@ -85,7 +88,8 @@ fn unless_deletes(
     }
 }
 
-/// The first check that fails of a Delete, up to what it needs; or what it asks for. `text` is the name that was sent.
+/// The first check that fails of a Delete, up to what it needs; or what it asks for. `text` is the name that was
+/// sent.
 ///
 /// # Errors
 ///
@@ -97,7 +101,8 @@ pub(crate) fn delete_verdict(
     text: &[u8],
     settings: &Settings,
 ) -> Result<Verdict, AllocError>
-    ensures { IfOk result (λ verdict. verdict ≡ verdict_of dir.now token.now (DeleteOf text.now) settings.now) }
+    ensures { IfOk result (λ verdict. verdict ≡ verdict_of dir.now token.now (DeleteOf text.now)
+        settings.now) }
 {
     let Some(dn) = read_name(alloc, text)? else {
         return Ok(Verdict::Refused(34));

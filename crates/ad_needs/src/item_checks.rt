@@ -49,7 +49,8 @@ fn placed_refusal(
 ) -> Result<Option<Verdict>, AllocError>
     requires live { is_live dir.now.objects number ≡ true }
     requires attr { attr.0 < length (attrs_of dir.now.schema) }
-    ensures { IfOk result (λ refusal. refusal ≡ refusal_of (placed_checks dir.now number items.now name.now attr.0)) }
+    ensures { IfOk result (λ refusal. refusal
+        ≡ refusal_of (placed_checks dir.now number items.now name.now attr.0)) }
 {
     if same_name(name, b"objectClass") {
         return Ok(Some(Verdict::Refused(69)));
@@ -75,7 +76,8 @@ fn ordinary_refusal(
     item: &Item,
 ) -> Result<Option<Verdict>, AllocError>
     requires { is_live dir.now.objects number ≡ true }
-    ensures { IfOk result (λ refusal. refusal ≡ refusal_of (ordinary_checks dir.now number items.now item.now)) }
+    ensures { IfOk result (λ refusal. refusal
+        ≡ refusal_of (ordinary_checks dir.now number items.now item.now)) }
 {
     let name = item.attr.as_slice();
     match dir.schema().attr(name) {
@@ -102,7 +104,8 @@ fn descriptor_refusal(
     items: &[Item],
     item: &Item,
 ) -> Result<Option<Verdict>, AllocError>
-    ensures { IfOk result (λ refusal. refusal ≡ refusal_of (descriptor_checks flags items.now item.now)) }
+    ensures { IfOk result (λ refusal. refusal
+        ≡ refusal_of (descriptor_checks flags items.now item.now)) }
 {
     if !replaces_alone(alloc, items, item)? {
         return Ok(Some(Verdict::Refused(53)));
@@ -122,7 +125,8 @@ fn item_refusal(
     item: &Item,
 ) -> Result<Option<Verdict>, AllocError>
     requires { is_live dir.now.objects number ≡ true }
-    ensures { IfOk result (λ refusal. refusal ≡ refusal_of (item_checks dir.now number flags items.now item.now)) }
+    ensures { IfOk result (λ refusal. refusal
+        ≡ refusal_of (item_checks dir.now number flags items.now item.now)) }
 {
     if is_descriptor(item.attr.as_slice()) {
         return descriptor_refusal(alloc, flags, items, item);
@@ -143,7 +147,8 @@ pub(crate) fn items_refusal(
     items: &[Item],
 ) -> Result<Option<Verdict>, AllocError>
     requires { is_live dir.now.objects number ≡ true }
-    ensures { IfOk result (λ refusal. refusal ≡ refusal_of (flat_map (item_checks dir.now number flags items.now) items.now)) }
+    ensures { IfOk result (λ refusal. refusal
+        ≡ refusal_of (flat_map (item_checks dir.now number flags items.now) items.now)) }
 {
     'each: for item in items {
         if let Some(verdict) = item_refusal(alloc, dir, number, flags, items, item)? {

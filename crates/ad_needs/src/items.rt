@@ -32,7 +32,8 @@ pub fn items_of<'a>(
     items: &'a [Item],
     name: &[u8],
 ) -> Result<Vec<&'a Item>, AllocError>
-    ensures { IfOk result (λ all. map (λ item. item.now) all.items ≡ items_of items.entry.now name.now) }
+    ensures { IfOk result (λ all. map (λ item. item.now) all.items ≡ items_of items.entry.now
+        name.now) }
 {
     let mut all = Vec::new(alloc);
     'each: for item in items {
@@ -104,7 +105,8 @@ pub(crate) fn has_its_form(alloc: Global, items: &[Item], name: &[u8]) -> Result
 ///
 /// Memory ran out.
 pub(crate) fn replaces_alone(alloc: Global, items: &[Item], item: &Item) -> Result<bool, AllocError>
-    ensures { IfOk result (λ is. is ≡ (item.now.op == 2 && length (items_of items.now item.now.attr) == 1)) }
+    ensures { IfOk result (λ is. is
+        ≡ (item.now.op == 2 && length (items_of items.now item.now.attr) == 1)) }
 {
     if item.op != 2 {
         return Ok(false);

@@ -28,7 +28,8 @@ pub fn verdict(
     settings: &Settings,
 ) -> Result<Verdict, AllocError>
     requires change { IsChange (op_seen op.now) }
-    ensures { IfOk result (λ verdict. verdict ≡ verdict_of dir.now token.now (op_seen op.now) settings.now) }
+    ensures { IfOk result (λ verdict. verdict ≡ verdict_of dir.now token.now (op_seen op.now)
+        settings.now) }
 {
     match op {
         Op::Add(add) => add_verdict(alloc, dir, token, add, settings),

@@ -14,6 +14,8 @@ ghost use Rattle.ad_needs.specs.Verdicts.{verdict_of};
 /// What an operation needs and lacks is a right on live objects, in each directory whose objects stand as those of
 /// one in memory do.
 pub fn a_missing_need_names_live_objects()
-    ensures { (dir : Directory) (token : Token) (op : OpValue) (s : Settings) (need : Need) → AreStanding dir.schema dir.objects
-        → verdict_of dir token op s ≡ IsMissing need → All (λ want. is_live dir.objects want.object ≡ true) need.alternatives }
+    ensures { (dir : Directory) (token : Token) (op : OpValue) (s : Settings) (need : Need)
+        → AreStanding dir.schema dir.objects
+        → verdict_of dir token op s ≡ IsMissing need
+        → All (λ want. is_live dir.objects want.object ≡ true) need.alternatives }
 {}

@@ -7,7 +7,8 @@ ghost use Rattle.ad_dir_model.specs.Objects.{is_live};
 ghost use Rattle.ad_dir_model.specs.Attributes.{attr_place};
 ghost use Rattle.ad_needs_rules.specs.Checks.{all_met};
 ghost use Rattle.ad_needs_rules.specs.Descriptors.{sd_in_one, asked_parts};
-ghost use Rattle.ad_needs.specs.Modifying.{written_sd, need_if, parts_needs, descriptor_needs, password_needs, attr_needs, ordinary_needs};
+ghost use Rattle.ad_needs.specs.Modifying.{written_sd, need_if, parts_needs, descriptor_needs, password_needs};
+ghost use Rattle.ad_needs.specs.Modifying.{attr_needs, ordinary_needs};
 ghost use Rattle.ad_needs.specs.Modifying.{items_of, modify_needs, force_change, change};
 ghost use Rattle.ad_needs_rules.specs.Needs.{needs};
 ghost use Rattle.ad_needs_rules.specs.Requests.{class_at, attr_path};
@@ -92,7 +93,8 @@ fn unless_kept(
     right: Right,
 ) -> Result<Option<Verdict>, AllocError>
     requires { is_live dir.now.objects number ≡ true }
-    ensures { IfOk result (λ refusal. refusal ≡ refusal_of (all_met dir.now token.now (need_if is_written number (bit_of right)))) }
+    ensures { IfOk result (λ refusal. refusal
+        ≡ refusal_of (all_met dir.now token.now (need_if is_written number (bit_of right)))) }
 {
     if !is_written {
         return Ok(None);
@@ -113,7 +115,8 @@ fn parts_refusal(
     parts: &SdParts,
 ) -> Result<Option<Verdict>, AllocError>
     requires { is_live dir.now.objects number ≡ true }
-    ensures { IfOk result (λ refusal. refusal ≡ refusal_of (all_met dir.now token.now (parts_needs number parts.now))) }
+    ensures { IfOk result (λ refusal. refusal
+        ≡ refusal_of (all_met dir.now token.now (parts_needs number parts.now))) }
 {
     let is_owned = has_owner_or_group(parts);
     if let Some(owner) = unless_kept(alloc, dir, token, number, is_owned, Right::WriteOwner)? {
@@ -137,7 +140,9 @@ fn descriptor_refusal(
     items: &[Item],
 ) -> Result<Option<Verdict>, AllocError>
     requires { is_live dir.now.objects number ≡ true }
-    ensures { IfOk result (λ refusal. refusal ≡ refusal_of (all_met dir.now token.now (descriptor_needs number (written_sd items.now flags)))) }
+    ensures { IfOk result (λ refusal. refusal
+        ≡ refusal_of (all_met dir.now token.now
+        (descriptor_needs number (written_sd items.now flags)))) }
 {
     match written_sd(alloc, items, flags)? {
         Some(parts) => parts_refusal(alloc, dir, token, number, &parts),
@@ -163,7 +168,9 @@ fn password_refusal(
     name: &[u8],
 ) -> Result<Option<Verdict>, AllocError>
     requires { is_live dir.now.objects number ≡ true }
-    ensures { IfOk result (λ refusal. refusal ≡ refusal_of (all_met dir.now token.now (password_needs number (items_of items.now name.now)))) }
+    ensures { IfOk result (λ refusal. refusal
+        ≡ refusal_of (all_met dir.now token.now
+        (password_needs number (items_of items.now name.now)))) }
 {
     let own = items_of(alloc, items, name)?;
     let ask = Ask {
@@ -181,7 +188,8 @@ fn to_write(dir: &Dir, number: u32, attr: AttrId) -> Ask
     requires live { is_live dir.now.objects number ≡ true }
     requires attr { attr.0 < length (attrs_of dir.now.schema) }
     ensures object { result.object ≡ number }
-    ensures asked { asked result ≡ needs number write_property (attr_path dir.now.schema (class_at dir.now number) attr.0) }
+    ensures asked { asked result ≡ needs number write_property
+        (attr_path dir.now.schema (class_at dir.now number) attr.0) }
 {
     Ask {
         object: number,
@@ -215,7 +223,8 @@ fn unless_validated(
     requires live { is_live dir.now.objects number ≡ true }
     requires attr { attr.0 < length (attrs_of dir.now.schema) }
     ensures { IfOk result (λ refusal. refusal
-        ≡ refusal_of (all_met dir.now token.now (attr_needs dir.now token.now number attr.0 (map (λ item. item.now) items.now)))) }
+        ≡ refusal_of (all_met dir.now token.now
+        (attr_needs dir.now token.now number attr.0 (map (λ item. item.now) items.now)))) }
 {
     let write = to_write(dir, number, attr);
     match validated_write(alloc, dir, token, number, attr, items)? {
@@ -237,7 +246,8 @@ fn attr_refusal(
     requires live { is_live dir.now.objects number ≡ true }
     requires attr { attr.0 < length (attrs_of dir.now.schema) }
     ensures { IfOk result (λ refusal. refusal
-        ≡ refusal_of (all_met dir.now token.now (attr_needs dir.now token.now number attr.0 (items_of items.now name.now)))) }
+        ≡ refusal_of (all_met dir.now token.now
+        (attr_needs dir.now token.now number attr.0 (items_of items.now name.now)))) }
 {
     if is_granted(dir, token, &to_write(dir, number, attr)) {
         return Ok(None);
@@ -258,7 +268,8 @@ fn ordinary_refusal(
     requires { is_live dir.now.objects number ≡ true }
     ensures { IfOk result (λ refusal. refusal
         ≡ refusal_of (all_met dir.now token.now
-        (ordinary_needs dir.now token.now number (items_of items.now name.now) (attr_place dir.now.schema name.now)))) }
+        (ordinary_needs dir.now token.now number (items_of items.now name.now)
+        (attr_place dir.now.schema name.now)))) }
 {
     match dir.schema().attr(name) {
         Some(attr) => attr_refusal(alloc, dir, token, number, attr, items, name),
@@ -282,7 +293,8 @@ fn refusal_if(
 ) -> Result<Option<Verdict>, AllocError>
     requires { is_live dir.now.objects number ≡ true }
     ensures { IfOk result (λ refusal. refusal
-        ≡ refusal_of (all_met dir.now token.now (needs_if is_first (named_needs dir.now token.now number flags items.now name.now)))) }
+        ≡ refusal_of (all_met dir.now token.now
+        (needs_if is_first (named_needs dir.now token.now number flags items.now name.now)))) }
 {
     if !is_first {
         return Ok(None);
@@ -310,7 +322,9 @@ pub(crate) fn needs_refusal(
     items: &[Item],
 ) -> Result<Option<Verdict>, AllocError>
     requires { is_live dir.now.objects number ≡ true }
-    ensures { IfOk result (λ refusal. refusal ≡ refusal_of (all_met dir.now token.now (modify_needs dir.now token.now number flags items.now))) }
+    ensures { IfOk result (λ refusal. refusal
+        ≡ refusal_of (all_met dir.now token.now
+        (modify_needs dir.now token.now number flags items.now))) }
 {
     let mut named = none_named(alloc, dir.schema())?;
     'each: for i in 0..items.len() {

@@ -90,7 +90,8 @@ fn verdict_at(
     flags: u8,
 ) -> Result<Verdict, AllocError>
     requires { is_live dir.now.objects number ≡ true }
-    ensures { IfOk result (λ verdict. verdict ≡ verdict_at dir.now token.now number items.now flags) }
+    ensures { IfOk result (λ verdict. verdict ≡ verdict_at dir.now token.now number items.now
+        flags) }
 {
     if let Some(refusal) = items_refusal(alloc, dir, number, flags, items)? {
         return Ok(refusal);
@@ -111,7 +112,8 @@ fn verdict_named(
     items: &[Item],
     flags: u8,
 ) -> Result<Verdict, AllocError>
-    ensures { IfOk result (λ verdict. verdict ≡ verdict_named dir.now token.now dn.now.rdns items.now flags) }
+    ensures { IfOk result (λ verdict. verdict ≡ verdict_named dir.now token.now dn.now.rdns
+        items.now flags) }
 {
     match visible(alloc, dir, token, dn)? {
         Some(number) => verdict_at(alloc, dir, token, number, items, flags),
@@ -132,7 +134,8 @@ pub(crate) fn modify_verdict(
     settings: &Settings,
 ) -> Result<Verdict, AllocError>
     requires { AllByRecursion (λ item. item.op ≤ 2) modify.now.items }
-    ensures { IfOk result (λ verdict. verdict ≡ verdict_of dir.now token.now (ModifyOf modify.now) settings.now) }
+    ensures { IfOk result (λ verdict. verdict ≡ verdict_of dir.now token.now (ModifyOf modify.now)
+        settings.now) }
 {
     let items = modify.items.as_slice();
     match read_name(alloc, modify.dn.as_slice())? {

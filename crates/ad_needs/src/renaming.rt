@@ -13,7 +13,8 @@ ghost use Rattle.ad_dir_model.specs.Directory.{parents};
 ghost use Rattle.ad_needs_rules.specs.Checks.{all_met};
 ghost use Rattle.ad_needs_rules.specs.Requests.{class_at, name_in};
 ghost use Rattle.ad_needs.specs.Renaming.{one_part, is_typed, move_needs, to_write, name_needs, rename_needs};
-ghost use Rattle.ad_needs.specs.Moves.{parent_by, is_outside, rename_rest, rename_judged, in_place_judged, moved_judged};
+ghost use Rattle.ad_needs.specs.Moves.{parent_by, is_outside, rename_rest, rename_judged, in_place_judged};
+ghost use Rattle.ad_needs.specs.Moves.{moved_judged};
 ghost use Rattle.ad_needs_rules.specs.Judged.{refusal_of};
 ghost use Rattle.ad_needs.specs.Verdicts.{verdict_of};
 
@@ -142,7 +143,8 @@ fn unless_moves(
     requires live { is_live dir.now.objects number ≡ true }
     requires below { number ≢ root }
     requires parent { is_live dir.now.objects parent ≡ true }
-    ensures { IfOk result (λ refusal. refusal ≡ refusal_of (all_met dir.now token.now (move_needs dir.now number parent))) }
+    ensures { IfOk result (λ refusal. refusal
+        ≡ refusal_of (all_met dir.now token.now (move_needs dir.now number parent))) }
 {
     if parent_of(dir, number) == parent {
         return Ok(None);
@@ -168,7 +170,8 @@ fn unless_writes(
 ) -> Result<Option<Verdict>, AllocError>
     requires live { is_live dir.now.objects number ≡ true }
     requires attr { attr.0 < length (attrs_of dir.now.schema) }
-    ensures { IfOk result (λ refusal. refusal ≡ refusal_of (all_met dir.now token.now (to_write dir.now number attr.0 ∷ []))) }
+    ensures { IfOk result (λ refusal. refusal
+        ≡ refusal_of (all_met dir.now token.now (to_write dir.now number attr.0 ∷ []))) }
 {
     let ask = Ask {
         object: number,
@@ -187,7 +190,8 @@ fn unless_names(
 ) -> Result<Option<Verdict>, AllocError>
     requires { is_live dir.now.objects number ≡ true }
     ensures { IfOk result (λ refusal. refusal
-        ≡ refusal_of (all_met dir.now token.now (name_needs dir.now number (attr_place dir.now.schema (codes "name"))))) }
+        ≡ refusal_of (all_met dir.now token.now
+        (name_needs dir.now number (attr_place dir.now.schema (codes "name"))))) }
 {
     match dir.schema().attr(b"name") {
         Some(attr) => unless_writes(alloc, dir, token, number, attr),
@@ -234,7 +238,8 @@ fn unless_renames(
     requires live { is_live dir.now.objects number ≡ true }
     requires below { number ≢ root }
     requires parent { is_live dir.now.objects parent ≡ true }
-    ensures { IfOk result (λ refusal. refusal ≡ refusal_of (all_met dir.now token.now (rename_needs dir.now number parent))) }
+    ensures { IfOk result (λ refusal. refusal
+        ≡ refusal_of (all_met dir.now token.now (rename_needs dir.now number parent))) }
 {
     if let Some(refusal) = unless_moves(alloc, dir, token, number, parent)? {
         return Ok(Some(refusal));
@@ -255,7 +260,8 @@ fn unless_lawful(
 ) -> Result<Option<Verdict>, AllocError>
     requires live { is_live dir.now.objects number ≡ true }
     requires superior { IfSome superior (λ above. is_live dir.now.objects above ≡ true) }
-    ensures { IfOk result (λ refusal. refusal ≡ refusal_of (rename_rest dir.now token.now number rdn.now superior)) }
+    ensures { IfOk result (λ refusal. refusal
+        ≡ refusal_of (rename_rest dir.now token.now number rdn.now superior)) }
 {
     if number == ROOT {
         return Ok(Some(Verdict::Refused(53)));
@@ -281,7 +287,8 @@ fn judged(
 ) -> Result<Verdict, AllocError>
     requires live { is_live dir.now.objects number ≡ true }
     requires superior { IfSome superior (λ above. is_live dir.now.objects above ≡ true) }
-    ensures { IfOk result (λ verdict. verdict ≡ rename_judged dir.now token.now number rdn superior) }
+    ensures { IfOk result (λ verdict. verdict ≡ rename_judged dir.now token.now number rdn
+        superior) }
 {
     match unless_lawful(alloc, dir, token, number, &rdn, superior)? {
         Some(refusal) => Ok(refusal),
@@ -318,7 +325,8 @@ fn judged_moved(
     rdn: Rdn,
     superior: &[u8],
 ) -> Result<Verdict, AllocError>
-    ensures { IfOk result (λ verdict. verdict ≡ moved_judged dir.now token.now dn.now.rdns rdn superior.now) }
+    ensures { IfOk result (λ verdict. verdict ≡ moved_judged dir.now token.now dn.now.rdns rdn
+        superior.now) }
 {
     let Some(above) = read_name(alloc, superior)? else {
         return Ok(Verdict::Refused(34));
@@ -346,7 +354,8 @@ pub(crate) fn rename_verdict(
     rename: &Rename,
     settings: &Settings,
 ) -> Result<Verdict, AllocError>
-    ensures { IfOk result (λ verdict. verdict ≡ verdict_of dir.now token.now (RenameOf rename.now) settings.now) }
+    ensures { IfOk result (λ verdict. verdict ≡ verdict_of dir.now token.now (RenameOf rename.now)
+        settings.now) }
 {
     let _ = settings;
     let Some(dn) = read_name(alloc, rename.dn.as_slice())? else {

@@ -26,7 +26,8 @@ use ad_schema_classes::same_name;
 use std::alloc::{AllocError, Global};
 
 fn sent_in<'a>(attrs: &'a [(Bytes, List<Bytes>)], name: &[u8]) -> Option<&'a [Bytes]>
-    ensures { option_map (λ values. values.now) result ≡ option_map (λ attr. attr.1) (find (is_of name.now) attrs.entry.now) }
+    ensures { option_map (λ values. values.now) result ≡ option_map (λ attr. attr.1)
+        (find (is_of name.now) attrs.entry.now) }
 {
     for attr in attrs {
         if same_name(attr.0.as_slice(), name) {
@@ -96,7 +97,8 @@ fn unless_new(
     }
 }
 
-/// The refusal where one of the attributes isn't known or is named twice. The time is linear in them and in the schema.
+/// The refusal where one of the attributes isn't known or is named twice. The time is linear in them and in the
+/// schema.
 ///
 /// # Errors
 ///
@@ -106,7 +108,8 @@ pub(crate) fn unless_named_once(
     schema: &Schema,
     attrs: &[(Bytes, List<Bytes>)],
 ) -> Result<Option<Verdict>, AllocError>
-    ensures { IfOk result (λ refusal. refusal ≡ refusal_of (all_naming_checks schema.now [] attrs.now)) }
+    ensures { IfOk result (λ refusal. refusal
+        ≡ refusal_of (all_naming_checks schema.now [] attrs.now)) }
 {
     let mut named = none_sent(alloc, schema)?;
     'each: for i in 0..attrs.len() {
@@ -171,7 +174,8 @@ fn are_all(value: &[u8], values: &[Bytes]) -> bool
 // value.
 fn are_own(schema: &Schema, class: ClassId, value: &[u8], attr: AttrId, values: &[Bytes]) -> bool
     requires { class.0 < length (classes_of schema.now) }
-    ensures { result ≡ (not (is_naming schema.now class.0 attr.0) || list_all (bytes_eq value.now) values.now) }
+    ensures { result ≡ (not (is_naming schema.now class.0 attr.0) || list_all (bytes_eq value.now)
+        values.now) }
 {
     !is_naming(schema, class, attr) || are_all(value, values)
 }
@@ -222,7 +226,8 @@ pub(crate) fn unless_all_lawful(
     attrs: &[(Bytes, List<Bytes>)],
 ) -> Option<Verdict>
     requires { class.0 < length (classes_of schema.now) }
-    ensures { result ≡ refusal_of (flat_map (own_checks schema.now class.0 value.now) (filter_map (ordinary schema.now) attrs.now)) }
+    ensures { result ≡ refusal_of (flat_map (own_checks schema.now class.0 value.now)
+        (filter_map (ordinary schema.now) attrs.now)) }
 {
     for attr in attrs {
         let refusal = unless_lawful(schema, class, value, attr);
@@ -262,7 +267,8 @@ fn is_value(schema: &Schema, class: ClassId, attr: AttrId) -> bool
 fn value_place(schema: &Schema, class: ClassId, attr: &(Bytes, List<Bytes>)) -> Option<AttrId>
     requires { class.0 < length (classes_of schema.now) }
     ensures { option_to_list (option_map (λ id. (id, attr.now.1)) result)
-        ≡ map by_id (filter (λ attr. is_value schema.now class.0 attr.0) (filter_map (ordinary schema.now) (attr.now ∷ []))) }
+        ≡ map by_id (filter (λ attr. is_value schema.now class.0 attr.0)
+        (filter_map (ordinary schema.now) (attr.now ∷ []))) }
 {
     match ordinary(schema, attr) {
         Some(id) => {
@@ -286,7 +292,8 @@ fn push_values(
 ) -> Result<(), AllocError>
     requires { class.0 < length (classes_of schema.now) }
     ensures { OnOk result (into.new ≡ into.old
-        ++ map by_id (filter (λ attr. is_value schema.now class.0 attr.0) (filter_map (ordinary schema.now) (attr.now ∷ [])))) }
+        ++ map by_id (filter (λ attr. is_value schema.now class.0 attr.0)
+        (filter_map (ordinary schema.now) (attr.now ∷ [])))) }
 {
     match value_place(schema, class, attr) {
         Some(id) => {
@@ -305,7 +312,8 @@ fn values_in(
 ) -> Result<List<(AttrId, List<Bytes>)>, AllocError>
     requires { class.0 < length (classes_of schema.now) }
     ensures { IfOk result (λ values. values
-        ≡ map by_id (filter (λ attr. is_value schema.now class.0 attr.0) (filter_map (ordinary schema.now) attrs.now))) }
+        ≡ map by_id (filter (λ attr. is_value schema.now class.0 attr.0)
+        (filter_map (ordinary schema.now) attrs.now))) }
 {
     let mut values = List::new(alloc);
     for attr in attrs {

@@ -1,5 +1,7 @@
 -- The names above one that leads nowhere: where no object has a name, none has one below it.
-use Rattle.std.proofs.Common.{◌≡◌, ℕ, zero, suc, ◌+◌, ◌-◌, ◌<◌, ◌≤◌, Bool, true, false, ◌&&◌, List, [], ◌∷◌, ◌++◌, length, drop, get_or, reverse, Option, Some, None, add-one, inl, inr, refl, sym, ap, ◌∙◌, arith}
+use Rattle.std.proofs.Common.{◌≡◌, ℕ, zero, suc, ◌+◌, ◌-◌, ◌<◌, ◌≤◌, Bool, true, false, ◌&&◌, List, [], ◌∷◌, ◌++◌}
+use Rattle.std.proofs.Common.{length, drop, get_or, reverse, Option, Some, None, add-one, inl, inr, refl, sym, ap}
+use Rattle.std.proofs.Common.{◌∙◌, arith}
 use Rattle.std.specs.Prelude.{if◌then◌else◌, is_some}
 use Rattle.std.specs.Option.{option_and_then}
 use Rattle.std.proofs.lemmas.Bool.{cases_lt}
@@ -10,7 +12,8 @@ use Rattle.ad_dn.specs.declared.rdn.Rdn.{Rdn}
 use Rattle.ad_dir_model.specs.Objects.{is_live}
 use Rattle.ad_dir_model.specs.Tree.{root}
 use Rattle.ad_dir_model.specs.Directory.{Directory}
-use Rattle.ad_dir_model.specs.Names.{rdns_within, rdns_of, same_rdn, begins_with, child_of_rdn, found_below, found_from_end, found}
+use Rattle.ad_dir_model.specs.Names.{rdns_within, rdns_of, same_rdn, begins_with, child_of_rdn, found_below}
+use Rattle.ad_dir_model.specs.Names.{found_from_end, found}
 use Rattle.ad_access_dir.specs.Sight.{is_visible, if_visible, visible_of}
 use Rattle.ad_needs_rules.specs.Requests.{no_rdn}
 use Rattle.ad_needs_rules.proofs.SightLaws.{nearest, nearest_here, nearest_later}
@@ -25,29 +28,38 @@ begins_short : (parts top : List Rdn) → length parts < length top → begins_w
 unfolding begins_with
 begins_short parts [] lt = absurd (omega (arith, lt))
 begins_short [] (b ∷ bs) lt = refl
-begins_short (a ∷ as') (b ∷ bs) lt = ap (λ (t : Bool). same_rdn a b && t) (begins_short as' bs (omega (arith, lt))) ∙ and_false (same_rdn a b)
+begins_short (a ∷ as') (b ∷ bs) lt = ap (λ (t : Bool). same_rdn a b && t) (begins_short as' bs (omega (arith, lt)))
+    ∙ and_false (same_rdn a b)
 
 -- one part more changes nothing of how a name begins that is no shorter
-begins_more : (parts top : List Rdn) (rdn : Rdn) → length top ≤ length parts → begins_with (parts ++ rdn ∷ []) top ≡ begins_with parts top
+begins_more : (parts top : List Rdn) (rdn : Rdn) → length top ≤ length parts → begins_with (parts ++ rdn ∷ []) top
+    ≡ begins_with parts top
 unfolding begins_with
 begins_more parts [] rdn le = refl
 begins_more [] (b ∷ bs) rdn le = absurd (omega (arith, le))
-begins_more (a ∷ as') (b ∷ bs) rdn le = ap (λ (t : Bool). same_rdn a b && t) (begins_more as' bs rdn (omega (arith, le)))
+begins_more (a ∷ as') (b ∷ bs) rdn le = ap (λ (t : Bool). same_rdn a b && t)
+    (begins_more as' bs rdn (omega (arith, le)))
 
-below_none : (dir : Directory) (n : ℕ) (rdns : List Rdn) (rdn : Rdn) → found_below dir n rdns ≡ None → found_below dir n (rdns ++ rdn ∷ []) ≡ None
+below_none : (dir : Directory) (n : ℕ) (rdns : List Rdn) (rdn : Rdn) → found_below dir n rdns ≡ None
+    → found_below dir n (rdns ++ rdn ∷ []) ≡ None
 unfolding found_below
 below_none dir n [] rdn none = absurd (none-some n (sym none))
 below_none dir n (first ∷ rest) rdn none = by_child (child_of_rdn dir n first) (λ k. below_none dir k rest rdn) none
   where
-    by_child : (child : Option ℕ) → ((k : ℕ) → found_below dir k rest ≡ None → found_below dir k (rest ++ rdn ∷ []) ≡ None)
-        → option_and_then (λ (k : ℕ). found_below dir k rest) child ≡ None → option_and_then (λ (k : ℕ). found_below dir k (rest ++ rdn ∷ [])) child ≡ None
+    by_child : (child : Option ℕ) → ((k : ℕ) → found_below dir k rest ≡ None → found_below dir k (rest ++ rdn ∷ [])
+        ≡ None)
+        → option_and_then (λ (k : ℕ). found_below dir k rest) child ≡ None
+        → option_and_then (λ (k : ℕ). found_below dir k (rest ++ rdn ∷ [])) child ≡ None
     by_child None again is = refl
     by_child (Some k) again is = again k is
 
-from_end_none : (dir : Directory) (top parts : List Rdn) (rdn : Rdn) → length top ≤ length parts → found_from_end dir top parts ≡ None → found_from_end dir top (parts ++ rdn ∷ []) ≡ None
+from_end_none : (dir : Directory) (top parts : List Rdn) (rdn : Rdn) → length top ≤ length parts
+    → found_from_end dir top parts ≡ None → found_from_end dir top (parts ++ rdn ∷ []) ≡ None
 from_end_none dir top parts rdn le none =
-    ap (λ (b : Bool). if is_live dir.objects root && b then found_below dir root (drop (length top) (parts ++ rdn ∷ [])) else None) (begins_more parts top rdn le)
-    ∙ ap (λ (rest : List Rdn). if is_live dir.objects root && begins_with parts top then found_below dir root rest else None) (drop-append-le (length top) parts (rdn ∷ []) le)
+    ap (λ (b : Bool). if is_live dir.objects root && b then found_below dir root
+    (drop (length top) (parts ++ rdn ∷ [])) else None) (begins_more parts top rdn le)
+    ∙ ap (λ (rest : List Rdn). if is_live dir.objects root && begins_with parts top then found_below dir root rest
+    else None) (drop-append-le (length top) parts (rdn ∷ []) le)
     ∙ by_test (is_live dir.objects root && begins_with parts top) none
   where
     by_test : (b : Bool) → (if b then found_below dir root (drop (length top) parts) else None) ≡ None
@@ -67,11 +79,14 @@ unfolding found
 found_short dir rdns le =
     let top = reverse (rdns_of dir root) in
     let shorter : length (reverse rdns) < length top = omega (arith, length-reverse rdns, top_length dir, le) in
-    ap (λ (b : Bool). if is_live dir.objects root && b then found_below dir root (drop (length top) (reverse rdns)) else None) (begins_short (reverse rdns) top shorter)
-    ∙ ap (λ (b : Bool). if b then found_below dir root (drop (length top) (reverse rdns)) else None) (and_false (is_live dir.objects root))
+    ap (λ (b : Bool). if is_live dir.objects root && b then found_below dir root (drop (length top) (reverse rdns))
+    else None) (begins_short (reverse rdns) top shorter)
+    ∙ ap (λ (b : Bool). if b then found_below dir root (drop (length top) (reverse rdns)) else None)
+    (and_false (is_live dir.objects root))
 
 -- nor does a name below one that leads nowhere and is as long as the root's
-found_none : (dir : Directory) (rdn : Rdn) (rdns : List Rdn) → length dir.meta.suffix < length rdns → found dir rdns ≡ None → found dir (rdn ∷ rdns) ≡ None
+found_none : (dir : Directory) (rdn : Rdn) (rdns : List Rdn) → length dir.meta.suffix < length rdns → found dir rdns
+    ≡ None → found dir (rdn ∷ rdns) ≡ None
 unfolding found
 found_none dir rdn rdns lt none =
     let top = reverse (rdns_of dir root) in
@@ -80,29 +95,38 @@ found_none dir rdn rdns lt none =
 
 -- ---- the nearest that is visible
 
-pub not_visible : (dir : Directory) (token : Token) (rdns : List Rdn) → found dir rdns ≡ None → is_some (visible_of dir token rdns) ≡ false
+pub not_visible : (dir : Directory) (token : Token) (rdns : List Rdn) → found dir rdns ≡ None
+    → is_some (visible_of dir token rdns) ≡ false
 unfolding visible_of
 not_visible dir token rdns none = ap (λ (o : Option ℕ). is_some (option_and_then (if_visible dir token) o)) none
 
-pub visible_by : (dir : Directory) (token : Token) (rdns : List Rdn) (number : ℕ) (b : Bool) → found dir rdns ≡ Some number → is_visible dir token number ≡ b → is_some (visible_of dir token rdns) ≡ b
+pub visible_by : (dir : Directory) (token : Token) (rdns : List Rdn) (number : ℕ) (b : Bool) → found dir rdns
+    ≡ Some number → is_visible dir token number ≡ b → is_some (visible_of dir token rdns) ≡ b
 unfolding visible_of
-visible_by dir token rdns number b leads is = ap (λ (o : Option ℕ). is_some (option_and_then (if_visible dir token) o)) leads ∙ by_test (is_visible dir token number) ∙ is
+visible_by dir token rdns number b leads is
+    = ap (λ (o : Option ℕ). is_some (option_and_then (if_visible dir token) o)) leads
+    ∙ by_test (is_visible dir token number) ∙ is
   where
     by_test : (t : Bool) → is_some (if t then Some number else None) ≡ t
     by_test true = refl
     by_test false = refl
 
-pub nearest_short : (dir : Directory) (token : Token) (rdns : List Rdn) → length rdns ≤ length dir.meta.suffix → nearest dir token rdns ≡ []
+pub nearest_short : (dir : Directory) (token : Token) (rdns : List Rdn) → length rdns ≤ length dir.meta.suffix
+    → nearest dir token rdns ≡ []
 unfolding nearest
 nearest_short dir token [] le = refl
 nearest_short dir token (rdn ∷ rdns) le =
-    ap (λ (b : Bool). if b then rdn ∷ rdns else nearest dir token rdns) (not_visible dir token (rdn ∷ rdns) (found_short dir (rdn ∷ rdns) le))
+    ap (λ (b : Bool). if b then rdn ∷ rdns else nearest dir token rdns)
+    (not_visible dir token (rdn ∷ rdns) (found_short dir (rdn ∷ rdns) le))
     ∙ nearest_short dir token rdns (omega (arith, le))
 
 -- above a name that leads nowhere none is visible that is nearer
-pub nearest_above : (dir : Directory) (token : Token) (rdns : List Rdn) (levels first : ℕ) → levels + length dir.meta.suffix < length rdns → first ≤ levels
-    → found dir (drop levels rdns) ≡ None → nearest dir token (drop first rdns) ≡ nearest dir token (drop (levels + 1) rdns)
-nearest_above dir token rdns zero zero lt le none = nearest_later dir token rdns 0 (omega (arith, lt)) (not_visible dir token (drop 0 rdns) none)
+pub nearest_above : (dir : Directory) (token : Token) (rdns : List Rdn) (levels first : ℕ) → levels
+    + length dir.meta.suffix < length rdns → first ≤ levels
+    → found dir (drop levels rdns) ≡ None → nearest dir token (drop first rdns)
+    ≡ nearest dir token (drop (levels + 1) rdns)
+nearest_above dir token rdns zero zero lt le none = nearest_later dir token rdns 0 (omega (arith, lt))
+    (not_visible dir token (drop 0 rdns) none)
 nearest_above dir token rdns zero (suc first) lt le none = absurd (omega (arith, le))
 nearest_above dir token rdns (suc levels) first lt le none = elim (cases_lt first (suc levels)) [
   | inl less ↦
@@ -115,7 +139,8 @@ nearest_above dir token rdns (suc levels) first lt le none = elim (cases_lt firs
 ]
   where
     here : nearest dir token (drop (suc levels) rdns) ≡ nearest dir token (drop (suc levels + 1) rdns)
-    here = nearest_later dir token rdns (suc levels) (omega (arith, lt)) (not_visible dir token (drop (suc levels) rdns) none)
+    here = nearest_later dir token rdns (suc levels) (omega (arith, lt))
+        (not_visible dir token (drop (suc levels) rdns) none)
 
     parts : drop levels rdns ≡ get_or rdns levels no_rdn ∷ drop (levels + 1) rdns
     parts = drop_more rdns levels no_rdn (omega (arith, lt))
@@ -133,25 +158,33 @@ nearest_above dir token rdns (suc levels) first lt le none = elim (cases_lt firs
 
 -- ---- from the root's name down
 
-pub starts : (dir : Directory) (token : Token) (rdns : List Rdn) (parts levels : ℕ) → length rdns ≤ parts → length rdns ≤ levels + length dir.meta.suffix
+pub starts : (dir : Directory) (token : Token) (rdns : List Rdn) (parts levels : ℕ) → length rdns ≤ parts
+    → length rdns ≤ levels + length dir.meta.suffix
     → drop parts rdns ≡ nearest dir token (drop levels rdns)
 starts dir token rdns parts levels all short =
-    drop_all parts rdns all ∙ sym (nearest_short dir token (drop levels rdns) (omega (arith, short, length-drop levels rdns)))
+    drop_all parts rdns all ∙ sym (nearest_short dir token (drop levels rdns)
+    (omega (arith, short, length-drop levels rdns)))
 
-pub stops : (dir : Directory) (token : Token) (rdns : List Rdn) (before : ℕ) (near : List Rdn) → 1 < before → before + length dir.meta.suffix ≤ length rdns
-    → found dir (drop (before - 1) rdns) ≡ None → near ≡ nearest dir token (drop before rdns) → near ≡ nearest dir token (drop 1 rdns)
+pub stops : (dir : Directory) (token : Token) (rdns : List Rdn) (before : ℕ) (near : List Rdn) → 1 < before → before
+    + length dir.meta.suffix ≤ length rdns
+    → found dir (drop (before - 1) rdns) ≡ None → near ≡ nearest dir token (drop before rdns) → near
+    ≡ nearest dir token (drop 1 rdns)
 stops dir token rdns before near lt le none so_far =
     let at : before - 1 + 1 ≡ before = omega (arith, lt) in
     so_far
     ∙ sym (nearest_above dir token rdns (before - 1) 1 (omega (arith, lt, le)) (omega (arith, lt)) none
     ∙ ap (λ (n : ℕ). nearest dir token (drop n rdns)) at)
 
-pub steps : (dir : Directory) (token : Token) (rdns : List Rdn) (before so_far : ℕ) (is : Bool) → 1 < before → before ≤ length rdns → is_some (visible_of dir token (drop (before - 1) rdns)) ≡ is
-    → drop so_far rdns ≡ nearest dir token (drop before rdns) → drop (if is then before - 1 else so_far) rdns ≡ nearest dir token (drop (before - 1) rdns)
-steps dir token rdns before so_far true lt le is before_it = nearest_here dir token rdns (before - 1) (omega (arith, lt, le)) is
+pub steps : (dir : Directory) (token : Token) (rdns : List Rdn) (before so_far : ℕ) (is : Bool) → 1 < before → before
+    ≤ length rdns → is_some (visible_of dir token (drop (before - 1) rdns)) ≡ is
+    → drop so_far rdns ≡ nearest dir token (drop before rdns) → drop (if is then before - 1 else so_far) rdns
+    ≡ nearest dir token (drop (before - 1) rdns)
+steps dir token rdns before so_far true lt le is before_it = nearest_here dir token rdns (before - 1)
+    (omega (arith, lt, le)) is
 steps dir token rdns before so_far false lt le is before_it =
     let at : before - 1 + 1 ≡ before = omega (arith, lt) in
-    before_it ∙ sym (nearest_later dir token rdns (before - 1) (omega (arith, lt, le)) is ∙ ap (λ (n : ℕ). nearest dir token (drop n rdns)) at)
+    before_it ∙ sym (nearest_later dir token rdns (before - 1) (omega (arith, lt, le)) is
+    ∙ ap (λ (n : ℕ). nearest dir token (drop n rdns)) at)
 
 pub either_within : (is : Bool) (a b most : ℕ) → a ≤ most → b ≤ most → (if is then a else b) ≤ most
 either_within true a b most la lb = la

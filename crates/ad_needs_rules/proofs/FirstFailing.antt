@@ -6,7 +6,8 @@ use Rattle.std.proofs.lemmas.Option.{none-some}
 use Rattle.ad_needs_rules.specs.Checks.{Refusal, Check, first_failing}
 
 -- the first one holds, and none of the others fails
-pub head_holds : (c : Check) (cs : List Check) → first_failing (c ∷ cs) ≡ None → (c.holds ≡ true) × (first_failing cs ≡ None)
+pub head_holds : (c : Check) (cs : List Check) → first_failing (c ∷ cs) ≡ None → (c.holds ≡ true)
+    × (first_failing cs ≡ None)
 unfolding first_failing
 head_holds c cs none =
     elim (cases_Bool c.holds) [
@@ -15,7 +16,8 @@ head_holds c cs none =
     ]
 
 -- of two lists one after the other
-pub both_hold : (xs ys : List Check) → first_failing (xs ++ ys) ≡ None → (first_failing xs ≡ None) × (first_failing ys ≡ None)
+pub both_hold : (xs ys : List Check) → first_failing (xs ++ ys) ≡ None → (first_failing xs ≡ None)
+    × (first_failing ys ≡ None)
 unfolding first_failing
 both_hold [] ys none = (refl, none)
 both_hold (c ∷ cs) ys none =

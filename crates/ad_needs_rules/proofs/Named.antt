@@ -15,10 +15,12 @@ use Rattle.ad_dir_model.proofs.Finding.{live-of, found_first}
 use Rattle.ad_access_dir.specs.Sight.{is_visible, visible_of}
 use Rattle.ad_needs_rules.specs.Requests.{parts_in, object_named, number_named}
 
-child_live : (dir : Directory) (parent m : ℕ) (rdn : Rdn) → Rise dir.objects → child_of_rdn dir parent rdn ≡ Some m → is_live dir.objects m ≡ true
+child_live : (dir : Directory) (parent m : ℕ) (rdn : Rdn) → Rise dir.objects → child_of_rdn dir parent rdn ≡ Some m
+    → is_live dir.objects m ≡ true
 unfolding child_of_rdn child_named
 child_live dir parent m rdn rise is =
-    option_and_then_some (number_if_typed dir.schema rdn) (find (is_child_named parent rdn.value) dir.objects) m is (λ (o : Object) first typed.
+    option_and_then_some (number_if_typed dir.schema rdn) (find (is_child_named parent rdn.value) dir.objects) m is
+    (λ (o : Object) first typed.
     let number : o.number ≡ m = (cond_some (same_rdn (rdn_of dir.schema o) rdn) o.number m typed).1 in
     subst (λ (k : ℕ). is_live dir.objects k ≡ true) number
     (live-of dir.objects o.number o
@@ -29,11 +31,13 @@ below_live : (dir : Directory) (n m : ℕ) (rdns : List Rdn) → Rise dir.object
 unfolding found_below
 below_live dir n m [] rise live is = subst (λ (k : ℕ). is_live dir.objects k ≡ true) (same_Some n m is) live
 below_live dir n m (rdn ∷ rdns) rise live is =
-    option_and_then_some (λ (child : ℕ). found_below dir child rdns) (child_of_rdn dir n rdn) m is (λ (child : ℕ) first rest.
+    option_and_then_some (λ (child : ℕ). found_below dir child rdns) (child_of_rdn dir n rdn) m is
+    (λ (child : ℕ) first rest.
     below_live dir child m rdns rise (child_live dir n child rdn rise first) rest)
 
 -- the object of a name is live
-pub found_live : (dir : Directory) (rdns : List Rdn) (m : ℕ) → Rise dir.objects → found dir rdns ≡ Some m → is_live dir.objects m ≡ true
+pub found_live : (dir : Directory) (rdns : List Rdn) (m : ℕ) → Rise dir.objects → found dir rdns ≡ Some m
+    → is_live dir.objects m ≡ true
 unfolding found
 found_live dir rdns m rise is = by_end (reverse (rdns_of dir root)) (reverse rdns) is
   where
@@ -43,7 +47,8 @@ found_live dir rdns m rise is = by_end (reverse (rdns_of dir root)) (reverse rdn
         by_test : (b : Bool) → (is_live dir.objects root && begins_with parts top) ≡ b
             → (if b then found_below dir root (drop (length top) parts) else None) ≡ Some m
             → is_live dir.objects m ≡ true
-        by_test true e is'' = below_live dir root m (drop (length top) parts) rise (and_parts (is_live dir.objects root) (begins_with parts top) e).0 is''
+        by_test true e is'' = below_live dir root m (drop (length top) parts) rise
+            (and_parts (is_live dir.objects root) (begins_with parts top) e).0 is''
         by_test false e is'' = absurd (none-some m is'')
 
 -- and so is that of a visible one
@@ -51,7 +56,8 @@ pub visible_live : (dir : Directory) (token : Token) (rdns : List Rdn) (m : ℕ)
     → visible_of dir token rdns ≡ Some m → is_live dir.objects m ≡ true
 unfolding visible_of
 visible_live dir token rdns m rise is =
-    option_and_then_some (λ (n : ℕ). if is_visible dir token n then Some n else None) (found dir rdns) m is (λ (n : ℕ) first seen.
+    option_and_then_some (λ (n : ℕ). if is_visible dir token n then Some n else None) (found dir rdns) m is
+    (λ (n : ℕ) first seen.
     let number : n ≡ m = (cond_some (is_visible dir token n) n m seen).1 in
     subst (λ (k : ℕ). is_live dir.objects k ≡ true) number (found_live dir rdns n rise first))
 

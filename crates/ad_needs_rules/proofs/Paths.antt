@@ -9,5 +9,6 @@ last_push [] guid = refl
 last_push (first ∷ []) guid = refl
 last_push (first ∷ second ∷ others) guid = last_push (second ∷ others) guid
 
-pub last_more : (guids : List Guid) (i : ℕ) (d : Guid) → i < length guids → Some (get_or guids i d) ≡ last_guid (take (i + 1) guids)
+pub last_more : (guids : List Guid) (i : ℕ) (d : Guid) → i < length guids → Some (get_or guids i d)
+    ≡ last_guid (take (i + 1) guids)
 last_more guids i d lt = sym (last_push (take i guids) (get_or guids i d)) ∙ ap last_guid (sym (take_more guids i d lt))

@@ -35,7 +35,8 @@ goes_on xs ys none = by (first_failing xs) refl none
     by None e none' = ap (option_map refused) (all_pass xs ys e)
     by (Some r) e none' = absurd (none-some (refused r) none')
 
-pub stops : (xs ys : List Check) (verdict : Verdict) → Some verdict ≡ refusal_of xs → Some verdict ≡ refusal_of (xs ++ ys)
+pub stops : (xs ys : List Check) (verdict : Verdict) → Some verdict ≡ refusal_of xs → Some verdict
+    ≡ refusal_of (xs ++ ys)
 unfolding refusal_of
 stops xs ys verdict some = by (first_failing xs) refl some
   where
@@ -46,7 +47,8 @@ stops xs ys verdict some = by (first_failing xs) refl some
 
 -- ---- the verdict
 
-pub refuses : (checks : List Check) (act : Act) (verdict : Verdict) → Some verdict ≡ refusal_of checks → verdict ≡ by_checks (first_failing checks) act
+pub refuses : (checks : List Check) (act : Act) (verdict : Verdict) → Some verdict ≡ refusal_of checks → verdict
+    ≡ by_checks (first_failing checks) act
 unfolding refusal_of
 refuses checks act verdict some = by (first_failing checks) some
   where
@@ -54,7 +56,8 @@ refuses checks act verdict some = by (first_failing checks) some
     by None some' = absurd (none-some verdict (sym some'))
     by (Some r) some' = same_Some verdict (refused r) some'
 
-pub grants : (checks : List Check) (act : Act) → None ≡ refusal_of checks → Granted act ≡ by_checks (first_failing checks) act
+pub grants : (checks : List Check) (act : Act) → None ≡ refusal_of checks → Granted act
+    ≡ by_checks (first_failing checks) act
 unfolding refusal_of
 grants checks act none = by (first_failing checks) none
   where
@@ -63,7 +66,8 @@ grants checks act none = by (first_failing checks) none
     by (Some r) none' = absurd (none-some (refused r) none')
 
 -- checks of the same refusal are judged alike
-pub same_judged : (xs ys : List Check) (act : Act) → refusal_of xs ≡ refusal_of ys → by_checks (first_failing xs) act ≡ by_checks (first_failing ys) act
+pub same_judged : (xs ys : List Check) (act : Act) → refusal_of xs ≡ refusal_of ys → by_checks (first_failing xs) act
+    ≡ by_checks (first_failing ys) act
 unfolding refusal_of
 same_judged xs ys act same = by (first_failing xs) (first_failing ys) same
   where
@@ -75,10 +79,12 @@ same_judged xs ys act same = by (first_failing xs) (first_failing ys) same
 
 -- ---- by the test of what was found
 
-pub stops_if : (xs ys : List Check) (found : Option Verdict) → is_some found ≡ true → found ≡ refusal_of xs → found ≡ refusal_of (xs ++ ys)
+pub stops_if : (xs ys : List Check) (found : Option Verdict) → is_some found ≡ true → found ≡ refusal_of xs → found
+    ≡ refusal_of (xs ++ ys)
 stops_if xs ys None some is = absurd (false≢true some)
 stops_if xs ys (Some verdict) some is = stops xs ys verdict is
 
-pub goes_on_if : (xs ys : List Check) (found : Option Verdict) → is_some found ≡ false → found ≡ refusal_of xs → refusal_of (xs ++ ys) ≡ refusal_of ys
+pub goes_on_if : (xs ys : List Check) (found : Option Verdict) → is_some found ≡ false → found ≡ refusal_of xs
+    → refusal_of (xs ++ ys) ≡ refusal_of ys
 goes_on_if xs ys None none is = goes_on xs ys is
 goes_on_if xs ys (Some verdict) none is = absurd (false≢true (sym none))

@@ -1,5 +1,6 @@
 -- What the code computes of validated writes is what they say.
-use Rattle.std.proofs.Common.{◌≡◌, ℕ, zero, suc, ◌+◌, ◌<◌, Bool, true, false, ◌||◌, List, [], ◌∷◌, ◌++◌, length, map, drop, get_or, Some, None, inl, inr, if◌then◌else◌, refl, sym, subst, ap, ◌∙◌, arith}
+use Rattle.std.proofs.Common.{◌≡◌, ℕ, zero, suc, ◌+◌, ◌<◌, Bool, true, false, ◌||◌, List, [], ◌∷◌, ◌++◌, length, map}
+use Rattle.std.proofs.Common.{drop, get_or, Some, None, inl, inr, if◌then◌else◌, refl, sym, subst, ap, ◌∙◌, arith}
 use Rattle.std.specs.Prelude.{◌==◌, codes, filter}
 use Rattle.std.specs.Option.{option_map_or}
 use Rattle.std.specs.List.{flat_map, list_any}
@@ -26,7 +27,8 @@ use Rattle.ad_needs_rules.specs.OwnWrites.{shown_in, dotted, is_of_computer, wri
 -- ---- the write of an attribute
 
 by_tests : (dir : Directory) (token : Token) (number : ℕ) (items : List Item) (a b c : Bool)
-    → guid_if dir token number items (if a then Some Membership else (if b then Some Service else (if c then Some HostName else None)))
+    → guid_if dir token number items (if a then Some Membership
+    else (if b then Some Service else (if c then Some HostName else None)))
     ≡ (if a then if_all (is_own_membership dir token) items self_membership
     else (if b then if_all (is_own_service dir number) items validated_spn
     else (if c then if_all (is_own_host_name dir number) items validated_host_name
@@ -41,30 +43,37 @@ pub by_write : (dir : Directory) (token : Token) (number attr : ℕ) (items : Li
 unfolding write_of validated_write
 by_write dir token number attr items =
     by_tests dir token number items (option_map_or (λ (own : ℕ). own == attr) (member dir.schema) false)
-    (is_of_computer dir number (codes "servicePrincipalName") attr) (is_of_computer dir number (codes "dNSHostName") attr)
+    (is_of_computer dir number (codes "servicePrincipalName") attr)
+    (is_of_computer dir number (codes "dNSHostName") attr)
 
 -- ---- the root is there where any object is
 
-at_depth : (dir : Directory) → AreStanding dir.schema dir.objects → (depth number : ℕ) → is_live dir.objects number ≡ true
+at_depth : (dir : Directory) → AreStanding dir.schema dir.objects → (depth number : ℕ) → is_live dir.objects number
+    ≡ true
     → IsAtDepth (parent_at dir.objects) depth number → is_live dir.objects root ≡ true
 at_depth dir stands zero number live is = subst (λ (k : ℕ). is_live dir.objects k ≡ true) is live
 at_depth dir stands (suc depth) number live is =
     at_depth dir stands depth (parent_at dir.objects number)
     (stands.parents number (object_at dir.objects number) (of-live dir.objects number live) is.0) is.1
 
-pub root_lives : (dir : Directory) (number : ℕ) → AreStanding dir.schema dir.objects → is_live dir.objects number ≡ true → is_live dir.objects root ≡ true
-root_lives dir number stands live = let placed = stands.placed number live in at_depth dir stands placed.depth number live placed.chain
+pub root_lives : (dir : Directory) (number : ℕ) → AreStanding dir.schema dir.objects → is_live dir.objects number
+    ≡ true → is_live dir.objects root ≡ true
+root_lives dir number stands live = let placed = stands.placed number live in at_depth dir stands placed.depth number
+    live placed.chain
 
 -- ---- stored values
 
 shown_more : (test : List ℕ → Bool) (s : Stored) (rest : List Stored)
     → list_any test (shown_in (s ∷ rest)) ≡ (list_any test (shown_in (s ∷ [])) || list_any test (shown_in rest))
-shown_more test (plain value) rest = sym (ap (λ (b : Bool). b || list_any test (shown_in rest)) (or-false (test value.shown)))
+shown_more test (plain value) rest = sym (ap (λ (b : Bool). b || list_any test (shown_in rest))
+    (or-false (test value.shown)))
 shown_more test (link number) rest = refl
 
-pub shown_here : (test : List ℕ → Bool) (stored : List StoredIn) (i : ℕ) (item : StoredIn) → i < length stored → item ≡ get_or stored i item
+pub shown_here : (test : List ℕ → Bool) (stored : List StoredIn) (i : ℕ) (item : StoredIn) → i < length stored → item
+    ≡ get_or stored i item
     → list_any test (shown_in (map stored_seen (drop i stored)))
-    ≡ (list_any test (shown_in (stored_seen item ∷ [])) || list_any test (shown_in (map stored_seen (drop (i + 1) stored))))
+    ≡ (list_any test (shown_in (stored_seen item ∷ []))
+    || list_any test (shown_in (map stored_seen (drop (i + 1) stored))))
 shown_here test stored i item lt is =
     at_drop_more (λ (left : List StoredIn). list_any test (shown_in (map stored_seen left))) stored i item lt
     ∙ ap (λ (s : StoredIn). list_any test (shown_in (map stored_seen (s ∷ drop (i + 1) stored)))) (sym is)
@@ -94,7 +103,8 @@ none_of : (name full : List ℕ) (values : List (List ℕ)) → full ≡ name ++
     → full ++ 46 ∷ [] ≡ name ++ 46 ∷ joined values
 none_of name full [] is same = ap (λ (x : List ℕ). x ++ 46 ∷ []) (is ∙ append-nil name)
 none_of name full (value ∷ others) is same =
-    let longer : length full ≡ length name + length (dots (value ∷ others)) = ap length is ∙ length-append name (dots (value ∷ others)) in
+    let longer : length full ≡ length name + length (dots (value ∷ others)) = ap length is
+    ∙ length-append name (dots (value ∷ others)) in
     absurd (omega arith)
 
 some_of : (name full : List ℕ) (values : List (List ℕ)) → full ≡ name ++ dots values → (length full ≡ length name → ⊥)
@@ -105,8 +115,11 @@ some_of name full (value ∷ others) is differ = is ∙ ap (λ (x : List ℕ). n
 -- where no part is one of the domain, there is the dot alone
 pub dot_alone : (name full : List ℕ) (rdns : List Rdn) → full ≡ name ++ dotted rdns → length full ≡ length name
     → full ++ 46 ∷ [] ≡ name ++ 46 ∷ joined (domain_values rdns)
-dot_alone name full rdns is same = none_of name full (domain_values rdns) (is ∙ ap (λ (x : List ℕ). name ++ x) (dotted_dots rdns)) same
+dot_alone name full rdns is same = none_of name full (domain_values rdns)
+    (is ∙ ap (λ (x : List ℕ). name ++ x) (dotted_dots rdns)) same
 
-pub dot_and_values : (name full : List ℕ) (rdns : List Rdn) → full ≡ name ++ dotted rdns → (length full ≡ length name → ⊥)
+pub dot_and_values : (name full : List ℕ) (rdns : List Rdn) → full ≡ name ++ dotted rdns
+    → (length full ≡ length name → ⊥)
     → full ≡ name ++ 46 ∷ joined (domain_values rdns)
-dot_and_values name full rdns is differ = some_of name full (domain_values rdns) (is ∙ ap (λ (x : List ℕ). name ++ x) (dotted_dots rdns)) differ
+dot_and_values name full rdns is differ = some_of name full (domain_values rdns)
+    (is ∙ ap (λ (x : List ℕ). name ++ x) (dotted_dots rdns)) differ

@@ -30,7 +30,11 @@ first_failing (check ∷ checks) = if check.holds then first_failing checks else
 
 -- one of the alternatives is granted, or else the requirement is missing
 abbrev pub or_missing : Directory → Token → List Alternative → Check
-or_missing dir token requirement = record { holds = is_met dir token requirement; refusal = missing (need_of requirement) }
+or_missing dir token requirement = record {
+  holds = is_met dir token requirement;
+  refusal
+      = missing (need_of requirement);
+}
 
 -- the requirements as checks, in their order
 abbrev pub all_met : Directory → Token → List (List Alternative) → List Check

@@ -68,7 +68,8 @@ guid_or_hyphen (Some guid) = guid_text guid
 
 -- the code, the GUID, and the name of the object
 unfoldable pub want_text : Directory → Want → List ℕ
-want_text dir want = code_of want.right ++ (codes " " ++ (guid_or_hyphen want.guid ++ (codes " at " ++ name_text dir want.object)))
+want_text dir want = code_of want.right ++ (codes " "
+    ++ (guid_or_hyphen want.guid ++ (codes " at " ++ name_text dir want.object)))
 
 -- each further one after ` or `
 abbrev pub other_text : Directory → Want → List ℕ

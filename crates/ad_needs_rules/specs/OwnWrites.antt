@@ -1,5 +1,6 @@
 -- Words for how validated writes are judged.
-use Rattle.std.specs.Prelude.{ℕ, Bool, false, ◌==◌, ◌&&◌, if◌then◌else◌, Option, Some, None, codes, List, [], ◌∷◌, map, filter_map}
+use Rattle.std.specs.Prelude.{ℕ, Bool, false, ◌==◌, ◌&&◌, if◌then◌else◌, Option, Some, None, codes, List, [], ◌∷◌}
+use Rattle.std.specs.Prelude.{map, filter_map}
 use Rattle.std.specs.Option.{option_map_or}
 use Rattle.std.specs.List.{flat_map}
 use Rattle.ad_ids.specs.declared.guid.Guid.{Guid}
@@ -11,7 +12,8 @@ use Rattle.ad_dir_model.specs.Attributes.{is_named, member}
 use Rattle.ad_dir_model.specs.Directory.{Directory}
 use Rattle.ad_needs_rules.specs.declared.validated.OwnWrite.{OwnWrite}
 use Rattle.ad_needs_rules.specs.declared.validated.OwnWrite.TheVariants.{Membership, Service, HostName}
-use Rattle.ad_needs_rules.specs.Validated.{self_membership, validated_spn, validated_host_name, is_domain_part, is_computer}
+use Rattle.ad_needs_rules.specs.Validated.{self_membership, validated_spn, validated_host_name, is_domain_part}
+use Rattle.ad_needs_rules.specs.Validated.{is_computer}
 use Rattle.ad_needs_rules.specs.Validated.{is_own_membership, is_own_service, is_own_host_name, if_all}
 
 -- what the values show that are no links

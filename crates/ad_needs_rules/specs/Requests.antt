@@ -40,7 +40,11 @@ number_named dir token text = unwrap_or (object_named dir token text) 0
 
 -- the text names a visible object, or else its name is told as far as it does
 abbrev pub or_hidden : Directory → Token → List ℕ → Check
-or_hidden dir token text = record { holds = is_some (object_named dir token text); refusal = hidden (matched dir token (parts_in text)) }
+or_hidden dir token text = record {
+  holds = is_some (object_named dir token text);
+  refusal
+      = hidden (matched dir token (parts_in text));
+}
 
 -- ---- names of attributes
 

@@ -22,19 +22,31 @@ use Rattle.ad_needs_rules.specs.Requests.{name_in, class_at}
 
 -- Self-Membership, bf9679c0-0de6-11d0-a285-00aa003049e2
 abbrev pub self_membership : Guid
-self_membership = record { bytes = 0xc0 ∷ 0x79 ∷ 0x96 ∷ 0xbf ∷ 0xe6 ∷ 0x0d ∷ 0xd0 ∷ 0x11 ∷ 0xa2 ∷ 0x85 ∷ 0x00 ∷ 0xaa ∷ 0x00 ∷ 0x30 ∷ 0x49 ∷ 0xe2 ∷ [] }
+self_membership = record {
+  bytes = 0xc0 ∷ 0x79 ∷ 0x96 ∷ 0xbf ∷ 0xe6 ∷ 0x0d ∷ 0xd0 ∷ 0x11 ∷ 0xa2 ∷ 0x85 ∷ 0x00 ∷ 0xaa
+      ∷ 0x00 ∷ 0x30 ∷ 0x49 ∷ 0xe2 ∷ [];
+}
 
 -- Validated-SPN, f3a64788-5306-11d1-a9c5-0000f80367c1
 abbrev pub validated_spn : Guid
-validated_spn = record { bytes = 0x88 ∷ 0x47 ∷ 0xa6 ∷ 0xf3 ∷ 0x06 ∷ 0x53 ∷ 0xd1 ∷ 0x11 ∷ 0xa9 ∷ 0xc5 ∷ 0x00 ∷ 0x00 ∷ 0xf8 ∷ 0x03 ∷ 0x67 ∷ 0xc1 ∷ [] }
+validated_spn = record {
+  bytes = 0x88 ∷ 0x47 ∷ 0xa6 ∷ 0xf3 ∷ 0x06 ∷ 0x53 ∷ 0xd1 ∷ 0x11 ∷ 0xa9 ∷ 0xc5 ∷ 0x00 ∷ 0x00
+      ∷ 0xf8 ∷ 0x03 ∷ 0x67 ∷ 0xc1 ∷ [];
+}
 
 -- Validated-DNS-Host-Name, 72e39547-7b18-11d1-adef-00c04fd8d5cd
 abbrev pub validated_host_name : Guid
-validated_host_name = record { bytes = 0x47 ∷ 0x95 ∷ 0xe3 ∷ 0x72 ∷ 0x18 ∷ 0x7b ∷ 0xd1 ∷ 0x11 ∷ 0xad ∷ 0xef ∷ 0x00 ∷ 0xc0 ∷ 0x4f ∷ 0xd8 ∷ 0xd5 ∷ 0xcd ∷ [] }
+validated_host_name = record {
+  bytes = 0x47 ∷ 0x95 ∷ 0xe3 ∷ 0x72 ∷ 0x18 ∷ 0x7b ∷ 0xd1 ∷ 0x11 ∷ 0xad ∷ 0xef ∷ 0x00
+      ∷ 0xc0 ∷ 0x4f ∷ 0xd8 ∷ 0xd5 ∷ 0xcd ∷ [];
+}
 
 -- the class computer, bf967a86-0de6-11d0-a285-00aa003049e2
 abbrev pub computer : Guid
-computer = record { bytes = 0x86 ∷ 0x7a ∷ 0x96 ∷ 0xbf ∷ 0xe6 ∷ 0x0d ∷ 0xd0 ∷ 0x11 ∷ 0xa2 ∷ 0x85 ∷ 0x00 ∷ 0xaa ∷ 0x00 ∷ 0x30 ∷ 0x49 ∷ 0xe2 ∷ [] }
+computer = record {
+  bytes = 0x86 ∷ 0x7a ∷ 0x96 ∷ 0xbf ∷ 0xe6 ∷ 0x0d ∷ 0xd0 ∷ 0x11 ∷ 0xa2 ∷ 0x85 ∷ 0x00 ∷ 0xaa ∷ 0x00
+      ∷ 0x30 ∷ 0x49 ∷ 0xe2 ∷ [];
+}
 
 -- ---- helpers
 
@@ -54,7 +66,8 @@ is_computer dir number = is_a dir.schema (class_at dir number) computer
 -- ---- membership: the caller's own account, one value at a time, added or deleted
 
 abbrev pub names_user : Directory → Token → List ℕ → Bool
-names_user dir token value = option_map_or (λ number. is_sid token.user (self_sid dir number)) (option_and_then (found dir) (name_in value)) false
+names_user dir token value = option_map_or (λ number. is_sid token.user (self_sid dir number))
+    (option_and_then (found dir) (name_in value)) false
 
 unfoldable pub is_own_membership : Directory → Token → Item → Bool
 is_own_membership dir token item = not (item.op == 2) && is_one (names_user dir token) item.values
@@ -73,11 +86,13 @@ host_names dir number =
     (stored_in (object_at dir.objects number).values attr))) (attr_place dir.schema (codes "dNSHostName")) []
 
 abbrev pub is_own_host : Directory → ℕ → List ℕ → Bool
-is_own_host dir number host = list_any (equals_folded host) ((object_at dir.objects number).name ∷ host_names dir number)
+is_own_host dir number host = list_any (equals_folded host)
+    ((object_at dir.objects number).name ∷ host_names dir number)
 
 unfoldable pub is_own_service : Directory → ℕ → Item → Bool
 is_own_service dir number item =
-    not (length item.values == 0) && list_all (λ value. option_map_or (is_own_host dir number) (host_in value) false) item.values
+    not (length item.values == 0) && list_all (λ value. option_map_or (is_own_host dir number) (host_in value) false)
+    item.values
 
 -- ---- the host name: the computer's name, a dot (46), and the domain's name
 
@@ -95,7 +110,8 @@ domain_name dir = joined (map (λ rdn. rdn.value) (filter is_domain_part (rdns_o
 
 unfoldable pub is_own_host_name : Directory → ℕ → Item → Bool
 is_own_host_name dir number item =
-    not (item.op == 1) && is_one (λ value. equals_folded value ((object_at dir.objects number).name ++ 46 ∷ domain_name dir)) item.values
+    not (item.op == 1) && is_one (λ value.
+    equals_folded value ((object_at dir.objects number).name ++ 46 ∷ domain_name dir)) item.values
 
 -- ---- the right that stands beside the one to write
 
@@ -105,7 +121,10 @@ if_all test items guid = if list_all test items then Some guid else None
 -- The validated write of an attribute, where all of its items are valid.
 unfoldable pub validated_write : Directory → Token → ℕ → ℕ → List Item → Option Guid
 validated_write dir token number attr items =
-    if option_map_or (λ own. own == attr) (member dir.schema) false then if_all (is_own_membership dir token) items self_membership
-    else (if is_named dir.schema (codes "servicePrincipalName") attr && is_computer dir number then if_all (is_own_service dir number) items validated_spn
-    else (if is_named dir.schema (codes "dNSHostName") attr && is_computer dir number then if_all (is_own_host_name dir number) items validated_host_name
+    if option_map_or (λ own. own == attr) (member dir.schema) false then if_all (is_own_membership dir token) items
+    self_membership
+    else (if is_named dir.schema (codes "servicePrincipalName") attr && is_computer dir number
+    then if_all (is_own_service dir number) items validated_spn
+    else (if is_named dir.schema (codes "dNSHostName") attr && is_computer dir number
+    then if_all (is_own_host_name dir number) items validated_host_name
     else None))

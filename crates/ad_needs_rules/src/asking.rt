@@ -62,7 +62,8 @@ pub(crate) fn mask_of(right: Right) -> u32
 /// Whether what is asked for is granted on a live object.
 pub fn is_granted(dir: &Dir, token: &Token, ask: &Ask) -> bool
     requires { is_live dir.now.objects ask.now.object ≡ true }
-    ensures { result ≡ is_granted dir.now token.now ask.now.object (guids_of ask.now.path) (bit_of ask.now.right) }
+    ensures { result ≡ is_granted dir.now token.now ask.now.object (guids_of ask.now.path)
+        (bit_of ask.now.right) }
 {
     grants(dir, token, ask.object, &ask.path, mask_of(ask.right))
 }

@@ -10,7 +10,8 @@ ghost use Rattle.ad_dir_model.specs.Object.{stored_in};
 ghost use Rattle.ad_dir_model.specs.Objects.{is_live, object_at};
 ghost use Rattle.ad_dir_model.specs.Attributes.{attr_place};
 ghost use Rattle.ad_dir_model.specs.Names.{same_folded};
-ghost use Rattle.ad_needs_rules.specs.Validated.{equals_folded, host_in, is_own_host, is_domain_part, joined, domain_name};
+ghost use Rattle.ad_needs_rules.specs.Validated.{equals_folded, host_in, is_own_host, is_domain_part, joined};
+ghost use Rattle.ad_needs_rules.specs.Validated.{domain_name};
 ghost use Rattle.ad_needs_rules.specs.OwnWrites.{shown_in, dotted_part, dotted};
 
 use ad_bytes::{Bytes, Few};
@@ -72,7 +73,8 @@ fn has_slash(bytes: &[u8]) -> bool
 fn host_behind(value: &[u8], at: usize) -> Option<&[u8]>
     requires { at < length value.now }
     ensures { option_map (λ host. host.now) result
-        ≡ (if at == 0 || list_any (λ b. b == 47) (drop (at + 1) value.entry.now) || length (drop (at + 1) value.entry.now) == 0
+        ≡ (if at == 0 || list_any (λ b. b == 47) (drop (at + 1) value.entry.now)
+        || length (drop (at + 1) value.entry.now) == 0
         then None else Some (drop (at + 1) value.entry.now)) }
 {
     let host = &value[at + 1..];
@@ -125,7 +127,8 @@ fn is_shown(stored: &[Stored], host: &[u8]) -> bool
 // Whether the host is one of the stored dNSHostName.
 fn is_stored(schema: &Schema, values: &[(AttrId, Few<Stored>)], host: &[u8]) -> bool
     ensures { result ≡ list_any (equals_folded host.now)
-        (option_map_or (λ attr. shown_in (stored_in (map held_seen values.now) attr)) (attr_place schema.now (codes "dNSHostName")) []) }
+        (option_map_or (λ attr. shown_in (stored_in (map held_seen values.now) attr))
+        (attr_place schema.now (codes "dNSHostName")) []) }
 {
     match schema.attr(b"dNSHostName") {
         Some(attr) => is_shown(stored_of(values, attr), host),
@@ -159,7 +162,8 @@ fn is_own_service(dir: &Dir, number: u32, value: &[u8]) -> bool
 /// Whether each of the values is.
 pub(crate) fn are_own_services(dir: &Dir, number: u32, values: &[Bytes]) -> bool
     requires { is_live dir.now.objects number ≡ true }
-    ensures { result ≡ list_all (λ value. option_map_or (is_own_host dir.now number) (host_in value) false) values.now }
+    ensures { result ≡ list_all (λ value. option_map_or (is_own_host dir.now number) (host_in value)
+        false) values.now }
 {
     'each: for value in values {
         if !is_own_service(dir, number, value.as_slice()) {
@@ -194,7 +198,8 @@ fn push_parts(into: &mut Vec<u8>, rdns: &[Rdn]) -> Result<(), AllocError>
 
 // A name, a dot, and the values of the domain's parts joined by dots.
 fn dotted_name(alloc: Global, name: &[u8], rdns: &[Rdn]) -> Result<Vec<u8>, AllocError>
-    ensures { IfOk result (λ full. full.items ≡ name.now ++ 46 ∷ joined (map (λ rdn. rdn.value) (filter is_domain_part rdns.now))) }
+    ensures { IfOk result (λ full. full.items ≡ name.now ++ 46
+        ∷ joined (map (λ rdn. rdn.value) (filter is_domain_part rdns.now))) }
 {
     let mut full = Vec::from_slice(alloc, name)?;
     push_parts(&mut full, rdns)?;
@@ -208,7 +213,8 @@ fn dotted_name(alloc: Global, name: &[u8], rdns: &[Rdn]) -> Result<Vec<u8>, Allo
 #[tactic(auto, unfolding(crate::specs::Validated::domain_name))]
 fn full_name(alloc: Global, dir: &Dir, number: u32) -> Result<Vec<u8>, AllocError>
     requires { is_live dir.now.objects number ≡ true }
-    ensures { IfOk result (λ full. full.items ≡ (object_at dir.now.objects number).name ++ 46 ∷ domain_name dir.now) }
+    ensures { IfOk result (λ full. full.items ≡ (object_at dir.now.objects number).name ++ 46
+        ∷ domain_name dir.now) }
 {
     dir.stands();
     let root = dir.dn(alloc, ROOT)?;
@@ -224,7 +230,8 @@ pub(crate) fn is_full_name(
     value: &[u8],
 ) -> Result<bool, AllocError>
     requires { is_live dir.now.objects number ≡ true }
-    ensures { IfOk result (λ is. is ≡ equals_folded value.now ((object_at dir.now.objects number).name ++ 46 ∷ domain_name dir.now)) }
+    ensures { IfOk result (λ is. is ≡ equals_folded value.now
+        ((object_at dir.now.objects number).name ++ 46 ∷ domain_name dir.now)) }
 {
     let full = full_name(alloc, dir, number)?;
     Ok(equals_folded(value, full.as_slice()))

@@ -61,7 +61,8 @@ pub fn unless_granted(
     ask: &Ask,
 ) -> Result<Option<Verdict>, AllocError>
     requires { is_live dir.now.objects ask.now.object ≡ true }
-    ensures { IfOk result (λ refusal. refusal ≡ refusal_of (all_met dir.now token.now ((asked ask.now ∷ []) ∷ []))) }
+    ensures { IfOk result (λ refusal. refusal
+        ≡ refusal_of (all_met dir.now token.now ((asked ask.now ∷ []) ∷ []))) }
 {
     if is_one_met(dir, token, ask) {
         return Ok(None);
@@ -85,7 +86,8 @@ pub fn unless_either(
 ) -> Result<Option<Verdict>, AllocError>
     requires first { is_live dir.now.objects first.now.object ≡ true }
     requires second { is_live dir.now.objects second.now.object ≡ true }
-    ensures { IfOk result (λ refusal. refusal ≡ refusal_of (all_met dir.now token.now ((asked first.now ∷ asked second.now ∷ []) ∷ []))) }
+    ensures { IfOk result (λ refusal. refusal
+        ≡ refusal_of (all_met dir.now token.now ((asked first.now ∷ asked second.now ∷ []) ∷ []))) }
 {
     if is_either_met(dir, token, first, second) {
         return Ok(None);

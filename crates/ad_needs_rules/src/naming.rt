@@ -80,7 +80,8 @@ fn if_visible(dir: &Dir, token: &Token, number: u32) -> Option<u32>
 /// Memory ran out.
 pub fn visible(alloc: Global, dir: &Dir, token: &Token, dn: &Dn) -> Result<Option<u32>, AllocError>
     ensures found { IfOk result (λ found. found ≡ visible_of dir.now token.now dn.now.rdns) }
-    ensures live { IfOk result (λ found. IfSome found (λ number. is_live dir.now.objects number ≡ true)) }
+    ensures live { IfOk result (λ found.
+        IfSome found (λ number. is_live dir.now.objects number ≡ true)) }
 {
     dir.stands();
     match dir.find(alloc, dn)? {
@@ -100,7 +101,8 @@ fn nearer(seen: bool, levels: usize, nearest: usize) -> usize
 // more are than objects stand below one another.
 fn levels_to_visible(alloc: Global, dir: &Dir, token: &Token, dn: &Dn) -> Result<usize, AllocError>
     ensures within { IfOk result (λ levels. levels ≤ length dn.now.rdns) }
-    ensures nearest { IfOk result (λ levels. drop levels dn.now.rdns ≡ matched dir.now token.now dn.now.rdns) }
+    ensures nearest { IfOk result (λ levels. drop levels dn.now.rdns ≡ matched dir.now token.now
+        dn.now.rdns) }
 {
     dir.stands();
     let parts = dn.rdns.len();

@@ -10,7 +10,8 @@ pub struct Want {
     pub object: u32,
     /// One right, as a mask.
     pub right: u32,
-    /// The last GUID of the path on which the right is needed. None where the right is needed on the object as a whole.
+    /// The last GUID of the path on which the right is needed. None where the right is needed on the object as a
+    /// whole.
     pub guid: Option<Guid>,
 }
 

@@ -4,7 +4,8 @@ ghost use Rattle.std.specs.Prelude.{◌≡◌, ◌++◌, All, OnOk, IfOk, true};
 ghost use Rattle.std.specs.Option.{option_copied};
 ghost use Rattle.ad_dir_model.specs.Objects.{is_live};
 ghost use Rattle.ad_dir_model.specs.Names.{name_text};
-ghost use Rattle.ad_needs_rules.specs.Needs.{code_of, guid_or_hyphen, want_text, other_text, others_text, wants_text, need_text};
+ghost use Rattle.ad_needs_rules.specs.Needs.{code_of, guid_or_hyphen, want_text, other_text, others_text, wants_text};
+ghost use Rattle.ad_needs_rules.specs.Needs.{need_text};
 ghost use Rattle.ad_needs_rules.specs.Puts.{Puts};
 
 use crate::need::{Need, Want};
@@ -84,7 +85,8 @@ fn push(into: &mut Vec<u8>, piece: &[u8]) -> Result<(), AllocError>
 
 /// The text of a GUID, or a hyphen.
 fn push_guid(alloc: Global, into: &mut Vec<u8>, guid: Option<&Guid>) -> Result<(), AllocError>
-    ensures { OnOk result (Puts into.old.items into.new.items (guid_or_hyphen (option_copied guid.entry))) }
+    ensures { OnOk result (Puts into.old.items into.new.items
+        (guid_or_hyphen (option_copied guid.entry))) }
 {
     match guid {
         Some(guid) => {

@@ -7,7 +7,8 @@ ghost use Rattle.ad_dir_model.specs.Objects.{is_live};
 ghost use Rattle.ad_dir_model.specs.Attributes.{member};
 ghost use Rattle.ad_dir_model.specs.Identity.{is_sid, self_sid};
 ghost use Rattle.ad_dir_model.specs.Names.{found};
-ghost use Rattle.ad_needs_rules.specs.Validated.{names_user, is_computer, is_own_membership, is_own_service, is_own_host_name, validated_write};
+ghost use Rattle.ad_needs_rules.specs.Validated.{names_user, is_computer, is_own_membership, is_own_service};
+ghost use Rattle.ad_needs_rules.specs.Validated.{is_own_host_name, validated_write};
 ghost use Rattle.ad_needs_rules.specs.OwnWrites.{is_valid, guid_of, is_of_computer, write_of, guid_if};
 
 use crate::hosts::{are_own_services, is_full_name};
@@ -72,7 +73,9 @@ fn has_sid(dir: &Dir, number: u32, sid: &Sid) -> bool
 }
 
 fn is_of_user(alloc: Global, dir: &Dir, token: &Token, dn: &Dn) -> Result<bool, AllocError>
-    ensures { IfOk result (λ is. is ≡ option_map_or (λ number. is_sid token.now.user (self_sid dir.now number)) (found dir.now dn.now.rdns) false) }
+    ensures { IfOk result (λ is. is
+        ≡ option_map_or (λ number. is_sid token.now.user (self_sid dir.now number))
+        (found dir.now dn.now.rdns) false) }
 {
     match dir.find(alloc, dn)? {
         Some(number) => Ok(has_sid(dir, number, &token.user)),
@@ -165,7 +168,8 @@ fn all_valid(
     items: &[&Item],
 ) -> Result<bool, AllocError>
     requires { is_live dir.now.objects number ≡ true }
-    ensures { IfOk result (λ all. all ≡ list_all (is_valid dir.now token.now number write) (map (λ item. item.now) items.now)) }
+    ensures { IfOk result (λ all. all ≡ list_all (is_valid dir.now token.now number write)
+        (map (λ item. item.now) items.now)) }
 {
     'each: for item in items {
         if !is_valid(alloc, dir, token, number, write, item)? {
@@ -229,7 +233,8 @@ fn guid_if(
     write: OwnWrite,
 ) -> Result<Option<Guid>, AllocError>
     requires { is_live dir.now.objects number ≡ true }
-    ensures { IfOk result (λ guid. guid ≡ guid_if dir.now token.now number (map (λ item. item.now) items.now) (Some write)) }
+    ensures { IfOk result (λ guid. guid ≡ guid_if dir.now token.now number
+        (map (λ item. item.now) items.now) (Some write)) }
 {
     if all_valid(alloc, dir, token, number, write, items)? {
         return Ok(Some(guid_of(write)));
@@ -252,7 +257,8 @@ pub fn validated_write(
     items: &[&Item],
 ) -> Result<Option<Guid>, AllocError>
     requires { is_live dir.now.objects number ≡ true }
-    ensures { IfOk result (λ guid. guid ≡ validated_write dir.now token.now number attr.0 (map (λ item. item.now) items.now)) }
+    ensures { IfOk result (λ guid. guid ≡ validated_write dir.now token.now number attr.0
+        (map (λ item. item.now) items.now)) }
 {
     match write_of(dir, number, attr) {
         Some(write) => guid_if(alloc, dir, token, number, items, write),

@@ -29,53 +29,71 @@ use Rattle.ad_needs_tries.proofs.StepLaws.{tried_all}
 
 -- ---- objects
 
-pub never_none : (dir : Directory) (token : Token) (text : List ℕ) (dn : Dn) (found : Option ℕ) → is_some (object_named dir token text) ≡ true → Some dn ≡ dn_of text
+pub never_none : (dir : Directory) (token : Token) (text : List ℕ) (dn : Dn) (found : Option ℕ)
+    → is_some (object_named dir token text) ≡ true → Some dn ≡ dn_of text
     → found ≡ visible_of dir token dn.rdns → found ≡ None → ⊥
 never_none dir token text dn found seen some is none =
-    both_ways (is_some (object_named dir token text)) (ap (λ (f : Option ℕ). is_some f) (sym (object_read dir token text dn found some is) ∙ none)) seen
+    both_ways (is_some (object_named dir token text))
+    (ap (λ (f : Option ℕ). is_some f) (sym (object_read dir token text dn found some is) ∙ none)) seen
 
-parent_is : (dir : Directory) (token : Token) (a : Add) (dn : Dn) (found : Option ℕ) → Some dn ≡ dn_of a.dn → found ≡ visible_of dir token (drop 1 dn.rdns) → found ≡ parent_named dir token a
+parent_is : (dir : Directory) (token : Token) (a : Add) (dn : Dn) (found : Option ℕ) → Some dn ≡ dn_of a.dn → found
+    ≡ visible_of dir token (drop 1 dn.rdns) → found ≡ parent_named dir token a
 unfolding parent_named
-parent_is dir token a dn found some is = is ∙ ap (λ (rdns : List Rdn). visible_of dir token (drop 1 rdns)) (parts_read a.dn dn some)
+parent_is dir token a dn found some is = is ∙ ap (λ (rdns : List Rdn). visible_of dir token (drop 1 rdns))
+    (parts_read a.dn dn some)
 
-pub parent_never_none : (dir : Directory) (token : Token) (a : Add) (dn : Dn) (found : Option ℕ) → is_some (parent_named dir token a) ≡ true → Some dn ≡ dn_of a.dn
+pub parent_never_none : (dir : Directory) (token : Token) (a : Add) (dn : Dn) (found : Option ℕ)
+    → is_some (parent_named dir token a) ≡ true → Some dn ≡ dn_of a.dn
     → found ≡ visible_of dir token (drop 1 dn.rdns) → found ≡ None → ⊥
 parent_never_none dir token a dn found seen some is none =
-    both_ways (is_some (parent_named dir token a)) (ap (λ (f : Option ℕ). is_some f) (sym (parent_is dir token a dn found some is) ∙ none)) seen
+    both_ways (is_some (parent_named dir token a))
+    (ap (λ (f : Option ℕ). is_some f) (sym (parent_is dir token a dn found some is) ∙ none)) seen
 
-pub parent_number_is : (dir : Directory) (token : Token) (a : Add) (dn : Dn) (number : ℕ) → Some dn ≡ dn_of a.dn → Some number ≡ visible_of dir token (drop 1 dn.rdns) → number ≡ parent_number dir token a
-parent_number_is dir token a dn number some is = ap (λ (f : Option ℕ). unwrap_or f 0) (parent_is dir token a dn (Some number) some is)
+pub parent_number_is : (dir : Directory) (token : Token) (a : Add) (dn : Dn) (number : ℕ) → Some dn ≡ dn_of a.dn
+    → Some number ≡ visible_of dir token (drop 1 dn.rdns) → number ≡ parent_number dir token a
+parent_number_is dir token a dn number some is = ap (λ (f : Option ℕ). unwrap_or f 0)
+    (parent_is dir token a dn (Some number) some is)
 
 -- ---- what was tried
 
-pub deleting_tried : (dir : Directory) (token : Token) (text : List ℕ) (s : Settings) (number : ℕ) (before after : List Tried) (met : Bool) → number ≡ number_named dir token text → before ≡ []
-    → Steps dir token before (delete_needs dir number s.tree) after met → tried_values after ≡ tries dir token (requirements dir token (DeleteOf text) s)
+pub deleting_tried : (dir : Directory) (token : Token) (text : List ℕ) (s : Settings) (number : ℕ)
+    (before after : List Tried) (met : Bool) → number ≡ number_named dir token text → before ≡ []
+    → Steps dir token before (delete_needs dir number s.tree) after met → tried_values after
+    ≡ tries dir token (requirements dir token (DeleteOf text) s)
 unfolding requirements
 deleting_tried dir token text s number before after met is none steps =
-    tried_all dir token before after (delete_needs dir number s.tree) met none steps ∙ ap (λ (n : ℕ). tries dir token (delete_needs dir n s.tree)) is
+    tried_all dir token before after (delete_needs dir number s.tree) met none steps
+    ∙ ap (λ (n : ℕ). tries dir token (delete_needs dir n s.tree)) is
 
-pub renaming_tried : (dir : Directory) (token : Token) (r : Rename) (s : Settings) (number parent : ℕ) (before after : List Tried) (met : Bool) → number ≡ number_named dir token r.dn
+pub renaming_tried : (dir : Directory) (token : Token) (r : Rename) (s : Settings) (number parent : ℕ)
+    (before after : List Tried) (met : Bool) → number ≡ number_named dir token r.dn
     → parent ≡ new_parent dir token r → before ≡ []
-    → Steps dir token before (rename_needs dir number parent) after met → tried_values after ≡ tries dir token (requirements dir token (RenameOf r) s)
+    → Steps dir token before (rename_needs dir number parent) after met → tried_values after
+    ≡ tries dir token (requirements dir token (RenameOf r) s)
 unfolding requirements
 renaming_tried dir token r s number parent before after met is above none steps =
     tried_all dir token before after (rename_needs dir number parent) met none steps
     ∙ ap (λ (n : ℕ). tries dir token (rename_needs dir n parent)) is
     ∙ ap (λ (p : ℕ). tries dir token (rename_needs dir (number_named dir token r.dn) p)) above
 
-pub modifying_tried : (dir : Directory) (token : Token) (m : Modify) (s : Settings) (number : ℕ) (before after : List Tried) (met : Bool) → number ≡ number_named dir token m.dn → before ≡ []
-    → Steps dir token before (modify_needs dir token number s.sd_flags m.items) after met → tried_values after ≡ tries dir token (requirements dir token (ModifyOf m) s)
+pub modifying_tried : (dir : Directory) (token : Token) (m : Modify) (s : Settings) (number : ℕ)
+    (before after : List Tried) (met : Bool) → number ≡ number_named dir token m.dn → before ≡ []
+    → Steps dir token before (modify_needs dir token number s.sd_flags m.items) after met → tried_values after
+    ≡ tries dir token (requirements dir token (ModifyOf m) s)
 unfolding requirements
 modifying_tried dir token m s number before after met is none steps =
     tried_all dir token before after (modify_needs dir token number s.sd_flags m.items) met none steps
     ∙ ap (λ (n : ℕ). tries dir token (modify_needs dir token n s.sd_flags m.items)) is
 
-pub adding_tried : (dir : Directory) (token : Token) (a : Add) (s : Settings) (parent class : ℕ) (sd : Option SdParts) (before after : List Tried) (met : Bool) → parent ≡ parent_number dir token a
+pub adding_tried : (dir : Directory) (token : Token) (a : Add) (s : Settings) (parent class : ℕ) (sd : Option SdParts)
+    (before after : List Tried) (met : Bool) → parent ≡ parent_number dir token a
     → class ≡ class_number dir a → sd ≡ new_sd a s.sd_flags → before ≡ []
-    → Steps dir token before (add_needs dir parent class sd) after met → tried_values after ≡ tries dir token (requirements dir token (AddOf a) s)
+    → Steps dir token before (add_needs dir parent class sd) after met → tried_values after
+    ≡ tries dir token (requirements dir token (AddOf a) s)
 unfolding requirements
 adding_tried dir token a s parent class sd before after met is of brings none steps =
     tried_all dir token before after (add_needs dir parent class sd) met none steps
     ∙ ap (λ (p : ℕ). tries dir token (add_needs dir p class sd)) is
     ∙ ap (λ (k : ℕ). tries dir token (add_needs dir (parent_number dir token a) k sd)) of
-    ∙ ap (λ (x : Option SdParts). tries dir token (add_needs dir (parent_number dir token a) (class_number dir a) x)) brings
+    ∙ ap (λ (x : Option SdParts). tries dir token (add_needs dir (parent_number dir token a) (class_number dir a) x))
+    brings

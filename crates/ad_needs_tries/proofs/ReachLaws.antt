@@ -16,10 +16,12 @@ use Rattle.ad_dir_model.specs.Tree.{root}
 use Rattle.ad_dir_model.specs.Directory.{Directory}
 use Rattle.ad_needs_rules.specs.Checks.{Check, refused, first_failing, all_met, by_checks}
 use Rattle.ad_needs_rules.specs.Requests.{is_name, object_named, number_named, or_hidden, is_descriptor}
-use Rattle.ad_needs.specs.Adding.{has_parts, parent_named, parent_number, new_class, class_number, new_part, new_sd, all_ordinary, all_naming_checks, own_checks, add_needs, add_checks, add_act}
+use Rattle.ad_needs.specs.Adding.{has_parts, parent_named, parent_number, new_class, class_number, new_part, new_sd}
+use Rattle.ad_needs.specs.Adding.{all_ordinary, all_naming_checks, own_checks, add_needs, add_checks, add_act}
 use Rattle.ad_needs.specs.Deleting.{delete_needs, delete_checks, delete_act}
 use Rattle.ad_needs.specs.Renaming.{new_parent, superior_reads, superior_seen, rename_needs, rename_checks, rename_act}
-use Rattle.ad_needs.specs.Modifying.{item_checks, descriptor_checks, ordinary_checks, modify_needs, modify_checks, modify_act}
+use Rattle.ad_needs.specs.Modifying.{item_checks, descriptor_checks, ordinary_checks, modify_needs, modify_checks}
+use Rattle.ad_needs.specs.Modifying.{modify_act}
 use Rattle.ad_needs.specs.Verdicts.{verdict_of}
 use Rattle.ad_needs_tries.specs.Traces.{reaches}
 
@@ -55,11 +57,13 @@ all_pass (x ∷ xs) ys act before is =
     let others = all_pass xs ys act before.1 one.rest in
     record { rest = others.rest; same = one.same ∙ others.same }
 
-before_append : (xs ys : List Check) → AllByRecursion IsBefore xs → AllByRecursion IsBefore ys → AllByRecursion IsBefore (xs ++ ys)
+before_append : (xs ys : List Check) → AllByRecursion IsBefore xs → AllByRecursion IsBefore ys
+    → AllByRecursion IsBefore (xs ++ ys)
 before_append [] ys first second = second
 before_append (x ∷ xs) ys first second = (first.0, before_append xs ys first.1 second)
 
-before_of : {A : Type 0} (f : A → List Check) (xs : List A) → ((x : A) → AllByRecursion IsBefore (f x)) → AllByRecursion IsBefore (flat_map f xs)
+before_of : {A : Type 0} (f : A → List Check) (xs : List A) → ((x : A) → AllByRecursion IsBefore (f x))
+    → AllByRecursion IsBefore (flat_map f xs)
 before_of f [] each = tt
 before_of f (x ∷ xs) each = before_append (f x) (flat_map f xs) (each x) (before_of f xs each)
 
@@ -76,7 +80,8 @@ pub record NamesBelow (dir : Directory) (token : Token) (text : List ℕ) : Type
 not_root : (n : ℕ) → not (nat_eq n root) ≡ true → n ≡ root → ⊥
 not_root n below same = eqb-false n root (not-true (nat_eq n root) below) same
 
-pub delete_reaches : (dir : Directory) (token : Token) (text : List ℕ) (s : Settings) → reaches (verdict_of dir token (DeleteOf text) s) ≡ true → NamesBelow dir token text
+pub delete_reaches : (dir : Directory) (token : Token) (text : List ℕ) (s : Settings)
+    → reaches (verdict_of dir token (DeleteOf text) s) ≡ true → NamesBelow dir token text
 unfolding verdict_of delete_checks
 delete_reaches dir token text s is =
     let act = delete_act dir token text s.tree in
@@ -90,7 +95,8 @@ delete_reaches dir token text s is =
 
 -- ---- Modify
 
-pub modify_reaches : (dir : Directory) (token : Token) (m : Modify) (s : Settings) → reaches (verdict_of dir token (ModifyOf m) s) ≡ true → NamesOne dir token m.dn
+pub modify_reaches : (dir : Directory) (token : Token) (m : Modify) (s : Settings)
+    → reaches (verdict_of dir token (ModifyOf m) s) ≡ true → NamesOne dir token m.dn
 unfolding verdict_of modify_checks
 modify_reaches dir token m s is =
     let act = modify_act dir token m s.sd_flags in
@@ -102,21 +108,25 @@ modify_reaches dir token m s is =
 
 pub record RenameReaches (dir : Directory) (token : Token) (r : Rename) : Type 0 where
   pub object : NamesBelow dir token r.dn
-  pub superior : IfSome r.superior (λ (text : List ℕ). (is_name text ≡ true) × (is_some (object_named dir token text) ≡ true))
+  pub superior : IfSome r.superior (λ (text : List ℕ). (is_name text ≡ true)
+      × (is_some (object_named dir token text) ≡ true))
 
-record SuperiorPassed (dir : Directory) (token : Token) (superior : Option (List ℕ)) (cs : List Check) (act : Act) : Type 0 where
+record SuperiorPassed (dir : Directory) (token : Token) (superior : Option (List ℕ)) (cs : List Check) (act : Act)
+    : Type 0 where
   named : IfSome superior (λ (text : List ℕ). (is_name text ≡ true) × (is_some (object_named dir token text) ≡ true))
   rest : Reaches cs act
   same : by_checks (first_failing (superior_seen dir token superior ++ cs)) act ≡ by_checks (first_failing cs) act
 
-superior_passes : (dir : Directory) (token : Token) (superior : Option (List ℕ)) (cs : List Check) (act : Act) → superior_reads superior ≡ true → Reaches (superior_seen dir token superior ++ cs) act
+superior_passes : (dir : Directory) (token : Token) (superior : Option (List ℕ)) (cs : List Check) (act : Act)
+    → superior_reads superior ≡ true → Reaches (superior_seen dir token superior ++ cs) act
     → SuperiorPassed dir token superior cs act
 superior_passes dir token None cs act reads is = record { named = tt; rest = is; same = refl }
 superior_passes dir token (Some text) cs act reads is =
     let seen = passes (or_hidden dir token text) cs act refl is in
     record { named = (reads, seen.holds); rest = seen.rest; same = seen.same }
 
-pub rename_reaches : (dir : Directory) (token : Token) (r : Rename) (s : Settings) → reaches (verdict_of dir token (RenameOf r) s) ≡ true → RenameReaches dir token r
+pub rename_reaches : (dir : Directory) (token : Token) (r : Rename) (s : Settings)
+    → reaches (verdict_of dir token (RenameOf r) s) ≡ true → RenameReaches dir token r
 unfolding verdict_of rename_checks
 rename_reaches dir token r s is =
     let act = rename_act dir token r in
@@ -127,7 +137,11 @@ rename_reaches dir token r s is =
     let above = superior_passes dir token r.superior _ act reads.holds seen.rest in
     let below = passes _ _ act refl above.rest in
     record {
-      object = record { one = record { name = name.holds; seen = seen.holds }; below = not_root (number_named dir token r.dn) below.holds };
+      object = record {
+        one = record { name = name.holds; seen = seen.holds };
+        below
+            = not_root (number_named dir token r.dn) below.holds;
+      };
       superior = above.named;
     }
 
@@ -138,26 +152,32 @@ pub record AddReaches (dir : Directory) (token : Token) (a : Add) : Type 0 where
   pub parent : is_some (parent_named dir token a) ≡ true
   pub class_is : is_some (new_class dir a) ≡ true
 
-naming_before : (schema : List SchemaRecord) (earlier attrs : List (List ℕ × List (List ℕ))) → AllByRecursion IsBefore (all_naming_checks schema earlier attrs)
+naming_before : (schema : List SchemaRecord) (earlier attrs : List (List ℕ × List (List ℕ))) → AllByRecursion IsBefore
+    (all_naming_checks schema earlier attrs)
 unfolding all_naming_checks
 naming_before schema earlier [] = tt
 naming_before schema earlier (attr ∷ attrs) = (refl, (refl, naming_before schema (earlier ++ attr ∷ []) attrs))
 
-pub add_reaches : (dir : Directory) (token : Token) (a : Add) (s : Settings) → reaches (verdict_of dir token (AddOf a) s) ≡ true → AddReaches dir token a
+pub add_reaches : (dir : Directory) (token : Token) (a : Add) (s : Settings)
+    → reaches (verdict_of dir token (AddOf a) s) ≡ true → AddReaches dir token a
 unfolding verdict_of add_checks
 add_reaches dir token a s is =
     let act = add_act dir token a s.sd_flags in
     let parts = passes _ _ act refl is in
     let other = passes _ _ act refl parts.rest in
     let parent = passes _ _ act refl other.rest in
-    let named = all_pass (all_naming_checks dir.schema [] a.attrs) _ act (naming_before dir.schema [] a.attrs) parent.rest in
+    let named = all_pass (all_naming_checks dir.schema [] a.attrs) _ act (naming_before dir.schema [] a.attrs)
+    parent.rest in
     let class_is = passes _ _ act refl named.rest in
     record { parts = parts.holds; parent = parent.holds; class_is = class_is.holds }
 
 -- ---- what is said is what the requirements say
 
-pub delete_leads : (dir : Directory) (token : Token) (text : List ℕ) (s : Settings) → reaches (verdict_of dir token (DeleteOf text) s) ≡ true
-    → verdict_of dir token (DeleteOf text) s ≡ by_checks (first_failing (all_met dir token (delete_needs dir (number_named dir token text) s.tree))) (delete_act dir token text s.tree)
+pub delete_leads : (dir : Directory) (token : Token) (text : List ℕ) (s : Settings)
+    → reaches (verdict_of dir token (DeleteOf text) s) ≡ true
+    → verdict_of dir token (DeleteOf text) s
+    ≡ by_checks (first_failing (all_met dir token (delete_needs dir (number_named dir token text) s.tree)))
+    (delete_act dir token text s.tree)
 unfolding verdict_of delete_checks
 delete_leads dir token text s is =
     let act = delete_act dir token text s.tree in
@@ -166,15 +186,21 @@ delete_leads dir token text s is =
     let below = passes _ _ act refl seen.rest in
     name.same ∙ seen.same ∙ below.same
 
-item_before : (dir : Directory) (number flags : ℕ) (items : List Item) (item : Item) → AllByRecursion IsBefore (item_checks dir number flags items item)
+item_before : (dir : Directory) (number flags : ℕ) (items : List Item) (item : Item) → AllByRecursion IsBefore
+    (item_checks dir number flags items item)
 item_before dir number flags items item = by (is_descriptor item.attr)
   where
-    by : (b : Bool) → AllByRecursion IsBefore (if b then descriptor_checks flags items item else ordinary_checks dir number items item)
+    by : (b : Bool) → AllByRecursion IsBefore (if b then descriptor_checks flags items item
+        else ordinary_checks dir number items item)
     by true = (refl, (refl, tt))
     by false = (refl, (refl, (refl, (refl, (refl, tt)))))
 
-pub modify_leads : (dir : Directory) (token : Token) (m : Modify) (s : Settings) → reaches (verdict_of dir token (ModifyOf m) s) ≡ true
-    → verdict_of dir token (ModifyOf m) s ≡ by_checks (first_failing (all_met dir token (modify_needs dir token (number_named dir token m.dn) s.sd_flags m.items))) (modify_act dir token m s.sd_flags)
+pub modify_leads : (dir : Directory) (token : Token) (m : Modify) (s : Settings)
+    → reaches (verdict_of dir token (ModifyOf m) s) ≡ true
+    → verdict_of dir token (ModifyOf m) s
+    ≡ by_checks (first_failing (all_met dir token
+    (modify_needs dir token (number_named dir token m.dn) s.sd_flags m.items)))
+    (modify_act dir token m s.sd_flags)
 unfolding verdict_of modify_checks
 modify_leads dir token m s is =
     let act = modify_act dir token m s.sd_flags in
@@ -182,11 +208,15 @@ modify_leads dir token m s is =
     let name = passes _ _ act refl is in
     let seen = passes _ _ act refl name.rest in
     let items = all_pass (flat_map (item_checks dir number s.sd_flags m.items) m.items) _ act
-    (before_of (item_checks dir number s.sd_flags m.items) m.items (item_before dir number s.sd_flags m.items)) seen.rest in
+    (before_of (item_checks dir number s.sd_flags m.items) m.items (item_before dir number s.sd_flags m.items))
+    seen.rest in
     name.same ∙ seen.same ∙ items.same
 
-pub rename_leads : (dir : Directory) (token : Token) (r : Rename) (s : Settings) → reaches (verdict_of dir token (RenameOf r) s) ≡ true
-    → verdict_of dir token (RenameOf r) s ≡ by_checks (first_failing (all_met dir token (rename_needs dir (number_named dir token r.dn) (new_parent dir token r)))) (rename_act dir token r)
+pub rename_leads : (dir : Directory) (token : Token) (r : Rename) (s : Settings)
+    → reaches (verdict_of dir token (RenameOf r) s) ≡ true
+    → verdict_of dir token (RenameOf r) s
+    ≡ by_checks (first_failing (all_met dir token
+    (rename_needs dir (number_named dir token r.dn) (new_parent dir token r)))) (rename_act dir token r)
 unfolding verdict_of rename_checks
 rename_leads dir token r s is =
     let act = rename_act dir token r in
@@ -200,11 +230,16 @@ rename_leads dir token r s is =
     let outside = passes _ _ act refl typed.rest in
     name.same ∙ part.same ∙ reads.same ∙ seen.same ∙ above.same ∙ below.same ∙ typed.same ∙ outside.same
 
-own_before : (schema : List SchemaRecord) (class : ℕ) (value : List ℕ) (attr : ℕ × List (List ℕ)) → AllByRecursion IsBefore (own_checks schema class value attr)
+own_before : (schema : List SchemaRecord) (class : ℕ) (value : List ℕ) (attr : ℕ × List (List ℕ))
+    → AllByRecursion IsBefore (own_checks schema class value attr)
 own_before schema class value attr = (refl, (refl, tt))
 
-pub add_leads : (dir : Directory) (token : Token) (a : Add) (s : Settings) → reaches (verdict_of dir token (AddOf a) s) ≡ true
-    → verdict_of dir token (AddOf a) s ≡ by_checks (first_failing (all_met dir token (add_needs dir (parent_number dir token a) (class_number dir a) (new_sd a s.sd_flags)))) (add_act dir token a s.sd_flags)
+pub add_leads : (dir : Directory) (token : Token) (a : Add) (s : Settings)
+    → reaches (verdict_of dir token (AddOf a) s) ≡ true
+    → verdict_of dir token (AddOf a) s ≡ by_checks
+    (first_failing (all_met dir token
+    (add_needs dir (parent_number dir token a) (class_number dir a) (new_sd a s.sd_flags))))
+    (add_act dir token a s.sd_flags)
 unfolding verdict_of add_checks
 add_leads dir token a s is =
     let act = add_act dir token a s.sd_flags in
@@ -212,11 +247,13 @@ add_leads dir token a s is =
     let parts = passes _ _ act refl is in
     let other = passes _ _ act refl parts.rest in
     let parent = passes _ _ act refl other.rest in
-    let named = all_pass (all_naming_checks dir.schema [] a.attrs) _ act (naming_before dir.schema [] a.attrs) parent.rest in
+    let named = all_pass (all_naming_checks dir.schema [] a.attrs) _ act (naming_before dir.schema [] a.attrs)
+    parent.rest in
     let class_is = passes _ _ act refl named.rest in
     let kept = passes _ _ act refl class_is.rest in
     let typed = passes _ _ act refl kept.rest in
     let sd = passes _ _ act refl typed.rest in
     let own = all_pass (flat_map (own_checks dir.schema class (new_part a).value) (all_ordinary dir.schema a)) _ act
-    (before_of (own_checks dir.schema class (new_part a).value) (all_ordinary dir.schema a) (own_before dir.schema class (new_part a).value)) sd.rest in
+    (before_of (own_checks dir.schema class (new_part a).value) (all_ordinary dir.schema a)
+    (own_before dir.schema class (new_part a).value)) sd.rest in
     parts.same ∙ other.same ∙ parent.same ∙ named.same ∙ class_is.same ∙ kept.same ∙ typed.same ∙ sd.same ∙ own.same

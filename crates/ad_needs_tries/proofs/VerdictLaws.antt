@@ -1,5 +1,6 @@
 -- What a verdict tells is what was tried last.
-use Rattle.std.proofs.Common.{◌≡◌, ℕ, suc, Bool, true, false, List, [], ◌∷◌, map, take, Option, Some, None, inl, inr, refl, sym, ap, subst, ◌∙◌}
+use Rattle.std.proofs.Common.{◌≡◌, ℕ, suc, Bool, true, false, List, [], ◌∷◌, map, take, Option, Some, None, inl, inr}
+use Rattle.std.proofs.Common.{refl, sym, ap, subst, ◌∙◌}
 use Rattle.std.specs.Prelude.{find, is_some, if◌then◌else◌}
 use Rattle.std.specs.List.{AllByRecursion, list_any}
 use Rattle.std.specs.Option.{option_map_or}
@@ -7,7 +8,8 @@ use Rattle.std.proofs.lemmas.Bool.{cases_Bool, both_ways}
 use Rattle.std.proofs.lemmas.Option.{none-some, same_Some}
 use Rattle.ad_ids.specs.declared.token.Token.{Token}
 use Rattle.ad_ldap.specs.declared.controls.Settings.{Settings}
-use Rattle.ad_ldap.specs.MessageValue.{OpValue, Bind, Unbind, SearchOf, ModifyOf, AddOf, DeleteOf, RenameOf, CompareOf, Abandon, Extended}
+use Rattle.ad_ldap.specs.MessageValue.{OpValue, Bind, Unbind, SearchOf, ModifyOf, AddOf, DeleteOf, RenameOf}
+use Rattle.ad_ldap.specs.MessageValue.{CompareOf, Abandon, Extended}
 use Rattle.ad_dir_objects.specs.declared.act.Act.{Act}
 use Rattle.ad_dir_model.specs.Directory.{Directory}
 use Rattle.ad_access_dir.specs.Sight.{is_granted}
@@ -31,9 +33,11 @@ any_is p (a ∷ as') = elim (cases_Bool (p a)) [
   | inr not_so ↦ rw not_so (any_is p as')
 ]
 
-met_by : (dir : Directory) (token : Token) (r : List Alternative) (first : Option Alternative) → first_granted dir token r ≡ first → is_met dir token r ≡ is_some first
+met_by : (dir : Directory) (token : Token) (r : List Alternative) (first : Option Alternative)
+    → first_granted dir token r ≡ first → is_met dir token r ≡ is_some first
 unfolding is_met
-met_by dir token r first is = any_is (λ (a : Alternative). is_granted dir token a.object a.path a.bit) r ∙ ap (λ (f : Option Alternative). is_some f) is
+met_by dir token r first is = any_is (λ (a : Alternative). is_granted dir token a.object a.path a.bit) r
+    ∙ ap (λ (f : Option Alternative). is_some f) is
 
 same_missing : (a b : Need) → missing a ≡ missing b → a ≡ b
 same_missing a b e = cc
@@ -46,45 +50,60 @@ as_told : (r : List Alternative) → map told_of (failure_of r) ≡ take 1 (map 
 as_told [] = refl
 as_told (a ∷ as') = refl
 
-pub tells_last : (dir : Directory) (token : Token) (rs : List (List Alternative)) (need : Need) → first_failing (all_met dir token rs) ≡ Some (missing need) → TellsLast need (tries dir token rs)
+pub tells_last : (dir : Directory) (token : Token) (rs : List (List Alternative)) (need : Need)
+    → first_failing (all_met dir token rs) ≡ Some (missing need) → TellsLast need (tries dir token rs)
 unfolding first_failing tries
 tells_last dir token [] need is = absurd (none-some (missing need) is)
 tells_last dir token (r ∷ rs) need is = by (λ e. tells_last dir token rs need e) (first_granted dir token r) refl
   where
-    by : (first_failing (all_met dir token rs) ≡ Some (missing need) → TellsLast need (tries dir token rs)) → (first : Option Alternative) → first_granted dir token r ≡ first → TellsLast need (option_map_or (λ (a : Alternative). success_of a ∷ tries dir token rs) (first_granted dir token r) (failure_of r))
+    by : (first_failing (all_met dir token rs) ≡ Some (missing need) → TellsLast need (tries dir token rs))
+        → (first : Option Alternative) → first_granted dir token r ≡ first
+        → TellsLast need (option_map_or (λ (a : Alternative). success_of a ∷ tries dir token rs)
+        (first_granted dir token r) (failure_of r))
     by others None none =
         let same : need_of r ≡ need = same_missing (need_of r) need (same_Some (missing (need_of r)) (missing need)
         (sym (head_fails (or_missing dir token r) (all_met dir token rs) (met_by dir token r None none)) ∙ is)) in
         record {
           before = [];
           last = failure_of r;
-          are = ap (λ (f : Option Alternative). option_map_or (λ (a : Alternative). success_of a ∷ tries dir token rs) f (failure_of r)) none;
+          are = ap (λ (f : Option Alternative). option_map_or (λ (a : Alternative). success_of a ∷ tries dir token rs)
+              f (failure_of r)) none;
           granted = tt;
           missing = all_fail r;
           told = as_told r ∙ ap (λ (n : Need). take 1 n.alternatives) same;
         }
     by others (Some a) some =
-        let rest = others (sym (head_passes (or_missing dir token r) (all_met dir token rs) (met_by dir token r (Some a) some)) ∙ is) in
+        let rest = others (sym (head_passes (or_missing dir token r) (all_met dir token rs)
+        (met_by dir token r (Some a) some)) ∙ is) in
         record {
           before = success_of a ∷ rest.before;
           last = rest.last;
-          are = ap (λ (f : Option Alternative). option_map_or (λ (x : Alternative). success_of x ∷ tries dir token rs) f (failure_of r)) some
+          are = ap (λ (f : Option Alternative). option_map_or (λ (x : Alternative). success_of x ∷ tries dir token rs)
+              f (failure_of r)) some
               ∙ ap (λ (ts : List TriedValue). success_of a ∷ ts) rest.are;
           granted = (refl, rest.granted);
           missing = rest.missing;
           told = rest.told;
         }
 
-pub grants_all : (dir : Directory) (token : Token) (rs : List (List Alternative)) → first_failing (all_met dir token rs) ≡ None → GrantsAll rs (tries dir token rs)
+pub grants_all : (dir : Directory) (token : Token) (rs : List (List Alternative))
+    → first_failing (all_met dir token rs) ≡ None → GrantsAll rs (tries dir token rs)
 unfolding first_failing tries
 grants_all dir token [] is = record { each = refl; granted = tt }
 grants_all dir token (r ∷ rs) is = by (λ e. grants_all dir token rs e) (first_granted dir token r) refl
   where
-    by : (first_failing (all_met dir token rs) ≡ None → GrantsAll rs (tries dir token rs)) → (first : Option Alternative) → first_granted dir token r ≡ first → GrantsAll (r ∷ rs) (option_map_or (λ (a : Alternative). success_of a ∷ tries dir token rs) (first_granted dir token r) (failure_of r))
-    by others None none = absurd (none-some (missing (need_of r)) (sym is ∙ head_fails (or_missing dir token r) (all_met dir token rs) (met_by dir token r None none)))
+    by : (first_failing (all_met dir token rs) ≡ None → GrantsAll rs (tries dir token rs))
+        → (first : Option Alternative) → first_granted dir token r ≡ first
+        → GrantsAll (r ∷ rs) (option_map_or (λ (a : Alternative). success_of a ∷ tries dir token rs)
+        (first_granted dir token r) (failure_of r))
+    by others None none = absurd (none-some (missing (need_of r))
+        (sym is ∙ head_fails (or_missing dir token r) (all_met dir token rs) (met_by dir token r None none)))
     by others (Some a) some =
-        let rest = others (sym (head_passes (or_missing dir token r) (all_met dir token rs) (met_by dir token r (Some a) some)) ∙ is) in
-        subst (GrantsAll (r ∷ rs)) (sym (ap (λ (f : Option Alternative). option_map_or (λ (x : Alternative). success_of x ∷ tries dir token rs) f (failure_of r)) some))
+        let rest = others (sym (head_passes (or_missing dir token r) (all_met dir token rs)
+        (met_by dir token r (Some a) some)) ∙ is) in
+        subst (GrantsAll (r ∷ rs)) (sym (ap
+        (λ (f : Option Alternative). option_map_or (λ (x : Alternative). success_of x ∷ tries dir token rs) f
+        (failure_of r)) some))
         (record { each = ap (λ (n : ℕ). suc n) rest.each; granted = (refl, rest.granted) })
 
 -- ---- the verdict
@@ -109,7 +128,8 @@ record Leads (dir : Directory) (token : Token) (op : OpValue) (s : Settings) : T
   act : Act
   is : verdict_of dir token op s ≡ by_checks (first_failing (all_met dir token (requirements dir token op s))) act
 
-leads : (dir : Directory) (token : Token) (op : OpValue) (s : Settings) → reaches (verdict_of dir token op s) ≡ true → Leads dir token op s
+leads : (dir : Directory) (token : Token) (op : OpValue) (s : Settings) → reaches (verdict_of dir token op s) ≡ true
+    → Leads dir token op s
 unfolding verdict_of requirements
 leads dir token (AddOf a) s is = record { act = _; is = add_leads dir token a s is }
 leads dir token (DeleteOf dn) s is = record { act = _; is = delete_leads dir token dn s is }
@@ -122,20 +142,24 @@ leads dir token (CompareOf x) s is = absurd (both_ways false refl is)
 leads dir token Abandon s is = absurd (both_ways false refl is)
 leads dir token Extended s is = absurd (both_ways false refl is)
 
-pub missing_tells : (dir : Directory) (token : Token) (op : OpValue) (s : Settings) (need : Need) → verdict_of dir token op s ≡ Missing need → TellsLast need (trace_of dir token op s)
+pub missing_tells : (dir : Directory) (token : Token) (op : OpValue) (s : Settings) (need : Need)
+    → verdict_of dir token op s ≡ Missing need → TellsLast need (trace_of dir token op s)
 unfolding trace_of
 missing_tells dir token op s need is =
     let reached : reaches (verdict_of dir token op s) ≡ true = ap reaches is in
     let lead = leads dir token op s reached in
-    subst (TellsLast need) (sym (ap (λ (b : Bool). if b then tries dir token (requirements dir token op s) else []) reached))
+    subst (TellsLast need) (sym (ap (λ (b : Bool). if b then tries dir token (requirements dir token op s) else [])
+    reached))
     (tells_last dir token (requirements dir token op s) need
     (missing_is (first_failing (all_met dir token (requirements dir token op s))) lead.act need (sym lead.is ∙ is)))
 
-pub granted_tells : (dir : Directory) (token : Token) (op : OpValue) (s : Settings) (act : Act) → verdict_of dir token op s ≡ Granted act → GrantsAll (requirements dir token op s) (trace_of dir token op s)
+pub granted_tells : (dir : Directory) (token : Token) (op : OpValue) (s : Settings) (act : Act)
+    → verdict_of dir token op s ≡ Granted act → GrantsAll (requirements dir token op s) (trace_of dir token op s)
 unfolding trace_of
 granted_tells dir token op s act is =
     let reached : reaches (verdict_of dir token op s) ≡ true = ap reaches is in
     let lead = leads dir token op s reached in
-    subst (GrantsAll (requirements dir token op s)) (sym (ap (λ (b : Bool). if b then tries dir token (requirements dir token op s) else []) reached))
+    subst (GrantsAll (requirements dir token op s))
+    (sym (ap (λ (b : Bool). if b then tries dir token (requirements dir token op s) else []) reached))
     (grants_all dir token (requirements dir token op s)
     (granted_is (first_failing (all_met dir token (requirements dir token op s))) lead.act act (sym lead.is ∙ is)))

@@ -15,4 +15,5 @@ goes_on dir token false tried others = tried
 -- What was tried after these requirements, and whether none of them is missing, whatever follows.
 abbrev pub Steps : Directory → Token → List Tried → List (List Alternative) → List Tried → Bool → Type 0
 Steps dir token before requirements after met =
-    (others : List (List Alternative)) → goes_on dir token met (tried_values after) others ≡ tried_values before ++ tries dir token (requirements ++ others)
+    (others : List (List Alternative)) → goes_on dir token met (tried_values after) others ≡ tried_values before
+    ++ tries dir token (requirements ++ others)

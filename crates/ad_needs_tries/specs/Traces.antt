@@ -21,7 +21,8 @@ use Rattle.ad_needs_tries.specs.Tries.{tries}
 
 -- what the operation requires, in order
 unfoldable pub requirements : Directory → Token → OpValue → Settings → List (List Alternative)
-requirements dir token (AddOf a) s = add_needs dir (parent_number dir token a) (class_number dir a) (new_sd a s.sd_flags)
+requirements dir token (AddOf a) s = add_needs dir (parent_number dir token a) (class_number dir a)
+    (new_sd a s.sd_flags)
 requirements dir token (DeleteOf dn) s = delete_needs dir (number_named dir token dn) s.tree
 requirements dir token (RenameOf r) s = rename_needs dir (number_named dir token r.dn) (new_parent dir token r)
 requirements dir token (ModifyOf m) s = modify_needs dir token (number_named dir token m.dn) s.sd_flags m.items
@@ -37,7 +38,8 @@ reaches (Hidden name) = false
 
 -- nothing where an earlier check fails
 unfoldable pub trace_of : Directory → Token → OpValue → Settings → List TriedValue
-trace_of dir token op s = if reaches (verdict_of dir token op s) then tries dir token (requirements dir token op s) else []
+trace_of dir token op s = if reaches (verdict_of dir token op s) then tries dir token (requirements dir token op s)
+    else []
 
 -- ---- laws
 

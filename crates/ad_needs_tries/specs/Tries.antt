@@ -24,4 +24,5 @@ failure_of (a ∷ others) = failure_on a.object (2 ^ a.bit) a.path ∷ []
 unfoldable pub tries : Directory → Token → List (List Alternative) → List TriedValue
 tries dir token [] = []
 tries dir token (requirement ∷ others) =
-    option_map_or (λ a. success_of a ∷ tries dir token others) (first_granted dir token requirement) (failure_of requirement)
+    option_map_or (λ a. success_of a ∷ tries dir token others) (first_granted dir token requirement)
+    (failure_of requirement)

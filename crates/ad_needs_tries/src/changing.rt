@@ -34,7 +34,8 @@ fn try_leaving(
 ) -> Result<bool, AllocError>
     requires live { is_live dir.now.objects number ≡ true }
     requires below { number ≢ root }
-    ensures { IfOk result (λ met. Steps dir.now token.now into.old.items (to_leave dir.now number ∷ []) into.new.items met) }
+    ensures { IfOk result (λ met. Steps dir.now token.now into.old.items
+        (to_leave dir.now number ∷ []) into.new.items met) }
 {
     let alone = Ask {
         object: number,
@@ -56,7 +57,8 @@ fn try_all_leaving(
     number: u32,
 ) -> Result<bool, AllocError>
     requires { is_live dir.now.objects number ≡ true }
-    ensures { IfOk result (λ met. Steps dir.now token.now into.old.items (delete_needs dir.now number true) into.new.items met) }
+    ensures { IfOk result (λ met. Steps dir.now token.now into.old.items
+        (delete_needs dir.now number true) into.new.items met) }
 {
     let ask = Ask {
         object: number,
@@ -76,7 +78,8 @@ pub(crate) fn try_delete(
 ) -> Result<bool, AllocError>
     requires live { is_live dir.now.objects number ≡ true }
     requires below { number ≢ root }
-    ensures { IfOk result (λ met. Steps dir.now token.now into.old.items (delete_needs dir.now number tree) into.new.items met) }
+    ensures { IfOk result (λ met. Steps dir.now token.now into.old.items
+        (delete_needs dir.now number tree) into.new.items met) }
 {
     if tree {
         try_all_leaving(into, dir, token, number)
@@ -97,7 +100,8 @@ fn try_creating(
     requires parent { is_live dir.now.objects parent ≡ true }
     requires class { class.0 < length (classes_of dir.now.schema) }
     ensures { IfOk result (λ met. Steps dir.now token.now into.old.items
-        ((needs parent create_child (class_path dir.now.schema class.0) ∷ []) ∷ []) into.new.items met) }
+        ((needs parent create_child (class_path dir.now.schema class.0) ∷ []) ∷ []) into.new.items
+        met) }
 {
     let ask = Ask {
         object: parent,
@@ -115,7 +119,8 @@ fn try_auditing(
     sacl: bool,
 ) -> Result<bool, AllocError>
     requires { is_live dir.now.objects parent ≡ true }
-    ensures { IfOk result (λ met. Steps dir.now token.now into.old.items (sacl_needs parent sacl) into.new.items met) }
+    ensures { IfOk result (λ met. Steps dir.now token.now into.old.items (sacl_needs parent sacl)
+        into.new.items met) }
 {
     if !sacl {
         return Ok(true);
@@ -139,7 +144,8 @@ pub(crate) fn try_add(
 ) -> Result<bool, AllocError>
     requires parent { is_live dir.now.objects parent ≡ true }
     requires class { class.0 < length (classes_of dir.now.schema) }
-    ensures { IfOk result (λ met. Steps dir.now token.now into.old.items (add_needs dir.now parent class.0 sd.now) into.new.items met) }
+    ensures { IfOk result (λ met. Steps dir.now token.now into.old.items
+        (add_needs dir.now parent class.0 sd.now) into.new.items met) }
 {
     if !try_creating(into, dir, token, parent, class)? {
         return Ok(false);
@@ -159,7 +165,8 @@ fn try_moving(
     requires live { is_live dir.now.objects number ≡ true }
     requires below { number ≢ root }
     requires parent { is_live dir.now.objects parent ≡ true }
-    ensures { IfOk result (λ met. Steps dir.now token.now into.old.items (move_needs dir.now number parent) into.new.items met) }
+    ensures { IfOk result (λ met. Steps dir.now token.now into.old.items
+        (move_needs dir.now number parent) into.new.items met) }
 {
     if parent_of(dir, number) == parent {
         return Ok(true);
@@ -179,7 +186,8 @@ fn try_writing(
 ) -> Result<bool, AllocError>
     requires live { is_live dir.now.objects number ≡ true }
     requires attr { attr.0 < length (attrs_of dir.now.schema) }
-    ensures { IfOk result (λ met. Steps dir.now token.now into.old.items (to_write dir.now number attr.0 ∷ []) into.new.items met) }
+    ensures { IfOk result (λ met. Steps dir.now token.now into.old.items
+        (to_write dir.now number attr.0 ∷ []) into.new.items met) }
 {
     let ask = Ask {
         object: number,
@@ -224,7 +232,8 @@ fn try_named(
     requires { is_live dir.now.objects number ≡ true }
     ensures { IfOk result (λ met. Steps dir.now token.now into.old.items
         (to_write dir.now number (naming_of dir.now.schema (class_at dir.now number))
-        ∷ name_needs dir.now number (attr_place dir.now.schema (codes "name"))) into.new.items met) }
+        ∷ name_needs dir.now number (attr_place dir.now.schema (codes "name"))) into.new.items
+        met) }
 {
     let naming = naming_of(dir, number);
     if !try_writing(into, dir, token, number, naming)? {
@@ -244,7 +253,8 @@ pub(crate) fn try_rename(
     requires live { is_live dir.now.objects number ≡ true }
     requires below { number ≢ root }
     requires parent { is_live dir.now.objects parent ≡ true }
-    ensures { IfOk result (λ met. Steps dir.now token.now into.old.items (rename_needs dir.now number parent) into.new.items met) }
+    ensures { IfOk result (λ met. Steps dir.now token.now into.old.items
+        (rename_needs dir.now number parent) into.new.items met) }
 {
     if !try_moving(into, dir, token, number, parent)? {
         return Ok(false);

@@ -17,5 +17,6 @@ pub fn a_verdict_tells_the_last_that_is_tried()
     ensures missing { (dir : Directory) (token : Token) (op : OpValue) (s : Settings) (need : Need)
         → verdict_of dir token op s ≡ IsMissing need → TellsLast need (trace_of dir token op s) }
     ensures granted { (dir : Directory) (token : Token) (op : OpValue) (s : Settings) (act : Act)
-        → verdict_of dir token op s ≡ IsGranted act → GrantsAll (requirements dir token op s) (trace_of dir token op s) }
+        → verdict_of dir token op s ≡ IsGranted act → GrantsAll (requirements dir token op s)
+        (trace_of dir token op s) }
 {}

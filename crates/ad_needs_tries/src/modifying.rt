@@ -8,7 +8,8 @@ ghost use Rattle.ad_dir_model.specs.Attributes.{attr_place};
 ghost use Rattle.ad_needs_rules.specs.Needs.{needs};
 ghost use Rattle.ad_needs_rules.specs.Requests.{class_at, attr_path};
 ghost use Rattle.ad_needs_rules.specs.Judged.{bit_of, asked};
-ghost use Rattle.ad_needs.specs.Modifying.{items_of, written_sd, need_if, parts_needs, descriptor_needs, password_needs};
+ghost use Rattle.ad_needs.specs.Modifying.{items_of, written_sd, need_if, parts_needs, descriptor_needs};
+ghost use Rattle.ad_needs.specs.Modifying.{password_needs};
 ghost use Rattle.ad_needs.specs.Modifying.{attr_needs, ordinary_needs, modify_needs};
 ghost use Rattle.ad_needs.specs.ItemWords.{needs_if, named_needs};
 ghost use Rattle.ad_needs_tries.specs.Steps.{Steps};
@@ -40,7 +41,8 @@ fn try_part(
     right: Right,
 ) -> Result<bool, AllocError>
     requires { is_live dir.now.objects number ≡ true }
-    ensures { IfOk result (λ met. Steps dir.now token.now into.old.items (need_if is_written number (bit_of right)) into.new.items met) }
+    ensures { IfOk result (λ met. Steps dir.now token.now into.old.items
+        (need_if is_written number (bit_of right)) into.new.items met) }
 {
     if !is_written {
         return Ok(true);
@@ -63,7 +65,8 @@ fn try_lists(
 ) -> Result<bool, AllocError>
     requires { is_live dir.now.objects number ≡ true }
     ensures { IfOk result (λ met. Steps dir.now token.now into.old.items
-        (need_if is_controlled number write_dac ++ need_if is_audited number access_system_security) into.new.items met) }
+        (need_if is_controlled number write_dac ++ need_if is_audited number access_system_security)
+        into.new.items met) }
 {
     if !try_part(into, dir, token, number, is_controlled, Right::WriteDac)? {
         return Ok(false);
@@ -79,7 +82,8 @@ fn try_parts(
     parts: &SdParts,
 ) -> Result<bool, AllocError>
     requires { is_live dir.now.objects number ≡ true }
-    ensures { IfOk result (λ met. Steps dir.now token.now into.old.items (parts_needs number parts.now) into.new.items met) }
+    ensures { IfOk result (λ met. Steps dir.now token.now into.old.items
+        (parts_needs number parts.now) into.new.items met) }
 {
     let is_owned = has_owner_or_group(parts);
     if !try_part(into, dir, token, number, is_owned, Right::WriteOwner)? {
@@ -100,7 +104,8 @@ fn try_descriptor(
     items: &[Item],
 ) -> Result<bool, AllocError>
     requires { is_live dir.now.objects number ≡ true }
-    ensures { IfOk result (λ met. Steps dir.now token.now into.old.items (descriptor_needs number (written_sd items.now flags)) into.new.items met) }
+    ensures { IfOk result (λ met. Steps dir.now token.now into.old.items
+        (descriptor_needs number (written_sd items.now flags)) into.new.items met) }
 {
     match written_sd(alloc, items, flags)? {
         Some(parts) => try_parts(into, dir, token, number, &parts),
@@ -120,7 +125,8 @@ fn try_password(
     name: &[u8],
 ) -> Result<bool, AllocError>
     requires { is_live dir.now.objects number ≡ true }
-    ensures { IfOk result (λ met. Steps dir.now token.now into.old.items (password_needs number (items_of items.now name.now)) into.new.items met) }
+    ensures { IfOk result (λ met. Steps dir.now token.now into.old.items
+        (password_needs number (items_of items.now name.now)) into.new.items met) }
 {
     let own = items_of(alloc, items, name)?;
     let ask = Ask {
@@ -138,7 +144,8 @@ fn to_write(dir: &Dir, number: u32, attr: AttrId) -> Ask
     requires live { is_live dir.now.objects number ≡ true }
     requires attr { attr.0 < length (attrs_of dir.now.schema) }
     ensures object { result.object ≡ number }
-    ensures asked { asked result ≡ needs number write_property (attr_path dir.now.schema (class_at dir.now number) attr.0) }
+    ensures asked { asked result ≡ needs number write_property
+        (attr_path dir.now.schema (class_at dir.now number) attr.0) }
 {
     Ask {
         object: number,
@@ -171,7 +178,8 @@ fn try_validated(
     requires live { is_live dir.now.objects number ≡ true }
     requires attr { attr.0 < length (attrs_of dir.now.schema) }
     ensures { IfOk result (λ met. Steps dir.now token.now into.old.items
-        (attr_needs dir.now token.now number attr.0 (map (λ item. item.now) items.now)) into.new.items met) }
+        (attr_needs dir.now token.now number attr.0 (map (λ item. item.now) items.now))
+        into.new.items met) }
 {
     let write = to_write(dir, number, attr);
     match validated_write(alloc, dir, token, number, attr, items)? {
@@ -194,7 +202,8 @@ fn try_attr(
     requires live { is_live dir.now.objects number ≡ true }
     requires attr { attr.0 < length (attrs_of dir.now.schema) }
     ensures { IfOk result (λ met. Steps dir.now token.now into.old.items
-        (attr_needs dir.now token.now number attr.0 (items_of items.now name.now)) into.new.items met) }
+        (attr_needs dir.now token.now number attr.0 (items_of items.now name.now)) into.new.items
+        met) }
 {
     let write = to_write(dir, number, attr);
     if is_granted(dir, token, &write) {
@@ -216,7 +225,8 @@ fn try_ordinary(
 ) -> Result<bool, AllocError>
     requires { is_live dir.now.objects number ≡ true }
     ensures { IfOk result (λ met. Steps dir.now token.now into.old.items
-        (ordinary_needs dir.now token.now number (items_of items.now name.now) (attr_place dir.now.schema name.now)) into.new.items met) }
+        (ordinary_needs dir.now token.now number (items_of items.now name.now)
+        (attr_place dir.now.schema name.now)) into.new.items met) }
 {
     match dir.schema().attr(name) {
         Some(attr) => try_attr(alloc, into, dir, token, number, attr, items, name),
@@ -240,7 +250,8 @@ fn try_if(
 ) -> Result<bool, AllocError>
     requires { is_live dir.now.objects number ≡ true }
     ensures { IfOk result (λ met. Steps dir.now token.now into.old.items
-        (needs_if is_first (named_needs dir.now token.now number flags items.now name.now)) into.new.items met) }
+        (needs_if is_first (named_needs dir.now token.now number flags items.now name.now))
+        into.new.items met) }
 {
     if !is_first {
         return Ok(true);

@@ -54,7 +54,8 @@ pub(crate) fn new_parent(
     requires number { number ≡ number_named dir.now token.now rename.now.dn }
     requires live { is_live dir.now.objects number ≡ true }
     requires below { number ≢ root }
-    requires superior { IfSome rename.now.superior (λ text. (is_name text ≡ true) × (is_some (object_named dir.now token.now text) ≡ true)) }
+    requires superior { IfSome rename.now.superior
+        (λ text. (is_name text ≡ true) × (is_some (object_named dir.now token.now text) ≡ true)) }
     ensures number { IfOk result (λ parent. parent ≡ new_parent dir.now token.now rename.now) }
     ensures live { IfOk result (λ parent. is_live dir.now.objects parent ≡ true) }
 {

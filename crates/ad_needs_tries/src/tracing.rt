@@ -28,7 +28,8 @@ fn tried_deleting(
 ) -> Result<Vec<Tried>, AllocError>
     requires { reaches (verdict_of dir.now token.now (DeleteOf text.now) settings.now) ≡ true }
     ensures { IfOk result (λ tried. tried_values tried.items
-        ≡ tries dir.now token.now (requirements dir.now token.now (DeleteOf text.now) settings.now)) }
+        ≡ tries dir.now token.now (requirements dir.now token.now (DeleteOf text.now)
+        settings.now)) }
 {
     let number = found(alloc, dir, token, text)?;
     let mut tried = Vec::new(alloc);
@@ -46,7 +47,8 @@ fn tried_renaming(
 ) -> Result<Vec<Tried>, AllocError>
     requires { reaches (verdict_of dir.now token.now (RenameOf rename.now) settings.now) ≡ true }
     ensures { IfOk result (λ tried. tried_values tried.items
-        ≡ tries dir.now token.now (requirements dir.now token.now (RenameOf rename.now) settings.now)) }
+        ≡ tries dir.now token.now (requirements dir.now token.now (RenameOf rename.now)
+        settings.now)) }
 {
     let _ = settings;
     let number = found(alloc, dir, token, rename.dn.as_slice())?;
@@ -86,7 +88,8 @@ fn tried_modifying(
 ) -> Result<Vec<Tried>, AllocError>
     requires { reaches (verdict_of dir.now token.now (ModifyOf modify.now) settings.now) ≡ true }
     ensures { IfOk result (λ tried. tried_values tried.items
-        ≡ tries dir.now token.now (requirements dir.now token.now (ModifyOf modify.now) settings.now)) }
+        ≡ tries dir.now token.now (requirements dir.now token.now (ModifyOf modify.now)
+        settings.now)) }
 {
     let number = found(alloc, dir, token, modify.dn.as_slice())?;
     let items = modify.items.as_slice();
@@ -157,7 +160,8 @@ pub fn trace(
     settings: &Settings,
 ) -> Result<Vec<Tried>, AllocError>
     requires change { IsChange (op_seen op.now) }
-    ensures { IfOk result (λ tried. tried_values tried.items ≡ trace_of dir.now token.now (op_seen op.now) settings.now) }
+    ensures { IfOk result (λ tried. tried_values tried.items ≡ trace_of dir.now token.now
+        (op_seen op.now) settings.now) }
 {
     let said = verdict(alloc, dir, token, op, settings)?;
     if !reaches(&said) {

@@ -45,7 +45,8 @@ pub(crate) fn success(ask: &Ask) -> Tried
 
 /// What is told of one that isn't.
 pub(crate) fn failure(ask: &Ask) -> Tried
-    ensures { tried_value result ≡ failure_on (asked ask.now).object (2 ^ (asked ask.now).bit) (asked ask.now).path }
+    ensures { tried_value result ≡ failure_on (asked ask.now).object (2 ^ (asked ask.now).bit)
+        (asked ask.now).path }
 {
     failed(ask.object, mask_of(ask.right), ask.path)
 }
@@ -62,7 +63,8 @@ pub(crate) fn try_one(
     ask: &Ask,
 ) -> Result<bool, AllocError>
     requires { is_live dir.now.objects ask.now.object ≡ true }
-    ensures { IfOk result (λ met. Steps dir.now token.now into.old.items ((asked ask.now ∷ []) ∷ []) into.new.items met) }
+    ensures { IfOk result (λ met. Steps dir.now token.now into.old.items ((asked ask.now ∷ []) ∷ [])
+        into.new.items met) }
 {
     if is_granted(dir, token, ask) {
         into.push(success(ask))?;
@@ -86,7 +88,8 @@ pub(crate) fn try_either(
 ) -> Result<bool, AllocError>
     requires first { is_live dir.now.objects first.now.object ≡ true }
     requires second { is_live dir.now.objects second.now.object ≡ true }
-    ensures { IfOk result (λ met. Steps dir.now token.now into.old.items ((asked first.now ∷ asked second.now ∷ []) ∷ []) into.new.items met) }
+    ensures { IfOk result (λ met. Steps dir.now token.now into.old.items
+        ((asked first.now ∷ asked second.now ∷ []) ∷ []) into.new.items met) }
 {
     if is_granted(dir, token, first) {
         into.push(success(first))?;

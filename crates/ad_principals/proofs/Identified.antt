@@ -1,5 +1,6 @@
 -- Objects and their identifiers: an object with one is live, and the object of one is found.
-use Rattle.std.proofs.Common.{◌≡◌, ℕ, Bool, true, false, List, [], ◌∷◌, Option, Some, None, inl, inr, refl, sym, ap, subst, ◌∙◌}
+use Rattle.std.proofs.Common.{◌≡◌, ℕ, Bool, true, false, List, [], ◌∷◌, Option, Some, None, inl, inr, refl, sym, ap}
+use Rattle.std.proofs.Common.{subst, ◌∙◌}
 use Rattle.std.specs.Prelude.{nat_eq, find, is_some, ◌&&◌}
 use Rattle.std.specs.List.{AllByRecursion}
 use Rattle.std.specs.Option.{option_map, option_and_then}
@@ -34,11 +35,13 @@ has_numbers (x ∷ xs) n =
     ]
 
 pub all_live : (os : List Object) (ns : List ℕ) → ns ≡ numbers os → AllByRecursion (λ (n : ℕ). is_live os n ≡ true) ns
-all_live os ns all = all_by (λ (n : ℕ). is_live os n ≡ true) ns (λ n is. sym (ap (λ (xs : List ℕ). has xs n) all ∙ has_numbers os n) ∙ is)
+all_live os ns all = all_by (λ (n : ℕ). is_live os n ≡ true) ns
+    (λ n is. sym (ap (λ (xs : List ℕ). has xs n) all ∙ has_numbers os n) ∙ is)
 
 -- ---- an object with an identifier is live
 
-none_of_none : (attr : Option ℕ) → option_and_then (λ (value : Value). sid_of value.shown) (option_and_then (λ (place : ℕ). first_plain (stored_in [] place)) attr) ≡ None
+none_of_none : (attr : Option ℕ) → option_and_then (λ (value : Value). sid_of value.shown)
+    (option_and_then (λ (place : ℕ). first_plain (stored_in [] place)) attr) ≡ None
 unfolding stored_in
 none_of_none None = refl
 none_of_none (Some place) = refl
@@ -51,7 +54,8 @@ pub sid_live : (dir : Directory) (n : ℕ) → is_some (self_sid dir n) ≡ true
 sid_live dir n is =
     elim (cases_Bool (is_live dir.objects n)) [
       | inl live ↦ live
-      | inr gone ↦ absurd (false≢true (sym (ap is_some (ap (sid_in dir.schema) (at-not_live dir.objects n gone) ∙ no_sid_of_none dir.schema)) ∙ is))
+      | inr gone ↦ absurd (false≢true (sym
+          (ap is_some (ap (sid_in dir.schema) (at-not_live dir.objects n gone) ∙ no_sid_of_none dir.schema)) ∙ is))
     ]
 
 pub live_by_sid : (dir : Directory) (n : ℕ) (sid : SidValue) → self_sid dir n ≡ Some sid → is_live dir.objects n ≡ true
@@ -63,9 +67,11 @@ is_own : (sid : SidValue) (own : Option SidValue) → is_sid sid own ≡ true �
 is_own sid None is = absurd (false≢true is)
 is_own sid (Some other) is = ap Some (one_sid other sid is)
 
-pub with_sid_has : (dir : Directory) (sid : SidValue) (n : ℕ) → AreStanding dir.schema dir.objects → with_sid dir sid ≡ Some n → self_sid dir n ≡ Some sid
+pub with_sid_has : (dir : Directory) (sid : SidValue) (n : ℕ) → AreStanding dir.schema dir.objects → with_sid dir sid
+    ≡ Some n → self_sid dir n ≡ Some sid
 unfolding with_sid
-with_sid_has dir sid n stands is = by_found (find (λ (o : Object). is_sid sid (sid_in dir.schema o)) dir.objects) refl is
+with_sid_has dir sid n stands is = by_found (find (λ (o : Object). is_sid sid (sid_in dir.schema o)) dir.objects) refl
+    is
   where
     by_found : (found : Option Object) → find (λ (o : Object). is_sid sid (sid_in dir.schema o)) dir.objects ≡ found
         → option_map (λ (o : Object). o.number) found ≡ Some n → self_sid dir n ≡ Some sid
@@ -73,7 +79,8 @@ with_sid_has dir sid n stands is = by_found (find (λ (o : Object). is_sid sid (
     by_found (Some o) e some =
         let first = found_first (λ (o : Object). is_sid sid (sid_in dir.schema o)) 0 dir.objects o stands.rise e in
         subst (λ (k : ℕ). self_sid dir k ≡ Some sid) (same_Some o.number n some)
-        (ap (sid_in dir.schema) (at-of dir.objects o.number o first.live) ∙ is_own sid (sid_in dir.schema o) first.passes)
+        (ap (sid_in dir.schema) (at-of dir.objects o.number o first.live) ∙ is_own sid (sid_in dir.schema o)
+        first.passes)
 
 pub with_sid_none : (dir : Directory) (sid : SidValue) (n : ℕ) → with_sid dir sid ≡ None → self_sid dir n ≡ Some sid → ⊥
 unfolding with_sid
@@ -82,17 +89,20 @@ with_sid_none dir sid n is own = by_found (find (λ (o : Object). is_sid sid (si
     by_found : (found : Option Object) → find (λ (o : Object). is_sid sid (sid_in dir.schema o)) dir.objects ≡ found
         → option_map (λ (o : Object). o.number) found ≡ None → ⊥
     by_found None e none = both_ways (is_sid sid (self_sid dir n))
-        (none_found (λ (o : Object). is_sid sid (sid_in dir.schema o)) dir.objects n (object_at dir.objects n) e (of-live dir.objects n (live_by_sid dir n sid own)))
+        (none_found (λ (o : Object). is_sid sid (sid_in dir.schema o)) dir.objects n (object_at dir.objects n) e
+        (of-live dir.objects n (live_by_sid dir n sid own)))
         (ap (is_sid sid) own ∙ same_sid_laws.refl sid)
     by_found (Some o) e some = none-some o.number (sym some)
 
 -- two objects of one identifier are one
-pub one_of_sid : (dir : Directory) (sid : SidValue) (m n : ℕ) → AreStanding dir.schema dir.objects → self_sid dir m ≡ Some sid → self_sid dir n ≡ Some sid → m ≡ n
+pub one_of_sid : (dir : Directory) (sid : SidValue) (m n : ℕ) → AreStanding dir.schema dir.objects → self_sid dir m
+    ≡ Some sid → self_sid dir n ≡ Some sid → m ≡ n
 one_of_sid dir sid m n stands of_m of_n =
     let m_live : is_live dir.objects m ≡ true = live_by_sid dir m sid of_m in
     let n_live : is_live dir.objects n ≡ true = live_by_sid dir n sid of_n in
     sym (at_number dir.objects m m_live)
-    ∙ stands.own_sid n (object_at dir.objects n) (of-live dir.objects n n_live) m (object_at dir.objects m) sid (of-live dir.objects m m_live) of_m of_n
+    ∙ stands.own_sid n (object_at dir.objects n) (of-live dir.objects n n_live) m (object_at dir.objects m) sid
+    (of-live dir.objects m m_live) of_m of_n
     ∙ at_number dir.objects n n_live
 
 -- ---- the table of all members

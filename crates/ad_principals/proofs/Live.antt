@@ -1,6 +1,8 @@
 -- What a text names is there.
-use Rattle.std.proofs.Common.{◌≡◌, ℕ, Bool, true, false, List, [], ◌∷◌, Option, Some, None, inl, inr, refl, sym, ap, subst, ◌∙◌}
-use Rattle.std.specs.Prelude.{◌&&◌, nat_eq, filter, find, reverse, length, drop, if◌then◌else◌, Result, Ok, Err, IfOk, codes}
+use Rattle.std.proofs.Common.{◌≡◌, ℕ, Bool, true, false, List, [], ◌∷◌, Option, Some, None, inl, inr, refl, sym, ap}
+use Rattle.std.proofs.Common.{subst, ◌∙◌}
+use Rattle.std.specs.Prelude.{◌&&◌, nat_eq, filter, find, reverse, length, drop, if◌then◌else◌, Result, Ok, Err, IfOk}
+use Rattle.std.specs.Prelude.{codes}
 use Rattle.std.specs.Option.{option_map_or}
 use Rattle.std.proofs.lemmas.Bool.{cases_Bool, and_parts, or_cases, or_left, or_right, eq-eqb}
 use Rattle.std.proofs.lemmas.Option.{none-some, same_Some, cond_some, option_and_then_some}
@@ -32,10 +34,12 @@ use Rattle.ad_principals.proofs.Identified.{has_numbers, with_sid_has, live_by_s
 
 -- ---- by its name
 
-child_live : (dir : Directory) (parent m : ℕ) (rdn : Rdn) → Rise dir.objects → child_of_rdn dir parent rdn ≡ Some m → is_live dir.objects m ≡ true
+child_live : (dir : Directory) (parent m : ℕ) (rdn : Rdn) → Rise dir.objects → child_of_rdn dir parent rdn ≡ Some m
+    → is_live dir.objects m ≡ true
 unfolding child_of_rdn child_named
 child_live dir parent m rdn rise is =
-    option_and_then_some (number_if_typed dir.schema rdn) (find (is_child_named parent rdn.value) dir.objects) m is (λ (o : Object) first typed.
+    option_and_then_some (number_if_typed dir.schema rdn) (find (is_child_named parent rdn.value) dir.objects) m is
+    (λ (o : Object) first typed.
     let number : o.number ≡ m = (cond_some (same_rdn (rdn_of dir.schema o) rdn) o.number m typed).1 in
     subst (λ (k : ℕ). is_live dir.objects k ≡ true) number
     (live-of dir.objects o.number o
@@ -46,16 +50,20 @@ below_live : (dir : Directory) (n m : ℕ) (rdns : List Rdn) → Rise dir.object
 unfolding found_below
 below_live dir n m [] rise live is = subst (λ (k : ℕ). is_live dir.objects k ≡ true) (same_Some n m is) live
 below_live dir n m (rdn ∷ rdns) rise live is =
-    option_and_then_some (λ (child : ℕ). found_below dir child rdns) (child_of_rdn dir n rdn) m is (λ (child : ℕ) first rest.
+    option_and_then_some (λ (child : ℕ). found_below dir child rdns) (child_of_rdn dir n rdn) m is
+    (λ (child : ℕ) first rest.
     below_live dir child m rdns rise (child_live dir n child rdn rise first) rest)
 
-found_live : (dir : Directory) (rdns : List Rdn) (m : ℕ) → Rise dir.objects → found dir rdns ≡ Some m → is_live dir.objects m ≡ true
+found_live : (dir : Directory) (rdns : List Rdn) (m : ℕ) → Rise dir.objects → found dir rdns ≡ Some m
+    → is_live dir.objects m ≡ true
 unfolding found
-found_live dir rdns m rise is = by_test (reverse (rdns_of dir root)) (reverse rdns) (is_live dir.objects root && begins_with (reverse rdns) (reverse (rdns_of dir root))) refl is
+found_live dir rdns m rise is = by_test (reverse (rdns_of dir root)) (reverse rdns)
+    (is_live dir.objects root && begins_with (reverse rdns) (reverse (rdns_of dir root))) refl is
   where
     by_test : (top parts : List Rdn) (b : Bool) → (is_live dir.objects root && begins_with parts top) ≡ b
         → (if b then found_below dir root (drop (length top) parts) else None) ≡ Some m → is_live dir.objects m ≡ true
-    by_test top parts true e is' = below_live dir root m (drop (length top) parts) rise (and_parts (is_live dir.objects root) (begins_with parts top) e).0 is'
+    by_test top parts true e is' = below_live dir root m (drop (length top) parts) rise
+        (and_parts (is_live dir.objects root) (begins_with parts top) e).0 is'
     by_test top parts false e is' = absurd (none-some m is')
 
 -- ---- by the name of an account
@@ -73,28 +81,34 @@ left_in test (m ∷ ms) n is = elim (cases_Bool (test m)) [
 abbrev ok_of : ℕ → Result ℕ NameFault
 ok_of n = Ok n
 
-numbers_live : (dir : Directory) (name : List ℕ) (text : Value) (n : ℕ) → has (numbers_with dir name text) n ≡ true → is_live dir.objects n ≡ true
+numbers_live : (dir : Directory) (name : List ℕ) (text : Value) (n : ℕ) → has (numbers_with dir name text) n ≡ true
+    → is_live dir.objects n ≡ true
 unfolding numbers_with
 numbers_live dir name text n is =
-    sym (has_numbers dir.objects n) ∙ left_in (has_text dir (attr_place dir.schema name) text) (numbers dir.objects) n is
+    sym (has_numbers dir.objects n) ∙ left_in (has_text dir (attr_place dir.schema name) text) (numbers dir.objects) n
+    is
 
 ok_same : (a b : ℕ) → ok_of a ≡ ok_of b → a ≡ b
 ok_same a b e = cc
 
 one_live : (dir : Directory) (name : List ℕ) (text : Value) (otherwise : Result ℕ NameFault) (n : ℕ)
-    → only_one (numbers_with dir name text) otherwise ≡ Ok n → (otherwise ≡ Ok n → is_live dir.objects n ≡ true) → is_live dir.objects n ≡ true
+    → only_one (numbers_with dir name text) otherwise ≡ Ok n → (otherwise ≡ Ok n → is_live dir.objects n ≡ true)
+    → is_live dir.objects n ≡ true
 one_live dir name text otherwise n is rest = by_list (numbers_with dir name text) refl is
   where
-    by_list : (ns : List ℕ) → numbers_with dir name text ≡ ns → only_one ns otherwise ≡ Ok n → is_live dir.objects n ≡ true
+    by_list : (ns : List ℕ) → numbers_with dir name text ≡ ns → only_one ns otherwise ≡ Ok n → is_live dir.objects n
+        ≡ true
     by_list [] e none = rest none
     by_list (m ∷ []) e one =
         numbers_live dir name text n (ap (λ (ns : List ℕ). has ns n) e
         ∙ subst (λ (k : ℕ). has (m ∷ []) k ≡ true) (ok_same m n one) (or_left (nat_eq m m) false (eq-eqb m m refl)))
     by_list (m ∷ k ∷ ns) e several = absurd cc
 
-account_live : (dir : Directory) (text : Result Value ValueFault) (n : ℕ) → account_named dir text ≡ Ok n → is_live dir.objects n ≡ true
+account_live : (dir : Directory) (text : Result Value ValueFault) (n : ℕ) → account_named dir text ≡ Ok n
+    → is_live dir.objects n ≡ true
 account_live dir (Ok text) n is =
-    one_live dir (codes "sAMAccountName") text (only_one (numbers_with dir (codes "userPrincipalName") text) (Err name_fault.NoObject)) n is
+    one_live dir (codes "sAMAccountName") text
+    (only_one (numbers_with dir (codes "userPrincipalName") text) (Err name_fault.NoObject)) n is
     (λ second. one_live dir (codes "userPrincipalName") text (Err name_fault.NoObject) n second (λ never. absurd cc))
 account_live dir (Err cause) n is = absurd cc
 
@@ -104,17 +118,20 @@ some_found : (found : Option ℕ) (n : ℕ) → or_no_object found ≡ Ok n → 
 some_found None n is = absurd cc
 some_found (Some m) n is = ap Some (ok_same m n is)
 
-pub named_live : (dir : Directory) (text : List ℕ) (n : ℕ) → AreStanding dir.schema dir.objects → named dir text ≡ Ok n → is_live dir.objects n ≡ true
+pub named_live : (dir : Directory) (text : List ℕ) (n : ℕ) → AreStanding dir.schema dir.objects → named dir text
+    ≡ Ok n → is_live dir.objects n ≡ true
 unfolding named
 named_live dir text n stands is = by_name (dn_of text) is
   where
-    by_sid : (sid : Option SidValue) → option_map_or (λ (s : SidValue). or_no_object (with_sid dir s)) sid (account_named dir (normal_or_fault syntax.Unicode text)) ≡ Ok n
+    by_sid : (sid : Option SidValue) → option_map_or (λ (s : SidValue). or_no_object (with_sid dir s)) sid
+        (account_named dir (normal_or_fault syntax.Unicode text)) ≡ Ok n
         → is_live dir.objects n ≡ true
     by_sid None it = account_live dir (normal_or_fault syntax.Unicode text) n it
     by_sid (Some s) it = live_by_sid dir n s (with_sid_has dir s n stands (some_found (with_sid dir s) n it))
 
     by_name : (dn : Option Dn) → option_map_or (λ (d : Dn). or_no_object (found dir d.rdns)) dn
-        (option_map_or (λ (s : SidValue). or_no_object (with_sid dir s)) (sid_of_text text) (account_named dir (normal_or_fault syntax.Unicode text))) ≡ Ok n
+        (option_map_or (λ (s : SidValue). or_no_object (with_sid dir s)) (sid_of_text text)
+        (account_named dir (normal_or_fault syntax.Unicode text))) ≡ Ok n
         → is_live dir.objects n ≡ true
     by_name None it = by_sid (sid_of_text text) it
     by_name (Some d) it = found_live dir d.rdns n stands.rise (some_found (found dir d.rdns) n it)

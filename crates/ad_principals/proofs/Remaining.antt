@@ -1,5 +1,6 @@
 -- The identifiers of a set but for the user's, and how many they are.
-use Rattle.std.proofs.Common.{◌≡◌, ℕ, suc, ◌+◌, ◌<◌, ◌≤◌, Bool, true, false, List, [], ◌∷◌, length, inl, inr, refl, sym, ap, subst, ◌∙◌, arith}
+use Rattle.std.proofs.Common.{◌≡◌, ℕ, suc, ◌+◌, ◌<◌, ◌≤◌, Bool, true, false, List, [], ◌∷◌, length, inl, inr, refl}
+use Rattle.std.proofs.Common.{sym, ap, subst, ◌∙◌, arith}
 use Rattle.std.specs.Prelude.{◌||◌, ◌&&◌, not, filter}
 use Rattle.std.specs.List.{AllByRecursion, IsDistinct}
 use Rattle.std.proofs.lemmas.Bool.{cases_Bool, and_from, false_from_ne_true}
@@ -18,14 +19,16 @@ is_other user sid = not (same_sid sid user)
 
 -- ---- what is left
 
-all_left : (P : SidValue → Type 0) (test : SidValue → Bool) (xs : List SidValue) → AllByRecursion P xs → AllByRecursion P (filter test xs)
+all_left : (P : SidValue → Type 0) (test : SidValue → Bool) (xs : List SidValue) → AllByRecursion P xs
+    → AllByRecursion P (filter test xs)
 all_left P test [] all = tt
 all_left P test (x ∷ xs) all = elim (cases_Bool (test x)) [
   | inl stays ↦ rw stays (all.0, all_left P test xs all.1)
   | inr goes ↦ rw goes (all_left P test xs all.1)
 ]
 
-pub distinct_left : (test : SidValue → Bool) (xs : List SidValue) → IsDistinct same_sid xs → IsDistinct same_sid (filter test xs)
+pub distinct_left : (test : SidValue → Bool) (xs : List SidValue) → IsDistinct same_sid xs
+    → IsDistinct same_sid (filter test xs)
 unfolding IsDistinct
 distinct_left test [] distinct = tt
 distinct_left test (x ∷ xs) distinct = elim (cases_Bool (test x)) [
@@ -47,29 +50,36 @@ kept_first : (h c n : Bool) → (h ≡ true → n ≡ true) → (h || (c && n)) 
 kept_first true c n stays = sym (stays refl)
 kept_first false c n stays = refl
 
-pub contains_left : (user : SidValue) (xs : List SidValue) (sid : SidValue) → contains_sid (filter (is_other user) xs) sid ≡ (contains_sid xs sid && is_other user sid)
+pub contains_left : (user : SidValue) (xs : List SidValue) (sid : SidValue) → contains_sid (filter (is_other user) xs)
+    sid ≡ (contains_sid xs sid && is_other user sid)
 contains_left user [] sid = refl
 contains_left user (x ∷ xs) sid = elim (cases_Bool (same_sid x user)) [
-  | inl goes ↦ rw goes (contains_left user xs sid ∙ dropped_first (same_sid x sid) (contains_sid xs sid) (is_other user sid)
+  | inl goes ↦ rw goes (contains_left user xs sid ∙ dropped_first (same_sid x sid) (contains_sid xs sid)
+      (is_other user sid)
       (λ here. ap not (subst (λ (s : SidValue). same_sid s user ≡ true) (one_sid x sid here) goes)))
-  | inr stays ↦ rw stays (ap (λ (b : Bool). same_sid x sid || b) (contains_left user xs sid) ∙ kept_first (same_sid x sid) (contains_sid xs sid) (is_other user sid)
+  | inr stays ↦ rw stays (ap (λ (b : Bool). same_sid x sid || b) (contains_left user xs sid)
+      ∙ kept_first (same_sid x sid) (contains_sid xs sid) (is_other user sid)
       (λ here. ap not (subst (λ (s : SidValue). same_sid s user ≡ false) (one_sid x sid here) stays)))
 ]
 
 -- ---- how many are left
 
-all_stay : (user : SidValue) (xs : List SidValue) → AllByRecursion (λ y. same_sid user y ≡ false) xs → length xs ≡ length (filter (is_other user) xs)
+all_stay : (user : SidValue) (xs : List SidValue) → AllByRecursion (λ y. same_sid user y ≡ false) xs → length xs
+    ≡ length (filter (is_other user) xs)
 all_stay user [] all = refl
 all_stay user (x ∷ xs) all =
     let apart : same_sid x user ≡ false = same_sid_laws.symm x user ∙ all.0 in
     rw apart (ap suc (all_stay user xs all.1))
 
-pub one_goes : (user : SidValue) (xs : List SidValue) → IsDistinct same_sid xs → length xs ≤ length (filter (is_other user) xs) + 1
+pub one_goes : (user : SidValue) (xs : List SidValue) → IsDistinct same_sid xs → length xs
+    ≤ length (filter (is_other user) xs) + 1
 unfolding IsDistinct
 one_goes user [] distinct = omega arith
 one_goes user (x ∷ xs) distinct = elim (cases_Bool (same_sid x user)) [
   | inl goes ↦
-      let same : length xs ≡ length (filter (is_other user) xs) = all_stay user xs (subst (λ (s : SidValue). AllByRecursion (λ y. same_sid s y ≡ false) xs) (one_sid x user goes) distinct.0) in
+      let same : length xs ≡ length (filter (is_other user) xs)
+      = all_stay user xs (subst (λ (s : SidValue). AllByRecursion (λ y. same_sid s y ≡ false) xs)
+      (one_sid x user goes) distinct.0) in
       rw goes (omega (arith, same))
   | inr stays ↦
       let more : length xs ≤ length (filter (is_other user) xs) + 1 = one_goes user xs distinct.1 in
@@ -78,7 +88,8 @@ one_goes user (x ∷ xs) distinct = elim (cases_Bool (same_sid x user)) [
 
 -- ---- who has too many groups has no token
 
-apart_behind : (x : SidValue) (xs : List SidValue) → AllByRecursion (λ y. is_before x y ≡ true) xs → AllByRecursion (λ y. same_sid x y ≡ false) xs
+apart_behind : (x : SidValue) (xs : List SidValue) → AllByRecursion (λ y. is_before x y ≡ true) xs
+    → AllByRecursion (λ y. same_sid x y ≡ false) xs
 apart_behind x [] all = tt
 apart_behind x (y ∷ ys) all = (
   false_from_ne_true (same_sid x y) (λ same.
@@ -92,14 +103,17 @@ unfolding IsDistinct
 rising_distinct [] rise = tt
 rising_distinct (x ∷ xs) rise = (apart_behind x xs rise.0, rising_distinct xs rise.1)
 
-pub too_many : (dir : Directory) (number : ℕ) (extra : List SidValue) (t : Token) → HasTooManyGroups dir number extra → IsTokenOf dir number extra t → ⊥
+pub too_many : (dir : Directory) (number : ℕ) (extra : List SidValue) (t : Token) → HasTooManyGroups dir number extra
+    → IsTokenOf dir number extra t → ⊥
 too_many dir number extra t h is =
     let user : t.user ≡ h.user = same_Some t.user h.user (sym is.user ∙ h.is_user) in
-    let closed : IsClosed dir h.user (first_groups dir number extra) is.set = subst (λ (u : SidValue). IsClosed dir u (first_groups dir number extra) is.set) user is.least.closed in
+    let closed : IsClosed dir h.user (first_groups dir number extra) is.set
+    = subst (λ (u : SidValue). IsClosed dir u (first_groups dir number extra) is.set) user is.least.closed in
     let within : (q : SidValue) → contains_sid h.groups q ≡ true → contains_sid t.groups q ≡ true = λ q there.
     is.groups q ∙ and_from (contains_sid is.set q) (not (same_sid q t.user)) (h.reached q there is.set closed)
     (ap not (ap (same_sid q) user ∙ h.others q there)) in
-    let fewer : length h.groups ≤ length t.groups = length-le_from_is_member same_sid_laws h.groups t.groups (rising_distinct h.groups h.rise)
+    let fewer : length h.groups ≤ length t.groups = length-le_from_is_member same_sid_laws h.groups t.groups
+    (rising_distinct h.groups h.rise)
     (λ q there. member_has t.groups q ∙ within q (sym (member_has h.groups q) ∙ there)) in
     let few : length t.groups ≤ 1024 = is.few in
     let many : 1024 < length h.groups = h.many in

@@ -6,14 +6,16 @@ use Rattle.std.proofs.lemmas.Option.{same_Some}
 use Rattle.ad_ids.specs.declared.token.Token.{Token}
 use Rattle.ad_ids.specs.SidValue.{SidValue, same_sid, contains_sid}
 use Rattle.ad_dir_model.specs.Directory.{Directory}
-use Rattle.ad_principals.specs.Groups.{everyone, authenticated_users, administrators, primary_of, first_groups, IsIn, IsClosed, IsLeast}
+use Rattle.ad_principals.specs.Groups.{everyone, authenticated_users, administrators, primary_of, first_groups, IsIn}
+use Rattle.ad_principals.specs.Groups.{IsClosed, IsLeast}
 use Rattle.ad_principals.specs.Tokens.{IsTokenOf}
 use Rattle.ad_principals.specs.Alike.{HasTheMembersOf, AreTheSame}
 use Rattle.ad_principals.proofs.Rising.{rising_same}
 
 -- ---- what is closed in the larger directory is closed in the smaller one
 
-in_more : (dir more : Directory) (sid group : SidValue) → HasTheMembersOf dir more → IsIn dir sid group → IsIn more sid group
+in_more : (dir more : Directory) (sid group : SidValue) → HasTheMembersOf dir more → IsIn dir sid group
+    → IsIn more sid group
 in_more dir more sid group has is = record {
   group = is.group;
   member = is.member;
@@ -33,13 +35,19 @@ closed_in_less dir more user first others set has within closed = record {
 }
 
 -- what the first groups are in both
-pub first_within : (dir more : Directory) (number : ℕ) (extra others : List SidValue) → HasTheMembersOf dir more → AreTheSame extra others
-    → (sid : SidValue) → contains_sid (first_groups dir number extra) sid ≡ contains_sid (first_groups more number others) sid
+pub first_within : (dir more : Directory) (number : ℕ) (extra others : List SidValue) → HasTheMembersOf dir more
+    → AreTheSame extra others
+    → (sid : SidValue) → contains_sid (first_groups dir number extra) sid
+    ≡ contains_sid (first_groups more number others) sid
 first_within dir more number extra others has same sid =
-    ap (λ (p : SidValue). same_sid everyone sid || (same_sid authenticated_users sid || (same_sid p sid || contains_sid extra sid))) (sym (has.primary number))
-    ∙ ap (λ (b : Bool). same_sid everyone sid || (same_sid authenticated_users sid || (same_sid (primary_of more number) sid || b))) (same sid)
+    ap (λ (p : SidValue). same_sid everyone sid
+    || (same_sid authenticated_users sid || (same_sid p sid || contains_sid extra sid)))
+    (sym (has.primary number))
+    ∙ ap (λ (b : Bool). same_sid everyone sid
+    || (same_sid authenticated_users sid || (same_sid (primary_of more number) sid || b))) (same sid)
 
-set_within : (dir more : Directory) (number : ℕ) (extra others : List SidValue) (user : SidValue) (set larger : List SidValue)
+set_within : (dir more : Directory) (number : ℕ) (extra others : List SidValue) (user : SidValue)
+    (set larger : List SidValue)
     → HasTheMembersOf dir more → AreTheSame extra others
     → IsLeast dir user (first_groups dir number extra) set → IsLeast more user (first_groups more number others) larger
     → (sid : SidValue) → contains_sid set sid ≡ true → contains_sid larger sid ≡ true
@@ -52,20 +60,26 @@ set_within dir more number extra others user set larger has same least other sid
 
 same_user : (dir more : Directory) (number : ℕ) (extra others : List SidValue) (a b : Token) → HasTheMembersOf dir more
     → IsTokenOf dir number extra a → IsTokenOf more number others b → a.user ≡ b.user
-same_user dir more number extra others a b has one other = same_Some a.user b.user (sym one.user ∙ sym (has.sids number) ∙ other.user)
+same_user dir more number extra others a b has one other = same_Some a.user b.user
+    (sym one.user ∙ sym (has.sids number) ∙ other.user)
 
-token_set_within : (dir more : Directory) (number : ℕ) (extra others : List SidValue) (a b : Token) → HasTheMembersOf dir more → AreTheSame extra others
+token_set_within : (dir more : Directory) (number : ℕ) (extra others : List SidValue) (a b : Token)
+    → HasTheMembersOf dir more → AreTheSame extra others
     → (one : IsTokenOf dir number extra a) (other : IsTokenOf more number others b)
     → (sid : SidValue) → contains_sid one.set sid ≡ true → contains_sid other.set sid ≡ true
 token_set_within dir more number extra others a b has same one other =
     set_within dir more number extra others a.user one.set other.set has same one.least
-    (subst (λ (u : SidValue). IsLeast more u (first_groups more number others) other.set) (sym (same_user dir more number extra others a b has one other)) other.least)
+    (subst (λ (u : SidValue). IsLeast more u (first_groups more number others) other.set)
+    (sym (same_user dir more number extra others a b has one other)) other.least)
 
-pub groups_within : (dir more : Directory) (number : ℕ) (extra : List SidValue) (a b : Token) (sid : SidValue) → HasTheMembersOf dir more
-    → IsTokenOf dir number extra a → IsTokenOf more number extra b → contains_sid a.groups sid ≡ true → contains_sid b.groups sid ≡ true
+pub groups_within : (dir more : Directory) (number : ℕ) (extra : List SidValue) (a b : Token) (sid : SidValue)
+    → HasTheMembersOf dir more
+    → IsTokenOf dir number extra a → IsTokenOf more number extra b → contains_sid a.groups sid ≡ true
+    → contains_sid b.groups sid ≡ true
 groups_within dir more number extra a b sid has one other is =
     let parts = and_parts (contains_sid one.set sid) (not (same_sid sid a.user)) (sym (one.groups sid) ∙ is) in
-    let not_user : not (same_sid sid b.user) ≡ true = subst (λ (u : SidValue). not (same_sid sid u) ≡ true) (same_user dir more number extra extra a b has one other) parts.1 in
+    let not_user : not (same_sid sid b.user) ≡ true = subst (λ (u : SidValue). not (same_sid sid u) ≡ true)
+    (same_user dir more number extra extra a b has one other) parts.1 in
     other.groups sid
     ∙ and_from (contains_sid other.set sid) (not (same_sid sid b.user))
     (token_set_within dir more number extra extra a b has (λ s. refl) one other sid parts.0) not_user
@@ -95,7 +109,8 @@ same_groups dir other number extra others a b one two user set =
     ∙ ap (λ (u : SidValue). contains_sid two.set sid && not (same_sid sid u)) user ∙ sym (two.groups sid))
 
 -- tokens are the same where their parts are
-by_parts : (a b : Token) → a.version ≡ b.version → a.privileges ≡ b.privileges → a.user ≡ b.user → a.owner ≡ b.owner → a.primary ≡ b.primary
+by_parts : (a b : Token) → a.version ≡ b.version → a.privileges ≡ b.privileges → a.user ≡ b.user → a.owner ≡ b.owner
+    → a.primary ≡ b.primary
     → a.groups ≡ b.groups → a.deny_only ≡ b.deny_only → a.restricting ≡ b.restricting → a ≡ b
 by_parts a b version privileges user owner primary groups deny_only restricting = λ i. record {
   version = version i;
@@ -113,7 +128,8 @@ pub same_token : (dir other : Directory) (number : ℕ) (extra others : List Sid
     → IsTokenOf dir number extra a → IsTokenOf other number others b → a ≡ b
 same_token dir other number extra others a b has back same one two =
     by_parts a b (one.version ∙ sym two.version)
-    (one.privileges ∙ ap (λ (s : Bool). if s then 3 else 0) (same_sets dir other number extra others a b has back same one two administrators) ∙ sym two.privileges)
+    (one.privileges ∙ ap (λ (s : Bool). if s then 3 else 0)
+    (same_sets dir other number extra others a b has back same one two administrators) ∙ sym two.privileges)
     (same_user dir other number extra others a b has one two)
     (one.owner ∙ same_user dir other number extra others a b has one two ∙ sym two.owner)
     (one.primary ∙ sym (has.primary number) ∙ sym two.primary)

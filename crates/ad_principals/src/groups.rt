@@ -14,7 +14,8 @@ use std::cmp::Ordering;
 
 /// The identifiers but for the user's.
 pub(crate) fn others(alloc: Global, sids: &[Sid], user: &Sid) -> Result<Vec<Sid>, AllocError>
-    ensures are { IfOk result (λ others. others.items ≡ filter (λ sid. not (same_sid sid user.now)) sids.now) }
+    ensures are { IfOk result (λ others. others.items ≡ filter (λ sid. not (same_sid sid user.now))
+        sids.now) }
     ensures ranges { IfOk result (λ others. AllByRecursion IsSid others.items) }
 {
     let mut others = Vec::new(alloc);

@@ -15,7 +15,8 @@ pub fn a_principal_has_one_token()
 
 /// Where a directory has more members and is otherwise the same, a principal has each group that it had.
 pub fn more_members_give_no_fewer_groups()
-    ensures { (dir more : Directory) (number : ℕ) (extra : List SidValue) (a b : Token) (sid : SidValue)
+    ensures { (dir more : Directory) (number : ℕ) (extra : List SidValue) (a b : Token)
+        (sid : SidValue)
         → HasTheMembersOf dir more → IsTokenOf dir number extra a → IsTokenOf more number extra b
         → contains_sid a.groups sid ≡ true → contains_sid b.groups sid ≡ true }
 {}

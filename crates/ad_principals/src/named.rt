@@ -77,7 +77,8 @@ fn only_one(numbers: &[u32]) -> Result<u32, NameFault>
 }
 
 fn account_with(alloc: Global, dir: &Dir, text: &Value) -> Result<u32, NameFault>
-    ensures { GivesUnless is_memory (λ number. number) result (account_named dir.now (Ok text.now)) }
+    ensures { GivesUnless is_memory (λ number. number) result
+        (account_named dir.now (Ok text.now)) }
 {
     let by_account = numbers_with(alloc, dir, b"sAMAccountName", text)?;
     if by_account.as_slice().is_empty() {

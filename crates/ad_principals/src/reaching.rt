@@ -15,7 +15,8 @@ use std::alloc::{AllocError, Global};
 
 // Everyone, Authenticated Users, the primary group, and the identifiers that were given.
 fn first_groups(alloc: Global, primary: &Sid, extra: &[Sid]) -> Result<IndexSet<Sid>, AllocError>
-    ensures { IfOk result (λ set. Takes (λ sid. contains_sid (first_with primary.now extra.now) sid ≡ true)
+    ensures { IfOk result (λ set. Takes (λ sid. contains_sid (first_with primary.now extra.now) sid
+        ≡ true)
         [] set.keys) }
 {
     let mut set = IndexSet::with_capacity(alloc, 12)?;

@@ -23,7 +23,8 @@ pub(crate) fn take(taken: &mut IndexSet<Sid>, sid: Sid) -> Result<(), AllocError
 
 /// Takes all of these.
 pub(crate) fn take_all(taken: &mut IndexSet<Sid>, sids: &[Sid]) -> Result<(), AllocError>
-    ensures { OnOk result (Takes (λ s. contains_sid sids.now s ≡ true) taken.old.keys taken.new.keys) }
+    ensures { OnOk result (Takes (λ s. contains_sid sids.now s ≡ true) taken.old.keys
+        taken.new.keys) }
 {
     for sid in sids {
         take(taken, *sid)?;
@@ -33,7 +34,8 @@ pub(crate) fn take_all(taken: &mut IndexSet<Sid>, sids: &[Sid]) -> Result<(), Al
 
 // Takes the identifier of an object, if it has one.
 fn take_group(taken: &mut IndexSet<Sid>, dir: &Dir, group: u32) -> Result<(), AllocError>
-    ensures { OnOk result (Takes (λ s. self_sid dir.now group ≡ Some s) taken.old.keys taken.new.keys) }
+    ensures { OnOk result (Takes (λ s. self_sid dir.now group ≡ Some s) taken.old.keys
+        taken.new.keys) }
 {
     match dir.self_sid(group) {
         Some(sid) => take(taken, *sid),

@@ -11,7 +11,8 @@ use ad_value::Value;
 
 // The first value of an attribute of an object that may be live.
 fn first_at(dir: &Dir, number: u32, attr: AttrId) -> Option<&Value>
-    ensures { option_copied result ≡ first_of_attr (Some attr.0) (object_at dir.now.objects number) }
+    ensures { option_copied result ≡ first_of_attr (Some attr.0)
+        (object_at dir.now.objects number) }
 {
     match dir.object(number) {
         Some(object) => first_of(object.values.as_slice(), attr),
@@ -23,7 +24,8 @@ fn first_at(dir: &Dir, number: u32, attr: AttrId) -> Option<&Value>
 /// It takes no memory.
 #[tactic(auto, unfolding(ad_dir_model::specs::Identity::first_of_attr))]
 pub(crate) fn first_value(dir: &Dir, number: u32, attr: Option<AttrId>) -> Option<&Value>
-    ensures { option_copied result ≡ first_of_attr (option_map (λ id. id.0) attr) (object_at dir.now.objects number) }
+    ensures { option_copied result ≡ first_of_attr (option_map (λ id. id.0) attr)
+        (object_at dir.now.objects number) }
 {
     match attr {
         Some(attr) => first_at(dir, number, attr),

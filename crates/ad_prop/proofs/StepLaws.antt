@@ -1,5 +1,6 @@
 -- The edits of a step may be applied, and make the step.
-use Rattle.std.proofs.Common.{◌≡◌, ◌≢◌, ℕ, ◌<◌, Bool, true, false, not, List, [], ◌∷◌, ◌++◌, length, drop, map, None, Some, refl, sym, subst, ap, ◌∙◌, arith}
+use Rattle.std.proofs.Common.{◌≡◌, ◌≢◌, ℕ, ◌<◌, Bool, true, false, not, List, [], ◌∷◌, ◌++◌, length, drop, map, None}
+use Rattle.std.proofs.Common.{Some, refl, sym, subst, ap, ◌∙◌, arith}
 use Rattle.std.specs.Prelude.{slice_get, if◌then◌else◌}
 use Rattle.std.specs.List.{AllByRecursion}
 use Rattle.std.specs.Option.{ForSome}
@@ -22,7 +23,8 @@ use Rattle.ad_dir.proofs.AllMay.{MayAll, may_all}
 use Rattle.ad_dir.proofs.Replacing.{IsAlike, alike_itself, may_put}
 use Rattle.ad_dir_model.specs.Object.{Object}
 use Rattle.ad_dir_model.specs.Objects.{object_at, sd_at, is_live, next_child, put}
-use Rattle.ad_dir_model.specs.Directory.{Directory, Edit, put_object, put_queue, with_objects, with_pending, edited, all_edited}
+use Rattle.ad_dir_model.specs.Directory.{Directory, Edit, put_object, put_queue, with_objects, with_pending, edited}
+use Rattle.ad_dir_model.specs.Directory.{all_edited}
 use Rattle.ad_dir_model.specs.Inheritance.{whole_at, settled, marked_if_changed, stored, written}
 use Rattle.ad_dir_model.specs.SameSd.{same_sd}
 use Rattle.ad_dir_model.specs.Soundness.{IsSound, IsSoundObject}
@@ -58,38 +60,52 @@ pub next_of : (dir : Directory) (queue : List Pending) (head : Pending) (child :
     → next_child dir.objects head.parent head.cursor ≡ Some child → IsNext (with_pending queue dir) head child
 next_of dir queue head child sound is = next_is (with_pending queue dir) head child sound.rise is
 
-pub turn : (dir : Directory) (queue : List Pending) (head : Pending) (child : ℕ) → IsSound (with_pending queue dir) → slice_get queue 0 ≡ Some head
+pub turn : (dir : Directory) (queue : List Pending) (head : Pending) (child : ℕ) → IsSound (with_pending queue dir)
+    → slice_get queue 0 ≡ Some head
     → next_child dir.objects head.parent head.cursor ≡ Some child → IsTurn dir child
 turn dir queue head child sound at is =
     let next : IsNext (with_pending queue dir) head child = next_of dir queue head child sound is in
-    let head_live : is_live dir.objects head.parent ≡ true = (subst (AreLive dir.objects) (head_is queue head at) sound.live).0 in
+    let head_live : is_live dir.objects head.parent ≡ true
+    = (subst (AreLive dir.objects) (head_is queue head at) sound.live).0 in
     record {
       live = next.live;
       below = child_below (with_pending queue dir) head child sound head_live next;
       parent_live = ap (is_live dir.objects) next.parent ∙ head_live;
-      class = (sound.each child (object_at dir.objects child) (of-live dir.objects child next.live)).content.class_of_schema;
+      class = (sound.each child (object_at dir.objects child)
+          (of-live dir.objects child next.live)).content.class_of_schema;
     }
 
 -- the cursor of the head is below it
-pub ahead : (dir : Directory) (queue : List Pending) (head : Pending) (child : ℕ) → IsSound (with_pending queue dir) → slice_get queue 0 ≡ Some head
-    → next_child dir.objects head.parent head.cursor ≡ Some child → ForSome (slice_get queue 0) (λ (h : Pending). h.cursor < child)
+pub ahead : (dir : Directory) (queue : List Pending) (head : Pending) (child : ℕ) → IsSound (with_pending queue dir)
+    → slice_get queue 0 ≡ Some head
+    → next_child dir.objects head.parent head.cursor ≡ Some child → ForSome (slice_get queue 0)
+    (λ (h : Pending). h.cursor < child)
 ahead dir queue head child sound at is = λ h e.
-    subst (λ (x : Pending). x.cursor < child) (same_Some head h (sym at ∙ e)) (next_of dir queue head child sound is).above
+    subst (λ (x : Pending). x.cursor < child) (same_Some head h (sym at ∙ e))
+    (next_of dir queue head child sound is).above
 
 abbrev new_child : Directory → ℕ → Object
 new_child dir child = settled dir (object_at dir.objects child)
 
-child_may_put : (dir : Directory) (queue : List Pending) (child : ℕ) → IsSound (with_pending queue dir) → is_live dir.objects child ≡ true
+child_may_put : (dir : Directory) (queue : List Pending) (child : ℕ) → IsSound (with_pending queue dir)
+    → is_live dir.objects child ≡ true
     → MayPut dir (new_child dir child)
 child_may_put dir queue child sound live =
-    may_put (with_pending queue dir) dir.objects dir.pending (new_child dir child) sound (alike_itself dir.schema dir.objects) live_here
+    may_put (with_pending queue dir) dir.objects dir.pending (new_child dir child) sound
+    (alike_itself dir.schema dir.objects) live_here
     (subst (λ (n : ℕ). IsAlike dir.schema (new_child dir child) (object_at dir.objects n)) (sym number)
     (record {
       parent = refl;
       name = refl;
       sid = sid_with_sd dir.schema (object_at dir.objects child) (whole_at dir (object_at dir.objects child));
     }))
-    (record { class_of_schema = is.content.class_of_schema; name = is.content.name; attrs_rise = is.content.attrs_rise; each = is.content.each })
+    (record {
+      class_of_schema = is.content.class_of_schema;
+      name = is.content.name;
+      attrs_rise
+          = is.content.attrs_rise;
+      each = is.content.each;
+    })
     is.links
   where
     number : (object_at dir.objects child).number ≡ child
@@ -115,9 +131,11 @@ child_written dir queue others child live =
     ap (λ (n : ℕ). with_pending (marked_if_changed (sd_at dir.objects n) (new_child dir child) (advanced child queue))
     (with_objects (put (new_child dir child) dir.objects) dir)) (at_number dir.objects child live)
 
-child_is_step : (dir : Directory) (queue : List Pending) (head : Pending) (child : ℕ) → is_live dir.objects child ≡ true → slice_get queue 0 ≡ Some head
+child_is_step : (dir : Directory) (queue : List Pending) (head : Pending) (child : ℕ) → is_live dir.objects child
+    ≡ true → slice_get queue 0 ≡ Some head
     → next_child dir.objects head.parent head.cursor ≡ Some child
-    → step (with_pending queue dir) ≡ with_pending (child_marks dir queue child) (with_objects (put (new_child dir child) dir.objects) dir)
+    → step (with_pending queue dir) ≡ with_pending (child_marks dir queue child)
+    (with_objects (put (new_child dir child) dir.objects) dir)
 unfolding step
 child_is_step dir queue head child live at is =
     ap (stepped (with_pending queue dir)) (head_is queue head at)
@@ -128,7 +146,8 @@ puts_one : (dir : Directory) (o : Object) → all_edited (put_object o ∷ []) d
 unfolding all_edited edited
 puts_one dir o = refl
 
-pub child_step : (dir : Directory) (old new : List Pending) (head : Pending) (child : ℕ) (edits : List EditIn) → IsSound (with_pending old dir)
+pub child_step : (dir : Directory) (old new : List Pending) (head : Pending) (child : ℕ) (edits : List EditIn)
+    → IsSound (with_pending old dir)
     → slice_get old 0 ≡ Some head → next_child dir.objects head.parent head.cursor ≡ Some child
     → AreEdits (put_object (settled dir (object_at dir.objects child)) ∷ []) edits
     → new ≡ marked_if_changed (sd_at dir.objects child) (settled dir (object_at dir.objects child)) (advanced child old)
@@ -145,8 +164,10 @@ child_step dir old new head child edits sound at is are marks = record {
     live : is_live dir.objects child ≡ true
     live = (next_of dir old head child sound is).live
 
-pub head_step : (dir : Directory) (old new : List Pending) (head : Pending) (edits : List EditIn) → slice_get old 0 ≡ Some head
-    → next_child dir.objects head.parent head.cursor ≡ None → edits ≡ [] → new ≡ drop 1 old → MakeStepBeside dir old new edits
+pub head_step : (dir : Directory) (old new : List Pending) (head : Pending) (edits : List EditIn) → slice_get old 0
+    ≡ Some head
+    → next_child dir.objects head.parent head.cursor ≡ None → edits ≡ [] → new ≡ drop 1 old
+    → MakeStepBeside dir old new edits
 unfolding step all_edited
 head_step dir old new head edits at is none dropped = record {
   pending = not_empty old head at;
@@ -159,7 +180,8 @@ head_step dir old new head edits at is none dropped = record {
 
 -- ---- a step with its list
 
-may_push : (dir : Directory) (edits : List EditIn) (last : EditIn) → MayApplyAll dir edits → MayApply (all_edited (map edit_seen edits) dir) last
+may_push : (dir : Directory) (edits : List EditIn) (last : EditIn) → MayApplyAll dir edits
+    → MayApply (all_edited (map edit_seen edits) dir) last
     → MayApplyAll dir (edits ++ last ∷ [])
 unfolding all_edited
 may_push dir [] last may one = (one, tt)
@@ -172,7 +194,8 @@ queue_put queue dir = refl
 may_pend : (dir : Directory) (queue : List Pending) → IsSound (with_pending queue dir) → MayPend dir queue
 may_pend dir queue sound = record { live = sound.live; distinct = sound.distinct }
 
-pub step_whole : (dir : Directory) (queue new : List Pending) (edits all : List EditIn) → IsSound dir → queue ≡ dir.pending
+pub step_whole : (dir : Directory) (queue new : List Pending) (edits all : List EditIn) → IsSound dir → queue
+    ≡ dir.pending
     → MakeStepBeside dir queue new edits → AreAllEdits edits new all → MakeStep dir all
 step_whole dir queue new edits all sound same made are = record {
   pending = λ none. made.pending (same ∙ none);
@@ -198,7 +221,8 @@ step_whole dir queue new edits all sound same made are = record {
 -- ---- what is written of the child
 
 -- the list is marked as the rule says
-pub marked_as : (before : Sd) (o : Object) (n : ℕ) (b : Bool) (ps : List Pending) → o.number ≡ n → b ≡ not (same_sd before o.sd)
+pub marked_as : (before : Sd) (o : Object) (n : ℕ) (b : Bool) (ps : List Pending) → o.number ≡ n → b
+    ≡ not (same_sd before o.sd)
     → (if b then marked n ps else ps) ≡ marked_if_changed before o ps
 unfolding marked_if_changed
 marked_as before o n b ps number is =
@@ -216,11 +240,13 @@ pub child_made : (dir : Directory) (child : ℕ) (items : List EditIn) (o : Obje
     → AreEdits (put_object (settled dir (object_at dir.objects child)) ∷ []) items
 child_made dir child items o bytes parts seen spelled = record {
   are = ap (map edit_seen) parts ∙ ap (λ (x : Object). put_object x ∷ []) object;
-  normal = subst (AllByRecursion HasNormal) (sym parts) (subst (λ (sd : Sd). SpellsNormal sd bytes.items) (sym in_bytes) spelled, tt);
+  normal = subst (AllByRecursion HasNormal) (sym parts)
+      (subst (λ (sd : Sd). SpellsNormal sd bytes.items) (sym in_bytes) spelled, tt);
 }
   where
     in_bytes : sd_in bytes.items ≡ whole_at dir (object_at dir.objects child)
     in_bytes = spelled_in bytes.items (whole_at dir (object_at dir.objects child)) spelled
 
     object : object_seen o (sd_in bytes.items) ≡ new_child dir child
-    object = ap (object_seen o) in_bytes ∙ ap (λ (x : Object). record x { sd = whole_at dir (object_at dir.objects child) }) seen
+    object = ap (object_seen o) in_bytes ∙ ap
+        (λ (x : Object). record x { sd = whole_at dir (object_at dir.objects child) }) seen

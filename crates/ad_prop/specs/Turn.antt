@@ -24,4 +24,5 @@ pub record AreEdits (seen : List Edit) (edits : List EditIn) : Type 0 where
 
 -- the edits with one more, that of the list
 abbrev pub AreAllEdits : List EditIn → List Pending → List EditIn → Type 0
-AreAllEdits edits queue all = (last : EditIn) × (all ≡ edits ++ last ∷ []) × (edit_seen last ≡ put_queue queue) × HasNormal last
+AreAllEdits edits queue all = (last : EditIn) × (all ≡ edits ++ last ∷ []) × (edit_seen last ≡ put_queue queue)
+    × HasNormal last

@@ -15,7 +15,8 @@ use std::alloc::{AllocError, Global};
 /// The normal bytes of the descriptor that the child whose turn it is should have.
 pub(crate) fn whole_of(alloc: Global, dir: &Dir, child: u32) -> Result<Vec<u8>, AllocError>
     requires { IsTurn dir.now child }
-    ensures { IfOk result (λ bytes. SpellsNormal (whole_at dir.now (object_at dir.now.objects child)) bytes.items) }
+    ensures { IfOk result (λ bytes.
+        SpellsNormal (whole_at dir.now (object_at dir.now.objects child)) bytes.items) }
 {
     let object = live_object(dir, child);
     let class = guid_of(dir.schema(), object.class);

@@ -26,7 +26,9 @@ fn child_edits(
     requires child { IsTurn dir.now child }
     requires some { 0 < length queue.old }
     requires ahead { ForSome (slice_get queue.old 0) (λ head. head.cursor < child) }
-    ensures edits { IfOk result (λ edits. AreEdits (put_object (settled dir.now (object_at dir.now.objects child)) ∷ []) edits.items) }
+    ensures edits { IfOk result (λ edits.
+        AreEdits (put_object (settled dir.now (object_at dir.now.objects child)) ∷ [])
+        edits.items) }
     ensures queue { OnOk result (queue.new ≡ marked_if_changed (sd_at dir.now.objects child)
         (settled dir.now (object_at dir.now.objects child)) (advanced child queue.old)) }
 {
@@ -75,7 +77,8 @@ pub fn step_beside(
     queue: &mut Queue,
 ) -> Result<Option<Vec<Edit>>, AllocError>
     requires { IsSound (with_pending queue.old dir.now) }
-    ensures made { IfOk result (λ made. MatchOption made (queue.old ≡ []) (λ edits. MakeStepBeside dir.now queue.old queue.new edits.items)) }
+    ensures made { IfOk result (λ made. MatchOption made (queue.old ≡ [])
+        (λ edits. MakeStepBeside dir.now queue.old queue.new edits.items)) }
     // Where nothing is pending no memory is taken.
     ensures idle { queue.old ≡ [] → result ≡ Ok None }
     ensures empty { queue.old ≡ [] → queue.new ≡ [] }
@@ -106,7 +109,8 @@ fn with_queue(mut edits: Vec<Edit>, queue: Queue) -> Result<Vec<Edit>, AllocErro
 /// Out of memory. Where nothing is pending none is taken.
 pub fn step(alloc: Global, dir: &Dir) -> Result<Option<Vec<Edit>>, AllocError>
     requires { IsSound dir.now }
-    ensures made { IfOk result (λ made. MatchOption made (dir.now.pending ≡ []) (λ edits. MakeStep dir.now edits.items)) }
+    ensures made { IfOk result (λ made. MatchOption made (dir.now.pending ≡ [])
+        (λ edits. MakeStep dir.now edits.items)) }
     // Where nothing is pending no memory is taken.
     ensures idle { dir.now.pending ≡ [] → result ≡ Ok None }
 {

@@ -1,8 +1,10 @@
 -- Numbers in a list, and sets to which more numbers are taken.
-use Rattle.std.proofs.Common.{◌≡◌, ℕ, zero, suc, ◌<◌, Bool, true, false, List, [], ◌∷◌, ◌++◌, length, get_or, inl, inr, refl, sym, ap, ◌∙◌, arith}
+use Rattle.std.proofs.Common.{◌≡◌, ℕ, zero, suc, ◌<◌, Bool, true, false, List, [], ◌∷◌, ◌++◌, length, get_or, inl}
+use Rattle.std.proofs.Common.{inr, refl, sym, ap, ◌∙◌, arith}
 use Rattle.std.specs.Prelude.{nat_eq, ◌||◌}
 use Rattle.std.specs.List.{list_any}
-use Rattle.std.proofs.lemmas.Bool.{eqb-true, eqb-false, ne_eqb, eq-eqb, cases_Bool, false≢true, both_ways, or_cases, or_left, or_right}
+use Rattle.std.proofs.lemmas.Bool.{eqb-true, eqb-false, ne_eqb, eq-eqb, cases_Bool, false≢true, both_ways, or_cases}
+use Rattle.std.proofs.lemmas.Bool.{or_left, or_right}
 use Rattle.std.proofs.lemmas.List.{append_assoc, append-nil}
 use Rattle.std.proofs.lemmas.List.Folds.{list_any-append}
 use Rattle.indexmap.specs.IndexSet.{insert_key}
@@ -27,7 +29,8 @@ or_false false = refl
 
 pub member_has : (set : List ℕ) (n : ℕ) → list_any (nat_eq n) set ≡ has set n
 member_has [] n = refl
-member_has (x ∷ xs) n = ap (λ (b : Bool). b || list_any (nat_eq n) xs) (eq_either_way n x) ∙ ap (λ (b : Bool). nat_eq x n || b) (member_has xs n)
+member_has (x ∷ xs) n = ap (λ (b : Bool). b || list_any (nat_eq n) xs) (eq_either_way n x)
+    ∙ ap (λ (b : Bool). nat_eq x n || b) (member_has xs n)
 
 pub has_at : (set : List ℕ) (i : ℕ) → i < length set → has set (get_or set i 0) ≡ true
 has_at [] i less = absurd (omega (arith, less))
@@ -60,9 +63,11 @@ takes_none test set none = record {
 
 -- what was in the set stays
 pub takes_keep : (test : ℕ → Bool) (old new : List ℕ) (n : ℕ) → Takes test old new → has old n ≡ true → has new n ≡ true
-takes_keep test old new n t is = ap (λ (set : List ℕ). has set n) t.is ∙ has_append old t.others n ∙ or_left (has old n) (has t.others n) is
+takes_keep test old new n t is = ap (λ (set : List ℕ). has set n) t.is ∙ has_append old t.others n
+    ∙ or_left (has old n) (has t.others n) is
 
-pub takes_more : (first second : ℕ → Bool) (old mid new : List ℕ) → Takes first old mid → Takes second mid new → Takes (λ n. first n || second n) old new
+pub takes_more : (first second : ℕ → Bool) (old mid new : List ℕ) → Takes first old mid → Takes second mid new
+    → Takes (λ n. first n || second n) old new
 takes_more first second old mid new t u = record {
   others = t.others ++ u.others;
   is = u.is ∙ ap (λ (set : List ℕ). set ++ u.others) t.is ∙ append_assoc old t.others u.others;
@@ -76,7 +81,8 @@ takes_more first second old mid new t u = record {
   ];
 }
 
-pub takes_same : (first second : ℕ → Bool) (old new : List ℕ) → ((n : ℕ) → first n ≡ second n) → Takes first old new → Takes second old new
+pub takes_same : (first second : ℕ → Bool) (old new : List ℕ) → ((n : ℕ) → first n ≡ second n) → Takes first old new
+    → Takes second old new
 takes_same first second old new same t = record {
   others = t.others;
   is = t.is;
@@ -102,7 +108,8 @@ takes_key old new number put =
           record {
             others = number ∷ [];
             is = longer;
-            each = λ n e. elim (or_cases (nat_eq number n) false e) [ inl here ↦ here | inr never ↦ absurd (false≢true never) ];
+            each = λ n e. elim (or_cases (nat_eq number n) false e)
+                [ inl here ↦ here | inr never ↦ absurd (false≢true never) ];
             all = λ n e. ap (λ (set : List ℕ). has set n) longer ∙ has_append old (number ∷ []) n
                 ∙ or_right (has old n) (has (number ∷ []) n) (or_left (nat_eq number n) false e);
           }

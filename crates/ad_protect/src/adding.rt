@@ -42,7 +42,8 @@ fn place_of(values: &[Held], attr: AttrId) -> usize
 
 // Whether the attribute stands at the place.
 fn stands_at(values: &[Held], place: usize, attr: AttrId) -> bool
-    ensures { result ≡ option_map_or (λ held. held.0.0 == attr.0) (slice_get values.now place) false }
+    ensures { result ≡ option_map_or (λ held. held.0.0 == attr.0) (slice_get values.now place)
+        false }
 {
     match values.get(place) {
         Some(held) => held.0.0 == attr.0,
@@ -53,7 +54,8 @@ fn stands_at(values: &[Held], place: usize, attr: AttrId) -> bool
 // Takes the attribute at the place out, where it is to go.
 fn remove_if(gone: bool, values: &mut Vec<Held>, place: usize)
     requires { IsTrue gone → place < length values.old.items }
-    ensures { values.new.items ≡ (if gone then remove values.old.items place else values.old.items) }
+    ensures { values.new.items ≡ (if gone then remove values.old.items place
+        else values.old.items) }
 {
     if gone {
         let _held = values.remove(place);

@@ -46,7 +46,8 @@ fn frozen_list(alloc: Global, entries: Entries<'_>) -> Result<AceList, AllocErro
 #[tactic(auto, unfolding(ad_dir_model::specs::Protection::frozen))]
 pub(crate) fn frozen(alloc: Global, dir: &Dir, number: u32) -> Result<Vec<u8>, AllocError>
     requires { is_live dir.now.objects number ≡ true }
-    ensures { IfOk result (λ bytes. SpellsNormal (frozen (sd_at dir.now.objects number)) bytes.items) }
+    ensures { IfOk result (λ bytes. SpellsNormal (frozen (sd_at dir.now.objects number))
+        bytes.items) }
 {
     let own = live_sd(dir, number);
     let sd = Sd {

@@ -62,7 +62,8 @@ pub(crate) fn admin_count(alloc: Global, schema: &Schema) -> Result<Option<Mark>
 }
 
 fn is_same(value: &Value, other: &Value) -> bool
-    ensures { result ≡ (bytes_eq other.now.shown value.now.shown && same_key other.now.key value.now.key) }
+    ensures { result ≡ (bytes_eq other.now.shown value.now.shown && same_key other.now.key
+        value.now.key) }
 {
     other.shown() == value.shown() && equal(other, value)
 }

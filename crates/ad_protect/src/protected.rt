@@ -23,7 +23,8 @@ fn those_protected(
     taken: &IndexSet<u32>,
     numbers: &[u32],
 ) -> Result<Vec<u32>, AllocError>
-    ensures { IfOk result (λ those. those.items ≡ filter (is_protected dir.now taken.now.keys) numbers.now) }
+    ensures { IfOk result (λ those. those.items ≡ filter (is_protected dir.now taken.now.keys)
+        numbers.now) }
 {
     let mut those = Vec::new(alloc);
     for number in numbers {

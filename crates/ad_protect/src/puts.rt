@@ -27,7 +27,8 @@ fn with_mark_if(
     mark: &Option<Mark>,
 ) -> Result<Object, AllocError>
     ensures { (sd : SdValue) → IfOk result (λ put. object_seen put sd
-        ≡ (if has then object_seen object sd else with_mark (option_map mark_seen mark.now) (object_seen object sd))) }
+        ≡ (if has then object_seen object sd else with_mark (option_map mark_seen mark.now)
+        (object_seen object sd))) }
 {
     if has {
         return Ok(object);
@@ -42,7 +43,8 @@ fn with_mark_if(
 fn put_of(alloc: Global, dir: &Dir, given: &Given, number: u32) -> Result<Edit, AllocError>
     requires live { is_live dir.now.objects number ≡ true }
     requires given { IsGiven dir.now given.now }
-    ensures seen { IfOk result (λ edit. edit_seen edit ≡ put_object (protecting dir.now (sd_given given.now) number)) }
+    ensures seen { IfOk result (λ edit. edit_seen edit
+        ≡ put_object (protecting dir.now (sd_given given.now) number)) }
     ensures normal { IfOk result HasNormal }
 {
     let has = is_marked(dir, &given.mark, number);
@@ -61,7 +63,8 @@ pub(crate) fn puts_of(
 ) -> Result<Vec<Edit>, AllocError>
     requires live { AllByRecursion (λ number. is_live dir.now.objects number ≡ true) numbers.now }
     requires given { IsGiven dir.now given.now }
-    ensures { IfOk result (λ edits. AreEdits (puts_of dir.now (sd_given given.now) numbers.now) edits.items) }
+    ensures { IfOk result (λ edits. AreEdits (puts_of dir.now (sd_given given.now) numbers.now)
+        edits.items) }
 {
     let mut edits = Vec::new(alloc);
     for number in numbers {

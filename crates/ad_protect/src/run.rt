@@ -27,7 +27,8 @@ fn edits_of(
 ) -> Result<(Vec<Edit>, usize), AllocError>
     requires live { AllByRecursion (λ number. is_live dir.now.objects number ≡ true) numbers.now }
     requires given { IsGiven dir.now given.now }
-    ensures { IfOk result (λ made. AreRunEdits dir.now (sd_given given.now) numbers.now made.0.items made.1) }
+    ensures { IfOk result (λ made. AreRunEdits dir.now (sd_given given.now) numbers.now made.0.items
+        made.1) }
 {
     let mut edits = puts_of(alloc, dir, given, numbers)?;
     let changed = edits.as_slice().len();

@@ -37,7 +37,8 @@ fn last_below(above: &Sid, sid: &Sid) -> Option<u32>
 
 // What stands after the domain's identifier in an object's, where it is one of the domain's.
 pub(crate) fn domain_number(dir: &Dir, number: u32) -> Option<u32>
-    ensures { (rid : ℕ) → is_of_domain dir.now (self_sid dir.now number) rid ≡ is_number result rid }
+    ensures { (rid : ℕ) → is_of_domain dir.now (self_sid dir.now number) rid
+        ≡ is_number result rid }
 {
     let domain = dir.self_sid(ROOT)?;
     let sid = dir.self_sid(number)?;

@@ -22,7 +22,8 @@ use std::alloc::{AllocError, Global};
 // The objects at which protection begins, where these groups are taken out.
 fn begun(alloc: Global, dir: &Dir, out: u8, numbers: &[u32]) -> Result<IndexSet<u32>, AllocError>
     requires { out ≡ taken_out dir.now }
-    ensures { IfOk result (λ set. Takes (λ n. has numbers.now n && begins_protection dir.now (self_sid dir.now n))
+    ensures { IfOk result (λ set. Takes
+        (λ n. has numbers.now n && begins_protection dir.now (self_sid dir.now n))
         [] set.keys) }
 {
     let mut taken = IndexSet::new(alloc);

@@ -44,7 +44,8 @@ pub(crate) fn take_all(taken: &mut IndexSet<u32>, numbers: &[u32]) -> Result<(),
 
 // Takes the object that a value names.
 fn take_linked(taken: &mut IndexSet<u32>, value: &Stored) -> Result<(), AllocError>
-    ensures { OnOk result (Takes (λ n. is_link_to n (stored_seen value.now)) taken.old.keys taken.new.keys) }
+    ensures { OnOk result (Takes (λ n. is_link_to n (stored_seen value.now)) taken.old.keys
+        taken.new.keys) }
 {
     match value {
         Stored::Link(number) => take(taken, *number),
@@ -54,7 +55,8 @@ fn take_linked(taken: &mut IndexSet<u32>, value: &Stored) -> Result<(), AllocErr
 
 /// Takes the objects that the values name.
 pub(crate) fn take_links(taken: &mut IndexSet<u32>, values: &[Stored]) -> Result<(), AllocError>
-    ensures { OnOk result (Takes (λ n. names n (map stored_seen values.now)) taken.old.keys taken.new.keys) }
+    ensures { OnOk result (Takes (λ n. names n (map stored_seen values.now)) taken.old.keys
+        taken.new.keys) }
 {
     for value in values {
         take_linked(taken, value)?;

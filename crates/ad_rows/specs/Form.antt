@@ -54,10 +54,13 @@ pub record IsObjectBody (Link : ℕ → Type 0) (body : List ℕ) : Type 0 where
 
 -- A row of this kind and number may have this body.
 pub data IsForm (table : Table) (kind number : ℕ) (body : List ℕ) : Type 0 where
-  object_form : kind ≡ 1 → 0 < number → number < 2 ^ 32 - 1 → IsObjectBody (CountsAsLink table) body → IsForm table kind number body
-  queue_form : kind ≡ 2 → number ≡ 0 → (pending : List Pending) → SpellsQueue pending body → IsForm table kind number body
+  object_form : kind ≡ 1 → 0 < number → number < 2 ^ 32 - 1 → IsObjectBody (CountsAsLink table) body
+      → IsForm table kind number body
+  queue_form : kind ≡ 2 → number ≡ 0 → (pending : List Pending) → SpellsQueue pending body → IsForm table kind number
+      body
   meta_form : kind ≡ 3 → number ≡ 0 → (meta : Meta) → SpellsMeta meta body → IsForm table kind number body
-  record_form : kind ≡ 4 → number < 2 ^ 32 - 1 → (r : SchemaRecord) → SpellsRecord r body → IsForm table kind number body
+  record_form : kind ≡ 4 → number < 2 ^ 32 - 1 → (r : SchemaRecord) → SpellsRecord r body → IsForm table kind number
+      body
 
 -- the rows that always stand: of the pending list and of the counters
 abbrev pub MustStand : ℕ → ℕ → Type 0
@@ -74,7 +77,8 @@ AreRight table = (kind number : ℕ) → IsRight table kind number
 abbrev pub IsSooner : ℕ → ℕ → ℕ → ℕ → Type 0
 IsSooner kind number next_kind next_number = (kind < next_kind) ⊎ ((kind ≡ next_kind) × (number < next_number))
 
--- What stands there isn't of its form, or nothing stands where something must; and everything before is as it must be.
+-- What stands there isn't of its form, or nothing stands where something must; and everything before is as it must
+-- be.
 pub record IsLeastBad (table : Table) (kind number : ℕ) : Type 0 where
   pub bad : IsRight table kind number → ⊥
   pub before : (k n : ℕ) → IsSooner k n kind number → IsRight table k n
@@ -92,7 +96,8 @@ value_by false syntax bytes = value_kept bytes (normal_or_fault syntax bytes)
 
 -- The value of these bytes: by the attribute's syntax, where they are a value of it.
 abbrev pub value_of : List SchemaRecord → ℕ → List ℕ → Value
-value_of schema attr bytes = if nat_lt attr (length (attrs_of schema)) then value_by (is_named schema (codes "unicodePwd") attr) (syntax_at schema attr) bytes
+value_of schema attr bytes = if nat_lt attr (length (attrs_of schema))
+    then value_by (is_named schema (codes "unicodePwd") attr) (syntax_at schema attr) bytes
     else as_shown bytes
 
 -- a link exactly where the attribute is one, and else the value of the bytes

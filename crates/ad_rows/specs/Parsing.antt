@@ -55,7 +55,8 @@ stored_of schema attr bytes = if attr_is_link schema attr
 -- where the attribute isn't of the schema, or there is no schema, no value is a link
 abbrev pub any_stored_of : Option (List SchemaRecord) → ℕ → List ℕ → Result Stored BodyFault
 any_stored_of None attr bytes = Ok (plain (as_shown bytes))
-any_stored_of (Some schema) attr bytes = if nat_lt attr (length (attrs_of schema)) then stored_of schema attr bytes else Ok (plain (as_shown bytes))
+any_stored_of (Some schema) attr bytes = if nat_lt attr (length (attrs_of schema)) then stored_of schema attr bytes
+    else Ok (plain (as_shown bytes))
 
 unfoldable pub stored_at : Option (List SchemaRecord) → ℕ → List ℕ → Reading Stored BodyFault
 stored_at schema attr bytes = do

@@ -64,7 +64,8 @@ IsFaultOf dir Memory = Unit {0}
 -- what a number says of parts: 0 where there is no schema, and else what is told of the directory of the parts
 pub data IsToldOfParts (schema : Option (List SchemaRecord)) (parts : Parts) (number : ℕ) : Type 0 where
   none : schema ≡ None → number ≡ 0 → IsToldOfParts schema parts number
-  told : (dir : Directory) → schema ≡ Some dir.schema → AreAll dir parts → IsToldAt dir number → IsToldOfParts schema parts number
+  told : (dir : Directory) → schema ≡ Some dir.schema → AreAll dir parts → IsToldAt dir number
+      → IsToldOfParts schema parts number
 
 -- What is answered of parts, where all rows were taken in.
 abbrev pub IsAnswerOf : Option (List SchemaRecord) → Parts → Result Directory RowsFault → Type 0
@@ -84,6 +85,8 @@ pub record IsReading (table : Table) (result : Result Directory RowsFault) : Typ
   pub sound : IfOk result (λ dir. IsSound dir)
   pub only : IfOk result (IsOnlyOf table)
   pub told : IfErr result (IsRefusal table)
-  pub complete : (dir : Directory) → AreRowsOf dir table → IsSound dir → GivesUnless is_memory (λ (read : Directory). read) result (Ok dir)
-  pub row : (kind number : ℕ) → IsLeastBad table kind number → GivesUnless is_memory (λ (read : Directory). read) result (Err (Row kind number))
+  pub complete : (dir : Directory) → AreRowsOf dir table → IsSound dir
+      → GivesUnless is_memory (λ (read : Directory). read) result (Ok dir)
+  pub row : (kind number : ℕ) → IsLeastBad table kind number → GivesUnless is_memory (λ (read : Directory). read)
+      result (Err (Row kind number))
   pub unsound : AreRight table → StandsForNone table → IsUnsound result

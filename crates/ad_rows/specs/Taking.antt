@@ -49,7 +49,8 @@ pub record AreAll (dir : Directory) (parts : Parts) : Type 0 where
 
 -- the pending list and the counters were among the rows
 abbrev pub completed : Parts → Result Parts RowFault
-completed parts = if is_none parts.pending then Err (row.Row 2 0) else if is_none parts.meta then Err (row.Row 3 0) else Ok parts
+completed parts = if is_none parts.pending then Err (row.Row 2 0) else if is_none parts.meta then Err (row.Row 3 0)
+    else Ok parts
 
 -- what a body holds are bytes
 abbrev pub HasBytes : Row → Type 0

@@ -1,6 +1,7 @@
 //! Reading the attributes of an object, and whether they and their values are of the schema.
 
-ghost use Rattle.std.specs.Prelude.{◌≡◌, ◌↔◌, ◌+◌, ◌^◌, ◌<◌, ◌≤◌, length, map, codes, true, false, IsTrue, IfOk, IfSome};
+ghost use Rattle.std.specs.Prelude.{◌≡◌, ◌↔◌, ◌+◌, ◌^◌, ◌<◌, ◌≤◌, length, map, codes, true, false, IsTrue, IfOk};
+ghost use Rattle.std.specs.Prelude.{IfSome};
 ghost use Rattle.std.specs.List.{AllByRecursion};
 ghost use Rattle.std.specs.Option.{option_copied};
 ghost use Rattle.ad_bytes.specs.Reading.{GivesUnless, ReadsUnless, many_at};
@@ -11,7 +12,8 @@ ghost use Rattle.ad_dir_model.specs.Attributes.{is_named, syntax_at};
 ghost use Rattle.ad_dir_model.specs.Soundness.{IsHeld, IsPlainValue, IsStored};
 ghost use Rattle.ad_dir_objects.specs.Seen.{held_seen, stored_seen};
 ghost use Rattle.ad_rows.specs.Form.{value_by};
-ghost use Rattle.ad_rows.specs.Parsing.{any_stored_of, attributes_at, attrs_rise, held_at, helds_at, is_memory, link_of, stored_at, stored_of, values_at};
+ghost use Rattle.ad_rows.specs.Parsing.{any_stored_of, attributes_at, attrs_rise, held_at, helds_at, is_memory};
+ghost use Rattle.ad_rows.specs.Parsing.{link_of, stored_at, stored_of, values_at};
 
 use crate::parsing::{BodyFault, both, text};
 use ad_bytes::{Few, Input, List};
@@ -22,7 +24,8 @@ use std::alloc::{AllocError, Global};
 
 // A digest, and whether it is as long as one.
 fn digest(alloc: Global, bytes: &[u8]) -> Result<(Value, bool), AllocError>
-    ensures good { IfOk result (λ read. IsTrue read.1 ↔ ((length read.0.shown ≡ 32) × (read.0 ≡ as_shown read.0.shown))) }
+    ensures good { IfOk result (λ read. IsTrue read.1
+        ↔ ((length read.0.shown ≡ 32) × (read.0 ≡ as_shown read.0.shown))) }
     ensures value { IfOk result (λ read. read.0 ≡ as_shown bytes.now) }
 {
     let value = Value::as_shown(alloc, bytes)?;
@@ -37,7 +40,8 @@ fn kept(
     value: Value,
 ) -> Result<(Value, bool), AllocError>
     requires { normal_or_fault syntax bytes.now ≡ Ok value }
-    ensures good { IfOk result (λ read. IsTrue read.1 ↔ (normal_or_fault syntax read.0.shown ≡ Ok read.0)) }
+    ensures good { IfOk result (λ read. IsTrue read.1
+        ↔ (normal_or_fault syntax read.0.shown ≡ Ok read.0)) }
     ensures value { IfOk result (λ read. read.0 ≡ value_by false syntax bytes.now) }
 {
     if value.shown() == bytes {
@@ -47,7 +51,8 @@ fn kept(
 }
 
 fn normal_value(alloc: Global, syntax: Syntax, bytes: &[u8]) -> Result<(Value, bool), AllocError>
-    ensures good { IfOk result (λ read. IsTrue read.1 ↔ (normal_or_fault syntax read.0.shown ≡ Ok read.0)) }
+    ensures good { IfOk result (λ read. IsTrue read.1
+        ↔ (normal_or_fault syntax read.0.shown ≡ Ok read.0)) }
     ensures value { IfOk result (λ read. read.0 ≡ value_by false syntax bytes.now) }
 {
     match normal(alloc, syntax, bytes) {
@@ -76,7 +81,9 @@ fn plain(
 ) -> Result<(Value, bool), AllocError>
     requires { attr.0 < length (attrs_of schema.now) }
     ensures good { IfOk result (λ read. IsTrue read.1 ↔ IsPlainValue schema.now attr.0 read.0) }
-    ensures value { IfOk result (λ read. read.0 ≡ value_by (is_named schema.now (codes "unicodePwd") attr.0) (syntax_at schema.now attr.0) bytes.now) }
+    ensures value { IfOk result (λ read. read.0
+        ≡ value_by (is_named schema.now (codes "unicodePwd") attr.0) (syntax_at schema.now attr.0)
+        bytes.now) }
 {
     if is_password(schema, attr) {
         digest(alloc, bytes)
@@ -106,8 +113,10 @@ fn stored(
     bytes: &[u8],
 ) -> Result<(Stored, bool), BodyFault>
     requires { attr.0 < length (attrs_of schema.now) }
-    ensures good { IfOk result (λ read. IsTrue read.1 ↔ IsStored schema.now attr.0 (stored_seen read.0)) }
-    ensures stored { GivesUnless is_memory (λ read. stored_seen read.0) result (stored_of schema.now attr.0 bytes.now) }
+    ensures good { IfOk result (λ read. IsTrue read.1 ↔ IsStored schema.now attr.0
+        (stored_seen read.0)) }
+    ensures stored { GivesUnless is_memory (λ read. stored_seen read.0) result
+        (stored_of schema.now attr.0 bytes.now) }
 {
     if schema.is_link(attr) {
         return Ok((Stored::Link(link(bytes)?), true));
@@ -123,9 +132,11 @@ fn any_stored(
     attr: AttrId,
     bytes: &[u8],
 ) -> Result<(Stored, bool), BodyFault>
-    ensures good { IfOk result (λ read. IfSome (option_copied schema.entry) (λ s. attr.0 < length (attrs_of s)
+    ensures good { IfOk result (λ read. IfSome (option_copied schema.entry)
+        (λ s. attr.0 < length (attrs_of s)
         → IsTrue read.1 ↔ IsStored s attr.0 (stored_seen read.0))) }
-    ensures stored { GivesUnless is_memory (λ read. stored_seen read.0) result (any_stored_of (option_copied schema.entry) attr.0 bytes.now) }
+    ensures stored { GivesUnless is_memory (λ read. stored_seen read.0) result
+        (any_stored_of (option_copied schema.entry) attr.0 bytes.now) }
 {
     match schema {
         Some(schema) => {
@@ -139,7 +150,8 @@ fn any_stored(
 }
 
 fn is_attribute(schema: Option<&Schema>, attr: AttrId) -> bool
-    ensures { IfSome (option_copied schema.entry) (λ s. IsTrue result ↔ (attr.0 < length (attrs_of s))) }
+    ensures { IfSome (option_copied schema.entry)
+        (λ s. IsTrue result ↔ (attr.0 < length (attrs_of s))) }
 {
     match schema {
         Some(schema) => (attr.0 as usize) < schema.attrs().len(),
@@ -155,9 +167,11 @@ fn next_value(
     attr: AttrId,
     input: &mut Input<'_>,
 ) -> Result<(Stored, bool), BodyFault>
-    ensures good { IfOk result (λ read. IfSome (option_copied schema.entry) (λ s. attr.0 < length (attrs_of s)
+    ensures good { IfOk result (λ read. IfSome (option_copied schema.entry)
+        (λ s. attr.0 < length (attrs_of s)
         → IsTrue read.1 ↔ IsStored s attr.0 (stored_seen read.0))) }
-    ensures stored { ReadsUnless is_memory (λ read. stored_seen read.0) result input.new (stored_at (option_copied schema.entry) attr.0 input.old) }
+    ensures stored { ReadsUnless is_memory (λ read. stored_seen read.0) result input.new
+        (stored_at (option_copied schema.entry) attr.0 input.old) }
 {
     let shown = text(input)?;
     any_stored(alloc, schema, attr, shown)
@@ -172,7 +186,8 @@ fn each_value(
     count: u64,
 ) -> Result<(Few<Stored>, bool), BodyFault>
     ensures count { IfOk result (λ read. length read.0 ≡ count) }
-    ensures each { IfOk result (λ read. IfSome (option_copied schema.entry) (λ s. attr.0 < length (attrs_of s)
+    ensures each { IfOk result (λ read. IfSome (option_copied schema.entry)
+        (λ s. attr.0 < length (attrs_of s)
         → IsTrue read.1 ↔ AllByRecursion (IsStored s attr.0) (map stored_seen read.0))) }
     ensures read { ReadsUnless is_memory (λ read. map stored_seen read.0) result input.new
         (many_at (stored_at (option_copied schema.entry) attr.0) count input.old) }
@@ -197,7 +212,8 @@ fn values(
 ) -> Result<(Few<Stored>, bool), BodyFault>
     ensures good { IfOk result (λ read. IfSome (option_copied schema.entry) (λ s. IsTrue read.1
         ↔ IsHeld s (record { attr = attr.0; values = map stored_seen read.0 }))) }
-    ensures read { ReadsUnless is_memory (λ read. map stored_seen read.0) result input.new (values_at (option_copied schema.entry) attr.0 input.old) }
+    ensures read { ReadsUnless is_memory (λ read. map stored_seen read.0) result input.new
+        (values_at (option_copied schema.entry) attr.0 input.old) }
 {
     let count = input.be64()?;
     if count == 0 {
@@ -229,8 +245,10 @@ fn next_attribute(
     schema: Option<&Schema>,
     input: &mut Input<'_>,
 ) -> Result<(Attribute, bool), BodyFault>
-    ensures good { IfOk result (λ read. IfSome (option_copied schema.entry) (λ s. IsTrue read.1 ↔ IsHeld s (held_seen read.0))) }
-    ensures read { ReadsUnless is_memory (λ read. held_seen read.0) result input.new (held_at (option_copied schema.entry) input.old) }
+    ensures good { IfOk result (λ read. IfSome (option_copied schema.entry)
+        (λ s. IsTrue read.1 ↔ IsHeld s (held_seen read.0))) }
+    ensures read { ReadsUnless is_memory (λ read. held_seen read.0) result input.new
+        (held_at (option_copied schema.entry) input.old) }
 {
     let attr = AttrId(input.be32()?);
     let (values, good) = values(alloc, schema, attr, input)?;
@@ -247,7 +265,8 @@ fn each_attribute(
     input: &mut Input<'_>,
     count: u64,
 ) -> Result<(Vec<Attribute>, bool), BodyFault>
-    ensures each { IfOk result (λ read. IfSome (option_copied schema.entry) (λ s. IsTrue read.1 ↔ AllByRecursion (IsHeld s) (map held_seen read.0.items))) }
+    ensures each { IfOk result (λ read. IfSome (option_copied schema.entry)
+        (λ s. IsTrue read.1 ↔ AllByRecursion (IsHeld s) (map held_seen read.0.items))) }
     ensures read { ReadsUnless is_memory (λ read. map held_seen read.0.items) result input.new
         (many_at (held_at (option_copied schema.entry)) count input.old) }
 {
@@ -268,8 +287,10 @@ fn all_attributes(
     schema: Option<&Schema>,
     input: &mut Input<'_>,
 ) -> Result<(Attributes, bool), BodyFault>
-    ensures each { IfOk result (λ read. IfSome (option_copied schema.entry) (λ s. IsTrue read.1 ↔ AllByRecursion (IsHeld s) (map held_seen read.0))) }
-    ensures read { ReadsUnless is_memory (λ read. map held_seen read.0) result input.new (helds_at (option_copied schema.entry) input.old) }
+    ensures each { IfOk result (λ read. IfSome (option_copied schema.entry)
+        (λ s. IsTrue read.1 ↔ AllByRecursion (IsHeld s) (map held_seen read.0))) }
+    ensures read { ReadsUnless is_memory (λ read. map held_seen read.0) result input.new
+        (helds_at (option_copied schema.entry) input.old) }
 {
     let count = input.be64()?;
     let (all, good) = each_attribute(alloc, schema, input, count)?;
@@ -298,8 +319,10 @@ pub(crate) fn attributes(
     input: &mut Input<'_>,
 ) -> Result<(Attributes, bool), BodyFault>
     ensures rise { IfOk result (λ read. attrs_rise 0 (map held_seen read.0) ≡ true) }
-    ensures each { IfOk result (λ read. IfSome (option_copied schema.entry) (λ s. IsTrue read.1 ↔ AllByRecursion (IsHeld s) (map held_seen read.0))) }
-    ensures read { ReadsUnless is_memory (λ read. map held_seen read.0) result input.new (attributes_at (option_copied schema.entry) input.old) }
+    ensures each { IfOk result (λ read. IfSome (option_copied schema.entry)
+        (λ s. IsTrue read.1 ↔ AllByRecursion (IsHeld s) (map held_seen read.0))) }
+    ensures read { ReadsUnless is_memory (λ read. map held_seen read.0) result input.new
+        (attributes_at (option_copied schema.entry) input.old) }
 {
     let (all, good) = all_attributes(alloc, schema, input)?;
     if !rise(all.as_slice()) {

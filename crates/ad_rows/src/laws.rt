@@ -11,23 +11,27 @@ ghost use Rattle.site_io.specs.Disk.{Images};
 
 /// Where rows represent a directory, they represent it after an edit, once the edit's row is among them.
 pub fn a_row_follows_its_edit()
-    ensures { (dir : Directory) (table : Table) (edit : Edit) (row : Row) → AreRowsOf dir table → IsRowOf edit row
+    ensures { (dir : Directory) (table : Table) (edit : Edit) (row : Row) → AreRowsOf dir table
+        → IsRowOf edit row
         → AreRowsOf (edited edit dir) (with_rows table (row ∷ [])) }
 {}
 
 /// Where rows represent a directory, they represent it after edits, made one after the other, once the rows of the
 /// edits' batch are among them.
 pub fn a_batch_follows_its_edits()
-    ensures { (dir : Directory) (table : Table) (edits : List Edit) (rows : List Row) → AreRowsOf dir table → AreRowsOfEdits edits rows
+    ensures { (dir : Directory) (table : Table) (edits : List Edit) (rows : List Row)
+        → AreRowsOf dir table → AreRowsOfEdits edits rows
         → AreRowsOf (all_edited edits dir) (with_rows table rows) }
 {}
 
 /// Rows represent one sound directory at most.
 pub fn rows_stand_for_one_directory()
-    ensures { (a b : Directory) (table : Table) → IsSound a → IsSound b → AreRowsOf a table → AreRowsOf b table → a ≡ b }
+    ensures { (a b : Directory) (table : Table) → IsSound a → IsSound b → AreRowsOf a table
+        → AreRowsOf b table → a ≡ b }
 {}
 
 /// The slots of a store represent one directory at most.
 pub fn slots_stand_for_one_directory()
-    ensures { (images : Images) (a b : Directory) → IsStoreOf images a → IsStoreOf images b → a ≡ b }
+    ensures { (images : Images) (a b : Directory) → IsStoreOf images a → IsStoreOf images b → a
+        ≡ b }
 {}

@@ -72,7 +72,8 @@ pub(crate) fn text<'a>(input: &mut Input<'a>) -> Result<&'a [u8], BodyFault>
 }
 
 fn is_class(schema: Option<&Schema>, class: ClassId) -> bool
-    ensures { IfSome (option_copied schema.entry) (λ s. IsTrue result ↔ (class.0 < length (classes_of s))) }
+    ensures { IfSome (option_copied schema.entry)
+        (λ s. IsTrue result ↔ (class.0 < length (classes_of s))) }
 {
     match schema {
         Some(schema) => (class.0 as usize) < schema.classes().len(),
@@ -91,8 +92,10 @@ pub(crate) fn object(
     body: &[u8],
 ) -> Result<(Object, NormalSd, bool), BodyFault>
     ensures number { IfOk result (λ read. read.0.number ≡ number) }
-    ensures content { IfOk result (λ read. IfSome (option_copied schema.entry) (λ s. IsTrue read.2 ↔ IsContent s (object_seen read.0 read.1))) }
-    ensures read { GivesUnless is_memory (λ read. object_seen read.0 read.1) result (object_in (option_copied schema.entry) number body.now) }
+    ensures content { IfOk result (λ read. IfSome (option_copied schema.entry)
+        (λ s. IsTrue read.2 ↔ IsContent s (object_seen read.0 read.1))) }
+    ensures read { GivesUnless is_memory (λ read. object_seen read.0 read.1) result
+        (object_in (option_copied schema.entry) number body.now) }
 {
     let mut input = Input::new(body);
     let parent = input.be32()?;
@@ -126,7 +129,8 @@ fn pending_entries(
     input: &mut Input<'_>,
     count: u64,
 ) -> Result<Vec<Pending>, BodyFault>
-    ensures { ReadsUnless is_memory (λ entries. entries.items) result input.new (many_at pending_at count input.old) }
+    ensures { ReadsUnless is_memory (λ entries. entries.items) result input.new
+        (many_at pending_at count input.old) }
 {
     let mut entries = Vec::new(alloc);
     for _ in 0..count {
@@ -220,7 +224,8 @@ fn line(alloc: Global, input: &mut Input<'_>) -> Result<Line, BodyFault>
 
 // So many lines.
 fn lines(alloc: Global, input: &mut Input<'_>, count: u64) -> Result<Vec<Line>, BodyFault>
-    ensures { ReadsUnless is_memory (λ lines. lines.items) result input.new (many_at line_at count input.old) }
+    ensures { ReadsUnless is_memory (λ lines. lines.items) result input.new
+        (many_at line_at count input.old) }
 {
     let mut lines = Vec::new(alloc);
     for _ in 0..count {

@@ -33,7 +33,8 @@ fn built(
     meta: Meta,
 ) -> Result<Dir, AllocError>
     requires { IsSound (dir_of schema (objects_of objects.items) pending.items (meta_seen meta)) }
-    ensures { IfOk result (λ dir. dir ≡ dir_of schema (objects_of objects.items) pending.items (meta_seen meta)) }
+    ensures { IfOk result (λ dir. dir ≡ dir_of schema (objects_of objects.items) pending.items
+        (meta_seen meta)) }
 {
     Dir::of(alloc, schema, objects, pending, meta)
 }
@@ -47,8 +48,10 @@ fn judged(
     meta: &Meta,
 ) -> Result<(), RowsFault>
     requires { HasTaken schema.now taken.now }
-    ensures sound { OnOk result (IsSound (dir_of schema.now (objects_of taken.now.objects.items) pending.now (meta_seen meta.now))) }
-    ensures told { IfErr result (IsFaultOf (dir_of schema.now (objects_of taken.now.objects.items) pending.now (meta_seen meta.now))) }
+    ensures sound { OnOk result (IsSound
+        (dir_of schema.now (objects_of taken.now.objects.items) pending.now (meta_seen meta.now))) }
+    ensures told { IfErr result (IsFaultOf
+        (dir_of schema.now (objects_of taken.now.objects.items) pending.now (meta_seen meta.now))) }
 {
     match judge(
         alloc,
@@ -72,9 +75,11 @@ fn of_parts(
     meta: Meta,
 ) -> Result<Dir, RowsFault>
     requires { HasTaken schema taken.old }
-    ensures made { IfOk result (λ dir. dir ≡ dir_of schema (objects_of taken.old.objects.items) pending.items (meta_seen meta)) }
+    ensures made { IfOk result (λ dir. dir ≡ dir_of schema (objects_of taken.old.objects.items)
+        pending.items (meta_seen meta)) }
     ensures sound { IfOk result IsSound }
-    ensures told { IfErr result (IsFaultOf (dir_of schema (objects_of taken.old.objects.items) pending.items (meta_seen meta))) }
+    ensures told { IfErr result (IsFaultOf
+        (dir_of schema (objects_of taken.old.objects.items) pending.items (meta_seen meta))) }
 {
     judged(alloc, &schema, taken, pending.as_slice(), &meta)?;
     let objects = mem::replace(&mut taken.objects, Vec::new(alloc));
@@ -111,8 +116,8 @@ fn read_rows<R: RowSource>(alloc: Global, rows: R) -> Result<Dir, RowsFault>
     of_taken(alloc, schema, &mut taken)
 }
 
-/// The directory of which these are the rows, by rising kind and number, none twice, each with a body: as `rows_of` and
-/// `Store::resume` give them. The rows of a sound directory are read as that directory, unless memory runs out.
+/// The directory of which these are the rows, by rising kind and number, none twice, each with a body: as `rows_of`
+/// and `Store::resume` give them. The rows of a sound directory are read as that directory, unless memory runs out.
 ///
 /// # Errors
 ///
@@ -126,10 +131,12 @@ pub fn read_dir(alloc: Global, rows: &[Row]) -> Result<Dir, RowsFault>
     ensures sound { IfOk result (λ dir. IsSound dir) }
     ensures only { IfOk result (IsOnlyOf (table_of rows.now)) }
     ensures told { IfErr result (IsRefusal (table_of rows.now)) }
-    ensures complete { (dir : Directory) → AreRowsOf dir (table_of rows.now) → IsSound dir → GivesUnless is_memory (λ read. read) result (Ok dir) }
+    ensures complete { (dir : Directory) → AreRowsOf dir (table_of rows.now) → IsSound dir
+        → GivesUnless is_memory (λ read. read) result (Ok dir) }
     ensures row { (kind number : ℕ) → IsLeastBad (table_of rows.now) kind number
         → GivesUnless is_memory (λ read. read) result (Err (RowsFault.Row kind number)) }
-    ensures unsound { AreRight (table_of rows.now) → StandsForNone (table_of rows.now) → IsUnsound result }
+    ensures unsound { AreRight (table_of rows.now) → StandsForNone (table_of rows.now)
+        → IsUnsound result }
 {
     read_rows(alloc, rows)
 }
@@ -145,10 +152,12 @@ pub fn read_dir_of(alloc: Global, rows: Vec<Row>) -> Result<Dir, RowsFault>
     ensures sound { IfOk result (λ dir. IsSound dir) }
     ensures only { IfOk result (IsOnlyOf (table_of rows.items)) }
     ensures told { IfErr result (IsRefusal (table_of rows.items)) }
-    ensures complete { (dir : Directory) → AreRowsOf dir (table_of rows.items) → IsSound dir → GivesUnless is_memory (λ read. read) result (Ok dir) }
+    ensures complete { (dir : Directory) → AreRowsOf dir (table_of rows.items) → IsSound dir
+        → GivesUnless is_memory (λ read. read) result (Ok dir) }
     ensures row { (kind number : ℕ) → IsLeastBad (table_of rows.items) kind number
         → GivesUnless is_memory (λ read. read) result (Err (RowsFault.Row kind number)) }
-    ensures unsound { AreRight (table_of rows.items) → StandsForNone (table_of rows.items) → IsUnsound result }
+    ensures unsound { AreRight (table_of rows.items) → StandsForNone (table_of rows.items)
+        → IsUnsound result }
 {
     read_rows(alloc, rows)
 }

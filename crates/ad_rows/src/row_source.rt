@@ -29,8 +29,10 @@ pub(crate) trait RowSource: Drop {
         schema: Option<&Schema>,
         taken: &mut Taken,
     ) -> Result<(), RowFault>
-        ensures parts { GivesUnless is_memory (λ _. parts_of taken.new) result (with_rows (option_copied schema.entry) (parts_of taken.old) (rows self)) }
-        ensures taken { OnOk result (IsStillTaken (option_copied schema.entry) taken.old taken.new) };
+        ensures parts { GivesUnless is_memory (λ _. parts_of taken.new) result
+            (with_rows (option_copied schema.entry) (parts_of taken.old) (rows self)) }
+        ensures taken { OnOk result
+            (IsStillTaken (option_copied schema.entry) taken.old taken.new) };
 }
 
 impl<'a> RowSource for &'a [Row] {
@@ -80,8 +82,10 @@ pub(crate) fn take_all<R: RowSource>(
     schema: Option<&Schema>,
     rows: R,
 ) -> Result<Taken, RowFault>
-    ensures parts { GivesUnless is_memory parts_of result (with_rows (option_copied schema.entry) no_parts (R.rows rows)) }
-    ensures taken { IfOk result (λ taken. IfSome (option_copied schema.entry) (λ s. HasTaken s taken)) }
+    ensures parts { GivesUnless is_memory parts_of result
+        (with_rows (option_copied schema.entry) no_parts (R.rows rows)) }
+    ensures taken { IfOk result (λ taken. IfSome (option_copied schema.entry)
+        (λ s. HasTaken s taken)) }
 {
     let mut taken = Taken {
         objects: Vec::new(alloc),

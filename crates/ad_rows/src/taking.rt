@@ -1,13 +1,15 @@
 //! The rows of a directory, taken in one after the other.
 
-ghost use Rattle.std.specs.Prelude.{◌≡◌, ◌-◌, ◌^◌, ◌<◌, [], true, false, None, Some, length, if◌then◌else◌, IfErr, IfOk, OnOk};
+ghost use Rattle.std.specs.Prelude.{◌≡◌, ◌-◌, ◌^◌, ◌<◌, [], true, false, None, Some, length, if◌then◌else◌, IfErr};
+ghost use Rattle.std.specs.Prelude.{IfOk, OnOk};
 ghost use Rattle.std.specs.List.{AllByRecursion};
 ghost use Rattle.std.specs.Option.{option_copied};
 ghost use Rattle.ad_bytes.specs.Reading.{GivesUnless, IsBytes};
 ghost use Rattle.ad_dir_objects.specs.Seen.{meta_seen};
 ghost use Rattle.ad_schema.specs.Records.{added, finished};
 ghost use Rattle.ad_rows.specs.Reading.{IsStillTaken, first_bad};
-ghost use Rattle.ad_rows.specs.Taking.{HasBytes, bad_row, body_of, fault_of, in_place, is_behind, is_memory, number_of, parts_of, past};
+ghost use Rattle.ad_rows.specs.Taking.{HasBytes, bad_row, body_of, fault_of, in_place, is_behind, is_memory};
+ghost use Rattle.ad_rows.specs.Taking.{number_of, parts_of, past};
 ghost use Rattle.ad_rows.specs.Taking.{if_added, records_among, schema_among, with_any, with_meta, with_next};
 ghost use Rattle.ad_rows.specs.Taking.{with_object, with_pending, with_record, with_row};
 
@@ -113,7 +115,8 @@ fn take_object(
     taken: &mut Taken,
     row: &Row,
 ) -> Result<(), RowFault>
-    ensures parts { GivesUnless is_memory (λ _. parts_of taken.new) result (with_object (option_copied schema.entry) (parts_of taken.old) row.now) }
+    ensures parts { GivesUnless is_memory (λ _. parts_of taken.new) result
+        (with_object (option_copied schema.entry) (parts_of taken.old) row.now) }
     ensures taken { OnOk result (IsStillTaken (option_copied schema.entry) taken.old taken.new) }
 {
     let number = object_number(row, taken.last)?;
@@ -131,7 +134,8 @@ fn take_object(
 
 #[tactic(auto, unfolding(crate::specs::Taking::with_pending))]
 fn take_pending(alloc: Global, taken: &mut Taken, row: &Row) -> Result<(), RowFault>
-    ensures parts { GivesUnless is_memory (λ _. parts_of taken.new) result (with_pending (parts_of taken.old) row.now) }
+    ensures parts { GivesUnless is_memory (λ _. parts_of taken.new) result
+        (with_pending (parts_of taken.old) row.now) }
     ensures objects { taken.new.objects ≡ taken.old.objects }
     ensures last { taken.new.last ≡ taken.old.last }
     ensures bad { taken.new.bad ≡ taken.old.bad }
@@ -148,7 +152,8 @@ fn take_pending(alloc: Global, taken: &mut Taken, row: &Row) -> Result<(), RowFa
 
 #[tactic(auto, unfolding(crate::specs::Taking::with_meta))]
 fn take_meta(alloc: Global, taken: &mut Taken, row: &Row) -> Result<(), RowFault>
-    ensures parts { GivesUnless is_memory (λ _. parts_of taken.new) result (with_meta (parts_of taken.old) row.now) }
+    ensures parts { GivesUnless is_memory (λ _. parts_of taken.new) result
+        (with_meta (parts_of taken.old) row.now) }
     ensures objects { taken.new.objects ≡ taken.old.objects }
     ensures last { taken.new.last ≡ taken.old.last }
     ensures bad { taken.new.bad ≡ taken.old.bad }
@@ -165,7 +170,8 @@ fn take_meta(alloc: Global, taken: &mut Taken, row: &Row) -> Result<(), RowFault
 
 #[tactic(auto, unfolding(crate::specs::Taking::with_record))]
 fn take_record(alloc: Global, taken: &Taken, row: &Row) -> Result<(), RowFault>
-    ensures { GivesUnless is_memory (λ _. parts_of taken.now) result (with_record (parts_of taken.now) row.now) }
+    ensures { GivesUnless is_memory (λ _. parts_of taken.now) result
+        (with_record (parts_of taken.now) row.now) }
 {
     let _ = &taken.last;
     if row.number >= MOST_RECORDS {
@@ -206,7 +212,8 @@ fn take_any(
     taken: &mut Taken,
     row: &Row,
 ) -> Result<(), RowFault>
-    ensures parts { GivesUnless is_memory (λ _. parts_of taken.new) result (with_any (option_copied schema.entry) (parts_of taken.old) row.now) }
+    ensures parts { GivesUnless is_memory (λ _. parts_of taken.new) result
+        (with_any (option_copied schema.entry) (parts_of taken.old) row.now) }
     ensures taken { OnOk result (IsStillTaken (option_copied schema.entry) taken.old taken.new) }
 {
     if row.kind == 1 {
@@ -232,7 +239,8 @@ pub(crate) fn take_row(
     taken: &mut Taken,
     row: &Row,
 ) -> Result<(), RowFault>
-    ensures parts { GivesUnless is_memory (λ _. parts_of taken.new) result (with_row (option_copied schema.entry) (parts_of taken.old) row.now) }
+    ensures parts { GivesUnless is_memory (λ _. parts_of taken.new) result
+        (with_row (option_copied schema.entry) (parts_of taken.old) row.now) }
     ensures taken { OnOk result (IsStillTaken (option_copied schema.entry) taken.old taken.new) }
 {
     is_in_place(taken, row)?;
@@ -242,7 +250,8 @@ pub(crate) fn take_row(
 // Adds a record, where it may stand after those before it.
 fn add(builder: &mut Builder, read: &SchemaRecord) -> Result<bool, RowFault>
     requires { length builder.old < 2 ^ 32 - 1 }
-    ensures records { IfOk result (λ is. if_added (added builder.old read.now.kind read.now.lines) ≡ (if is then Some builder.new else None)) }
+    ensures records { IfOk result (λ is. if_added (added builder.old read.now.kind read.now.lines)
+        ≡ (if is then Some builder.new else None)) }
     ensures fault { IfErr result (λ fault. fault ≡ RowFault.Memory) }
 {
     match builder.add(read.kind, read.lines.as_slice()) {
@@ -255,7 +264,8 @@ fn add(builder: &mut Builder, read: &SchemaRecord) -> Result<bool, RowFault>
 // Whether a row is that of the next record, and the record may stand after those before it.
 #[tactic(auto, unfolding(crate::specs::Taking::with_next))]
 fn add_record(alloc: Global, builder: &mut Builder, row: &Row) -> Result<bool, RowFault>
-    ensures records { IfOk result (λ is. with_next builder.old row.now ≡ (if is then Some builder.new else None)) }
+    ensures records { IfOk result (λ is. with_next builder.old row.now
+        ≡ (if is then Some builder.new else None)) }
     ensures fault { IfErr result (λ fault. fault ≡ RowFault.Memory) }
 {
     let next = builder.len() as u64;
@@ -275,7 +285,8 @@ fn add_record(alloc: Global, builder: &mut Builder, row: &Row) -> Result<bool, R
 // The same of any row, which has a record or not.
 #[tactic(auto, unfolding(crate::specs::Taking::past))]
 fn pass(alloc: Global, builder: &mut Builder, row: &Row) -> Result<bool, RowFault>
-    ensures records { IfOk result (λ is. past builder.old row.now ≡ (if is then Some builder.new else None)) }
+    ensures records { IfOk result (λ is. past builder.old row.now
+        ≡ (if is then Some builder.new else None)) }
     ensures fault { IfErr result (λ fault. fault ≡ RowFault.Memory) }
 {
     if row.kind != 4 {
@@ -286,7 +297,8 @@ fn pass(alloc: Global, builder: &mut Builder, row: &Row) -> Result<bool, RowFaul
 
 // Passes the rows. Whether their records are numbered without a gap and each may stand after those before it.
 fn pass_all(alloc: Global, builder: &mut Builder, rows: &[Row]) -> Result<bool, RowFault>
-    ensures records { IfOk result (λ are. records_among builder.old rows.now ≡ (if are then Some builder.new else None)) }
+    ensures records { IfOk result (λ are. records_among builder.old rows.now
+        ≡ (if are then Some builder.new else None)) }
     ensures fault { IfErr result (λ fault. fault ≡ RowFault.Memory) }
 {
     for row in rows {

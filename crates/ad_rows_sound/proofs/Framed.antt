@@ -1,5 +1,6 @@
 -- The schema, the counters and the limits, in the parts that are judged.
-use Rattle.std.proofs.Common.{◌≡◌, ◌∙◌, ℕ, ◌^◌, ◌<◌, ◌≤◌, true, false, List, length, Option, Some, None, sym, ap, subst, arith}
+use Rattle.std.proofs.Common.{◌≡◌, ◌∙◌, ℕ, ◌^◌, ◌<◌, ◌≤◌, true, false, List, length, Option, Some, None, sym, ap}
+use Rattle.std.proofs.Common.{subst, arith}
 use Rattle.std.specs.Prelude.{nat_le}
 use Rattle.std.specs.List.{AllByRecursion, list_all}
 use Rattle.std.proofs.lemmas.Bool.{false≢true, le-leb}
@@ -33,7 +34,8 @@ module _ (schema : List SchemaRecord) (objects : List Object) (pending : List Pe
   unfolding domain_sid
   domain_is o is = ap (sid_in schema) (at-of objects root o is)
 
-  child_is : (o : Object) (rid : ℕ) → object_of objects root ≡ Some o → domain_child dir rid ≡ option_and_then (λ d. child_of d rid) (sid_in schema o)
+  child_is : (o : Object) (rid : ℕ) → object_of objects root ≡ Some o → domain_child dir rid
+      ≡ option_and_then (λ d. child_of d rid) (sid_in schema o)
   unfolding domain_child
   child_is o rid is = ap (option_and_then (λ d. child_of d rid)) (domain_is o is)
 
@@ -58,18 +60,34 @@ module _ (schema : List SchemaRecord) (objects : List Object) (pending : List Pe
     pub suffix : is_short (rdns_text meta.suffix) ≡ true
     pub records : list_all is_short_record schema ≡ true
 
-  pub frame_sound : (o : Object) → object_of objects root ≡ Some o → MakeSchema schema → meta.next_number < 2 ^ 32 → meta.next_rid < 2 ^ 32 → AreFramed o → IsSoundFrame dir
+  pub frame_sound : (o : Object) → object_of objects root ≡ Some o → MakeSchema schema → meta.next_number < 2 ^ 32
+      → meta.next_rid < 2 ^ 32 → AreFramed o → IsSoundFrame dir
   frame_sound o is makes number rid parts = record {
-    schema = record { makes = makes; defaults_read = subst (λ (d : Option SidValue). list_all (default_reads d) (classes_of schema) ≡ true) (sym (domain_is o is)) parts.defaults };
+    schema = record {
+      makes = makes;
+      defaults_read
+          = subst (λ (d : Option SidValue). list_all (default_reads d) (classes_of schema) ≡ true)
+          (sym (domain_is o is)) parts.defaults;
+    };
     counters = record {
       number_above = λ n live.
           let found : object_of objects n ≡ Some (object_at objects n) = of-live objects n live in
-          subst (λ (m : ℕ). m < meta.next_number) (of_number objects n (object_at objects n) found) (find_all (IsCounted schema (sid_in schema o) meta) objects parts.counted n (object_at objects n) found).number;
-      rid_above = λ n x r sid found has child. (find_all (IsCounted schema (sid_in schema o) meta) objects parts.counted n x found).rid r sid has (sym (child_is o r is) ∙ child);
+          subst (λ (m : ℕ). m < meta.next_number) (of_number objects n (object_at objects n) found)
+          (find_all (IsCounted schema (sid_in schema o) meta) objects parts.counted n (object_at objects n)
+          found).number;
+      rid_above = λ n x r sid found has child.
+          (find_all (IsCounted schema (sid_in schema o) meta) objects parts.counted n x found).rid r sid has
+          (sym (child_is o r is) ∙ child);
       number_fits = number_fits meta.next_number number;
       rid_fits = number_fits meta.next_rid rid;
     };
-    limits = record { objects = enough parts.few; weight = lighter parts.light; suffix = parts.suffix; records = parts.records };
+    limits = record {
+      objects = enough parts.few;
+      weight = lighter parts.light;
+      suffix = parts.suffix;
+      records
+          = parts.records;
+    };
     root_live = live-of objects root o is;
   }
 
@@ -83,9 +101,11 @@ module _ (schema : List SchemaRecord) (objects : List Object) (pending : List Pe
 
   pub sound_frame : (o : Object) → object_of objects root ≡ Some o → Rise objects → IsSoundFrame dir → AreFramed o
   sound_frame o is rise sound = record {
-    defaults = subst (λ (d : Option SidValue). list_all (default_reads d) (classes_of schema) ≡ true) (domain_is o is) sound.schema.defaults_read;
+    defaults = subst (λ (d : Option SidValue). list_all (default_reads d) (classes_of schema) ≡ true) (domain_is o is)
+        sound.schema.defaults_read;
     counted = all_found (IsCounted schema (sid_in schema o) meta) 0 objects rise (λ n x found. record {
-      number = subst (λ (m : ℕ). m < meta.next_number) (sym (of_number objects n x found)) (sound.counters.number_above n (live-of objects n x found));
+      number = subst (λ (m : ℕ). m < meta.next_number) (sym (of_number objects n x found))
+          (sound.counters.number_above n (live-of objects n x found));
       rid = λ rid sid has child. sound.counters.rid_above n x rid sid found has (child_is o rid is ∙ child);
     });
     few = no_more sound;

@@ -10,7 +10,8 @@ use Rattle.ad_rows_sound.proofs.Judged.{among_each}
 
 pub never_told : (dir : Directory) (n : ℕ) → IsSound dir → IsToldAt dir n → ⊥
 never_told dir n sound (frame_fails zero fails) = fails sound.frame
-never_told dir n sound (object_fails is least) = least.0 (among_each dir.schema dir.objects dir.pending dir.meta sound.each n)
+never_told dir n sound (object_fails is least)
+    = least.0 (among_each dir.schema dir.objects dir.pending dir.meta sound.each n)
 never_told dir n sound (entry_fails is each bad) = not_bad dir n sound bad
 
 one_least : (P : ℕ → Type 0) (n m : ℕ) → IsLeast P (Some n) → IsLeast P (Some m) → n ≡ m
@@ -27,7 +28,8 @@ told_once dir n m (frame_fails zero fails) (frame_fails zero_too fails_too) = ze
 told_once dir n m (frame_fails zero fails) (object_fails is least) = absurd (fails is)
 told_once dir n m (frame_fails zero fails) (entry_fails is each bad) = absurd (fails is)
 told_once dir n m (object_fails is least) (frame_fails zero fails) = absurd (fails is)
-told_once dir n m (object_fails is least) (object_fails is_too least_too) = one_least (OfObject dir.objects (IsSoundAmong dir)) n m least least_too
+told_once dir n m (object_fails is least) (object_fails is_too least_too)
+    = one_least (OfObject dir.objects (IsSoundAmong dir)) n m least least_too
 told_once dir n m (object_fails is least) (entry_fails is_too each bad) = absurd (least.0 (each n))
 told_once dir n m (entry_fails is each bad) (frame_fails zero fails) = absurd (fails is)
 told_once dir n m (entry_fails is each bad) (object_fails is_too least) = absurd (least.0 (each m))

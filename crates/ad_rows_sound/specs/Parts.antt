@@ -1,5 +1,6 @@
 -- The parts of a directory, and what is asked of them one by one.
-use Rattle.std.specs.Prelude.{◌≡◌, ◌⊎◌, ℕ, ◌<◌, ◌-◌, ◌^◌, ◌==◌, Bool, true, false, Option, Some, List, ◌++◌, length, slice_get}
+use Rattle.std.specs.Prelude.{◌≡◌, ◌⊎◌, ℕ, ◌<◌, ◌-◌, ◌^◌, ◌==◌, Bool, true, false, Option, Some, List, ◌++◌, length}
+use Rattle.std.specs.Prelude.{slice_get}
 use Rattle.std.specs.Option.{option_map_or, option_and_then}
 use Rattle.ad_ids.specs.SidValue.{SidValue}
 use Rattle.ad_ids.specs.SidChild.{child_of}
@@ -35,10 +36,12 @@ abbrev pub IsPlacedBy : Bool → List SchemaRecord → List Object → List Pend
 IsPlacedBy true schema objects pending o = (o.parent ≡ 0) × (explicit_part o.sd ≡ o.sd)
 IsPlacedBy false schema objects pending o =
     (is_live objects o.parent ≡ true) × IsPlaced (parent_at objects) o.number
-    × ((o.sd ≡ whole (sd_at objects o.parent) o.sd (guid_at schema o.class)) ⊎ (covers pending o.parent o.number ≡ true))
+    × ((o.sd ≡ whole (sd_at objects o.parent) o.sd (guid_at schema o.class))
+    ⊎ (covers pending o.parent o.number ≡ true))
 
 abbrev pub IsStanding : List SchemaRecord → List Object → List Pending → Object → Type 0
-IsStanding schema objects pending o = AllByRecursion (AreLiveLinks objects) o.values × IsPlacedBy (o.number == root) schema objects pending o
+IsStanding schema objects pending o = AllByRecursion (AreLiveLinks objects) o.values × IsPlacedBy (o.number == root)
+    schema objects pending o
 
 -- ---- keys by which names and identifiers are told apart
 
@@ -56,7 +59,8 @@ IsLast keys i = (j : ℕ) (key : List ℕ) → i < j → slice_get keys i ≡ So
 
 -- no other object has its key
 abbrev pub HasOwnKey : (Object → List ℕ) → List Object → Object → Type 0
-HasOwnKey key objects o = (number : ℕ) (other : Object) → object_of objects number ≡ Some other → key other ≡ key o → other.number ≡ o.number
+HasOwnKey key objects o = (number : ℕ) (other : Object) → object_of objects number ≡ Some other → key other ≡ key o
+    → other.number ≡ o.number
 
 -- what is known of objects as they were read: a parent is below 2^32, and an identifier is one
 abbrev pub HasSmallParent : Object → Type 0
@@ -74,7 +78,8 @@ last_of numbers = slice_get numbers (length numbers - 1)
 -- the number is below the next one, and so is the last one of an identifier that is the domain's with one number more
 pub record IsCounted (schema : List SchemaRecord) (domain : Option SidValue) (meta : Meta) (o : Object) : Type 0 where
   pub number : o.number < meta.next_number
-  pub rid : (rid : ℕ) (sid : SidValue) → sid_in schema o ≡ Some sid → option_and_then (λ d. child_of d rid) domain ≡ Some sid → rid < meta.next_rid
+  pub rid : (rid : ℕ) (sid : SidValue) → sid_in schema o ≡ Some sid → option_and_then (λ d. child_of d rid) domain
+      ≡ Some sid → rid < meta.next_rid
 
 -- ---- the pending list
 

@@ -33,8 +33,10 @@ pub record IsSoundAmong (dir : Directory) (o : Object) : Type 0 where
 -- this number is told
 pub data IsToldAt (dir : Directory) (number : ℕ) : Type 0 where
   frame_fails : number ≡ 0 → (IsSoundFrame dir → ⊥) → IsToldAt dir number
-  object_fails : IsSoundFrame dir → IsLeast (OfObject dir.objects (IsSoundAmong dir)) (Some number) → IsToldAt dir number
-  entry_fails : IsSoundFrame dir → ((n : ℕ) → OfObject dir.objects (IsSoundAmong dir) n) → IsFirstBadPending dir number → IsToldAt dir number
+  object_fails : IsSoundFrame dir → IsLeast (OfObject dir.objects (IsSoundAmong dir)) (Some number)
+      → IsToldAt dir number
+  entry_fails : IsSoundFrame dir → ((n : ℕ) → OfObject dir.objects (IsSoundAmong dir) n)
+      → IsFirstBadPending dir number → IsToldAt dir number
 
 -- what a fault tells of the directory
 abbrev pub IsToldBy : Directory → SoundnessFault → Type 0

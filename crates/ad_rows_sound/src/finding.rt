@@ -1,6 +1,7 @@
 //! Objects that were read, found by their numbers, and told apart by their names and identifiers.
 
-ghost use Rattle.std.specs.Prelude.{◌≡◌, ◌↔◌, ◌-◌, ◌^◌, ◌<◌, ◌++◌, Some, None, length, map, option_map, slice_get, IsTrue, IfOk, IsErr, OnOk};
+ghost use Rattle.std.specs.Prelude.{◌≡◌, ◌↔◌, ◌-◌, ◌^◌, ◌<◌, ◌++◌, Some, None, length, map, option_map, slice_get};
+ghost use Rattle.std.specs.Prelude.{IsTrue, IfOk, IsErr, OnOk};
 ghost use Rattle.std.specs.Str.{IsUtf8, is_utf8};
 ghost use Rattle.std.specs.List.{AllByRecursion};
 ghost use Rattle.ad_dir_model.specs.Object.{Object as ObjectOf};
@@ -11,7 +12,8 @@ ghost use Rattle.ad_ids.specs.Sid.{IsSid, sid_bytes};
 ghost use Rattle.ad_sd.specs.declared.parts.Sd.{Sd as SdValue};
 ghost use Rattle.ad_dir_objects.specs.Seen.{held_seen, object_seen, objects_of, stored_seen};
 ghost use Rattle.ad_rows_sound.specs.Least.{IsLeast, lesser};
-ghost use Rattle.ad_rows_sound.specs.Parts.{AreLiveLinks, HasSid, HasSmallParent, IsLast, IsLiveLink, name_key, sid_key};
+ghost use Rattle.ad_rows_sound.specs.Parts.{AreLiveLinks, HasSid, HasSmallParent, IsLast, IsLiveLink, name_key};
+ghost use Rattle.ad_rows_sound.specs.Parts.{sid_key};
 ghost use Rattle.ad_rows_sound.specs.Told.{as_folded};
 
 use ad_bytes::{Bytes, Few};
@@ -31,7 +33,8 @@ pub type Entry = (Object, NormalSd);
 fn place_of(objects: &[Entry], number: u32) -> Result<usize, usize>
     requires { Rise (objects_of objects.now) }
     ensures within { IfOk result (λ place. place < length objects.now) }
-    ensures found { IfOk result (λ place. (o : ObjectOf) → slice_get (objects_of objects.now) place ≡ Some o → o.number ≡ number) }
+    ensures found { IfOk result (λ place. (o : ObjectOf) → slice_get (objects_of objects.now) place
+        ≡ Some o → o.number ≡ number) }
     ensures absent { IsErr result → object_of (objects_of objects.now) number ≡ None }
 {
     objects.binary_search_by_key(&number, |entry| entry.0.number)
@@ -40,7 +43,8 @@ fn place_of(objects: &[Entry], number: u32) -> Result<usize, usize>
 /// The object of a number.
 pub(crate) fn entry_of(objects: &[Entry], number: u32) -> Option<&Entry>
     requires { Rise (objects_of objects.now) }
-    ensures { option_map (λ entry. object_seen entry.now.0 entry.now.1) result ≡ object_of (objects_of objects.now) number }
+    ensures { option_map (λ entry. object_seen entry.now.0 entry.now.1) result
+        ≡ object_of (objects_of objects.now) number }
 {
     match place_of(objects, number) {
         Ok(place) => Some(&objects[place]),
@@ -98,7 +102,8 @@ fn is_live_link(objects: &[Entry], stored: &Stored) -> bool
 
 fn are_live_links(objects: &[Entry], values: &[Stored]) -> bool
     requires { Rise (objects_of objects.now) }
-    ensures { IsTrue result ↔ AllByRecursion (IsLiveLink (objects_of objects.now)) (map stored_seen values.now) }
+    ensures { IsTrue result ↔ AllByRecursion (IsLiveLink (objects_of objects.now))
+        (map stored_seen values.now) }
 {
     for stored in values {
         if !is_live_link(objects, stored) {
@@ -111,7 +116,8 @@ fn are_live_links(objects: &[Entry], values: &[Stored]) -> bool
 /// Whether each link of an object names an object that is there.
 pub(crate) fn has_live_links(objects: &[Entry], values: &[(AttrId, Few<Stored>)]) -> bool
     requires { Rise (objects_of objects.now) }
-    ensures { IsTrue result ↔ AllByRecursion (AreLiveLinks (objects_of objects.now)) (map held_seen values.now) }
+    ensures { IsTrue result ↔ AllByRecursion (AreLiveLinks (objects_of objects.now))
+        (map held_seen values.now) }
 {
     for held in values {
         if !are_live_links(objects, held.1.as_slice()) {
@@ -182,7 +188,8 @@ fn number_bytes(alloc: Global, number: u32) -> Result<Bytes, AllocError>
 }
 
 fn sid_key(alloc: Global, schema: &Schema, object: &Object) -> Result<Bytes, AllocError>
-    ensures key { IfOk result (λ key. (sd : SdValue) → key ≡ sid_key schema.now (object_seen object.now sd)) }
+    ensures key { IfOk result (λ key. (sd : SdValue) → key
+        ≡ sid_key schema.now (object_seen object.now sd)) }
     ensures is { OnOk result ((sd : SdValue) → HasSid schema.now (object_seen object.now sd)) }
 {
     match object_sid(schema, object) {
@@ -210,7 +217,8 @@ pub(crate) fn sid_keys(
     schema: &Schema,
     objects: &[Entry],
 ) -> Result<Vec<Bytes>, AllocError>
-    ensures keys { IfOk result (λ keys. keys.items ≡ map (sid_key schema.now) (objects_of objects.now)) }
+    ensures keys { IfOk result (λ keys. keys.items ≡ map (sid_key schema.now)
+        (objects_of objects.now)) }
     ensures are { OnOk result (AllByRecursion (HasSid schema.now) (objects_of objects.now)) }
 {
     let mut keys = Vec::with_capacity(alloc, objects.len())?;

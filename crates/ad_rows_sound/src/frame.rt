@@ -43,7 +43,8 @@ pub(crate) fn defaults_read(
     schema: &Schema,
     domain: Option<&Sid>,
 ) -> Result<bool, AllocError>
-    ensures { IfOk result (λ read. read ≡ list_all (default_reads (option_copied domain.entry)) (classes_of schema.now)) }
+    ensures { IfOk result (λ read. read ≡ list_all (default_reads (option_copied domain.entry))
+        (classes_of schema.now)) }
 {
     for info in schema.classes() {
         if !default_reads(alloc, domain, info)? {
@@ -81,7 +82,8 @@ fn is_counted(domain: &Sid, sid: &Sid, next: u32) -> bool
 
 // Whether the number of an object and its identifier are below the counters.
 fn is_counted_in(schema: &Schema, domain: Option<&Sid>, meta: &Meta, object: &Object) -> bool
-    ensures { (sd : SdValue) → IsTrue result ↔ IsCounted schema.now (option_copied domain.entry) (meta_seen meta.now) (object_seen object.now sd) }
+    ensures { (sd : SdValue) → IsTrue result ↔ IsCounted schema.now (option_copied domain.entry)
+        (meta_seen meta.now) (object_seen object.now sd) }
 {
     if object.number >= meta.next_number {
         return false;
@@ -99,7 +101,9 @@ pub(crate) fn are_counted(
     meta: &Meta,
     objects: &[Entry],
 ) -> bool
-    ensures { IsTrue result ↔ AllByRecursion (IsCounted schema.now (option_copied domain.entry) (meta_seen meta.now)) (objects_of objects.now) }
+    ensures { IsTrue result ↔ AllByRecursion
+        (IsCounted schema.now (option_copied domain.entry) (meta_seen meta.now))
+        (objects_of objects.now) }
 {
     for entry in objects {
         if !is_counted_in(schema, domain, meta, &entry.0) {

@@ -1,6 +1,7 @@
 //! Whether all that was read is a sound directory.
 
-ghost use Rattle.std.specs.Prelude.{◌≡◌, ◌↔◌, ◌-◌, ◌^◌, ◌<◌, ◌≤◌, List, Some, None, length, slice_get, IsTrue, IfOk, IfErr, IfSome, OnOk, MatchOption};
+ghost use Rattle.std.specs.Prelude.{◌≡◌, ◌↔◌, ◌-◌, ◌^◌, ◌<◌, ◌≤◌, List, Some, None, length, slice_get, IsTrue, IfOk};
+ghost use Rattle.std.specs.Prelude.{IfErr, IfSome, OnOk, MatchOption};
 ghost use Rattle.std.specs.List.{AllByRecursion};
 ghost use Rattle.prop_queue.specs.declared.pending.Pending.{Pending as Entries};
 ghost use Rattle.ad_schema.specs.declared.line.SchemaRecord.{SchemaRecord};
@@ -46,7 +47,8 @@ fn is_frame(
     requires few { length objects.now ≤ 65_536 }
     requires rise { Rise (objects_of objects.now) }
     ensures { IfOk result (λ is. (pending : List Entries)
-        → IsTrue is ↔ IsSoundFrame (dir_of schema.now (objects_of objects.now) pending (meta_seen meta.now))) }
+        → IsTrue is ↔ IsSoundFrame (dir_of schema.now (objects_of objects.now) pending
+        (meta_seen meta.now))) }
 {
     let Some(root) = entry_of(objects, 1) else {
         return Ok(false);
@@ -70,7 +72,9 @@ fn is_frame(
 // The number of the object at a place, where a place was found.
 fn number_at(objects: &[Entry], place: Option<u32>) -> Option<u32>
     requires { IfSome place (λ i. i < length objects.now) }
-    ensures { MatchOption place (result ≡ None) (λ i. (o : ObjectOf) → slice_get (objects_of objects.now) i ≡ Some o → result ≡ Some o.number) }
+    ensures { MatchOption place (result ≡ None)
+        (λ i. (o : ObjectOf) → slice_get (objects_of objects.now) i ≡ Some o → result
+        ≡ Some o.number) }
 {
     match place {
         Some(place) => Some(objects[place as usize].0.number),
@@ -82,7 +86,8 @@ fn number_at(objects: &[Entry], place: Option<u32>) -> Option<u32>
 fn same_name(alloc: Global, objects: &[Entry]) -> Result<Option<u32>, AllocError>
     requires few { length objects.now < 2 ^ 32 - 1 }
     requires rise { Rise (objects_of objects.now) }
-    ensures { IfOk result (IsLeastObject (HasNameAlone (objects_of objects.now)) (objects_of objects.now)) }
+    ensures { IfOk result (IsLeastObject (HasNameAlone (objects_of objects.now))
+        (objects_of objects.now)) }
 {
     let keys = name_keys(alloc, objects)?;
     let place = first_clash(alloc, keys)?;
@@ -94,7 +99,8 @@ fn same_sid(alloc: Global, schema: &Schema, objects: &[Entry]) -> Result<Option<
     requires few { length objects.now < 2 ^ 32 - 1 }
     requires rise { Rise (objects_of objects.now) }
     requires small { AllByRecursion HasSmallNumber (objects_of objects.now) }
-    ensures { IfOk result (IsLeastObject (HasOwnSid schema.now (objects_of objects.now)) (objects_of objects.now)) }
+    ensures { IfOk result (IsLeastObject (HasOwnSid schema.now (objects_of objects.now))
+        (objects_of objects.now)) }
 {
     let keys = sid_keys(alloc, schema, objects)?;
     let place = first_clash(alloc, keys)?;
@@ -113,8 +119,10 @@ fn first_unsound(
     requires rise { Rise (objects_of objects.now) }
     requires small { AllByRecursion HasSmallNumber (objects_of objects.now) }
     ensures bad { IfOk result (λ first. first ≡ None → bad ≡ None) }
-    ensures least { IfOk result (λ first. IsLeastObject (IsContent schema.now) (objects_of objects.now) bad → (meta : MetaOf)
-        → IsLeastObject (IsSoundAmong (dir_of schema.now (objects_of objects.now) pending.now meta)) (objects_of objects.now) first) }
+    ensures least { IfOk result (λ first. IsLeastObject (IsContent schema.now)
+        (objects_of objects.now) bad → (meta : MetaOf)
+        → IsLeastObject (IsSoundAmong (dir_of schema.now (objects_of objects.now) pending.now meta))
+        (objects_of objects.now) first) }
 {
     let waiting = Waiting::of(alloc, pending)?;
     let astray = first_astray(alloc, schema, objects, &waiting)?;
@@ -132,7 +140,8 @@ fn first_bad_pending(
     pending: &[Pending],
 ) -> Result<Option<u32>, AllocError>
     requires { Rise (objects_of objects.now) }
-    ensures { IfOk result (λ bad. (schema : List SchemaRecord) (meta : MetaOf) → MatchOption bad (ArePending (objects_of objects.now) pending.now)
+    ensures { IfOk result (λ bad. (schema : List SchemaRecord) (meta : MetaOf)
+        → MatchOption bad (ArePending (objects_of objects.now) pending.now)
         (IsFirstBadPending (dir_of schema (objects_of objects.now) pending.now meta))) }
 {
     let mut parents = BTreeSet::new(alloc);
@@ -163,9 +172,11 @@ pub fn judge(
     meta: &Meta,
 ) -> Result<(), SoundnessFault>
     requires { AreObjects schema.now bad (objects_of objects.now) }
-    ensures sound { OnOk result (IsSound (dir_of schema.now (objects_of objects.now) pending.now (meta_seen meta.now))) }
+    ensures sound { OnOk result (IsSound
+        (dir_of schema.now (objects_of objects.now) pending.now (meta_seen meta.now))) }
     ensures told { IsLeastObject (IsContent schema.now) (objects_of objects.now) bad
-        → IfErr result (IsToldBy (dir_of schema.now (objects_of objects.now) pending.now (meta_seen meta.now))) }
+        → IfErr result (IsToldBy (dir_of schema.now (objects_of objects.now) pending.now
+        (meta_seen meta.now))) }
 {
     if objects.len() > MAX_OBJECTS {
         return Err(SoundnessFault::Unsound(0));

@@ -96,7 +96,8 @@ pub(crate) fn is_settled<'a>(
     parent: &'a Entry,
     entry: &'a Entry,
 ) -> Result<bool, AllocError>
-    ensures { IfOk result (λ is. IsTrue is ↔ (entry.now.1 ≡ whole parent.now.1 entry.now.1 (guid_at schema.now entry.now.0.class.0))) }
+    ensures { IfOk result (λ is. IsTrue is
+        ↔ (entry.now.1 ≡ whole parent.now.1 entry.now.1 (guid_at schema.now entry.now.0.class.0))) }
 {
     let class = guid_of(schema, entry.0.class);
     if is_known(last, &parent.1, &entry.1, class) {

@@ -16,7 +16,8 @@ use ad_schema::Schema;
 use std::alloc::{AllocError, Global};
 
 fn is_root(alloc: Global, entry: &Entry) -> Result<bool, AllocError>
-    ensures { IfOk result (λ is. IsTrue is ↔ ((entry.now.0.parent ≡ 0) × (explicit_part entry.now.1 ≡ entry.now.1))) }
+    ensures { IfOk result (λ is. IsTrue is
+        ↔ ((entry.now.0.parent ≡ 0) × (explicit_part entry.now.1 ≡ entry.now.1))) }
 {
     if entry.0.parent != 0 {
         return Ok(false);
@@ -34,7 +35,8 @@ fn inherits<'a>(
     pending: &Waiting<'_>,
     entry: &'a Entry,
 ) -> Result<bool, AllocError>
-    ensures { IfOk result (λ is. IsTrue is ↔ ((entry.now.1 ≡ whole parent.now.1 entry.now.1 (guid_at schema.now entry.now.0.class.0))
+    ensures { IfOk result (λ is. IsTrue is
+        ↔ ((entry.now.1 ≡ whole parent.now.1 entry.now.1 (guid_at schema.now entry.now.0.class.0))
         ⊎ (covers pending.now entry.now.0.parent entry.now.0.number ≡ true))) }
 {
     if pending.covers(entry.0.parent, entry.0.number) {
@@ -53,7 +55,8 @@ fn is_below<'a>(
     entry: &'a Entry,
 ) -> Result<bool, AllocError>
     requires { Rise (objects_of objects.now) }
-    ensures { IfOk result (λ is. IsTrue is ↔ IsPlacedBy false schema.now (objects_of objects.now) pending.now (object_seen entry.now.0 entry.now.1)) }
+    ensures { IfOk result (λ is. IsTrue is ↔ IsPlacedBy false schema.now (objects_of objects.now)
+        pending.now (object_seen entry.now.0 entry.now.1)) }
 {
     let Some(parent) = entry_of(objects, entry.0.parent) else {
         return Ok(false);
@@ -73,7 +76,8 @@ fn stands<'a>(
     entry: &'a Entry,
 ) -> Result<bool, AllocError>
     requires { Rise (objects_of objects.now) }
-    ensures { IfOk result (λ is. IsTrue is ↔ IsStanding schema.now (objects_of objects.now) pending.now (object_seen entry.now.0 entry.now.1)) }
+    ensures { IfOk result (λ is. IsTrue is ↔ IsStanding schema.now (objects_of objects.now)
+        pending.now (object_seen entry.now.0 entry.now.1)) }
 {
     if !has_live_links(objects, entry.0.values.as_slice()) {
         return Ok(false);
@@ -93,7 +97,8 @@ pub(crate) fn first_astray(
     pending: &Waiting<'_>,
 ) -> Result<Option<u32>, AllocError>
     requires { Rise (objects_of objects.now) }
-    ensures { IfOk result (IsLeastObject (IsStanding schema.now (objects_of objects.now) pending.now) (objects_of objects.now)) }
+    ensures { IfOk result (IsLeastObject
+        (IsStanding schema.now (objects_of objects.now) pending.now) (objects_of objects.now)) }
 {
     let mut last = None;
     for entry in objects {

@@ -21,20 +21,29 @@ pub record AreWritten (all left : List (ObjectIn × Sd)) (old new : List Row) : 
 pub none_written : (all left : List (ObjectIn × Sd)) (old : List Row) → left ≡ all → AreWritten all left old old
 none_written all left old is = record { done = []; are = ap objects_of is; rows = adds_none 1 SpellsObject old }
 
-pub one_written : (all left rest : List (ObjectIn × Sd)) (o : ObjectIn) (sd : Sd) (old mid new : List Row) (row : Row) → left ≡ (o, sd) ∷ rest → AreWritten all left old mid
+pub one_written : (all left rest : List (ObjectIn × Sd)) (o : ObjectIn) (sd : Sd) (old mid new : List Row) (row : Row)
+    → left ≡ (o, sd) ∷ rest → AreWritten all left old mid
     → IsRowAt 1 SpellsObject (numbered (object_seen o sd)) row → new ≡ mid ++ row ∷ [] → AreWritten all rest old new
 one_written all left rest o sd old mid new row step so_far is put =
     let seen : Object = object_seen o sd in
     record {
       done = so_far.done ++ seen ∷ [];
-      are = append_assoc so_far.done (seen ∷ []) (objects_of rest) ∙ ap (λ (l : List (ObjectIn × Sd)). so_far.done ++ objects_of l) (sym step) ∙ so_far.are;
-      rows = adds_push 1 SpellsObject (map numbered so_far.done) (map numbered (so_far.done ++ seen ∷ [])) (numbered seen) old mid new row (sym (map-append numbered so_far.done (seen ∷ []))) so_far.rows is put;
+      are = append_assoc so_far.done (seen ∷ []) (objects_of rest)
+          ∙ ap (λ (l : List (ObjectIn × Sd)). so_far.done ++ objects_of l) (sym step) ∙ so_far.are;
+      rows = adds_push 1 SpellsObject (map numbered so_far.done) (map numbered (so_far.done ++ seen ∷ []))
+          (numbered seen) old mid new row (sym (map-append numbered so_far.done (seen ∷ []))) so_far.rows is put;
     }
 
-pub all_written : (all left : List (ObjectIn × Sd)) (old new : List Row) → length left ≡ 0 → AreWritten all left old new → Adds (AreRowsAt 1 SpellsObject (map numbered (objects_of all))) old new
-all_written all [] old new none so_far = subst (λ (os : List Object). Adds (AreRowsAt 1 SpellsObject (map numbered os)) old new) (sym (append-nil so_far.done) ∙ so_far.are) so_far.rows
+pub all_written : (all left : List (ObjectIn × Sd)) (old new : List Row) → length left ≡ 0 → AreWritten all left old
+    new → Adds (AreRowsAt 1 SpellsObject (map numbered (objects_of all))) old new
+all_written all [] old new none so_far = subst
+    (λ (os : List Object). Adds (AreRowsAt 1 SpellsObject (map numbered os)) old new)
+    (sym (append-nil so_far.done) ∙ so_far.are) so_far.rows
 all_written all (x ∷ xs) old new none so_far = absurd (omega (arith, none))
 
 -- the same by their numbers
-pub put_by_number : (os : List Object) (old new : List Row) → Rise os → Adds (AreRowsAt 1 SpellsObject (map numbered os)) old new → Adds (AreRowsAt 1 SpellsObject (objects_at os (numbers os))) old new
-put_by_number os old new rise put = subst (λ (pairs : List (ℕ × Object)). Adds (AreRowsAt 1 SpellsObject pairs) old new) (sym (pairs_are os rise)) put
+pub put_by_number : (os : List Object) (old new : List Row) → Rise os
+    → Adds (AreRowsAt 1 SpellsObject (map numbered os)) old new
+    → Adds (AreRowsAt 1 SpellsObject (objects_at os (numbers os))) old new
+put_by_number os old new rise put = subst (λ (pairs : List (ℕ × Object)). Adds (AreRowsAt 1 SpellsObject pairs) old
+    new) (sym (pairs_are os rise)) put

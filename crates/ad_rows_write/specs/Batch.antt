@@ -1,5 +1,6 @@
 -- The rows that the edits of one commit change.
-use Rattle.std.specs.Prelude.{◌≡◌, ℕ, ◌==◌, ◌&&◌, Bool, if◌then◌else◌, Option, Some, None, List, [], ◌∷◌, find, MatchOption}
+use Rattle.std.specs.Prelude.{◌≡◌, ℕ, ◌==◌, ◌&&◌, Bool, if◌then◌else◌, Option, Some, None, List, [], ◌∷◌, find}
+use Rattle.std.specs.Prelude.{MatchOption}
 use Rattle.row_store.specs.declared.row.Row.{Row}
 use Rattle.row_store.specs.Table.{is_of, ComesBefore}
 use Rattle.ad_dir_model.specs.Directory.{Edit, put_object, remove_object, put_queue, put_meta}
@@ -24,7 +25,8 @@ changes kind number edit = (kind_of edit == kind) && (number_of edit == number)
 -- the last of the edits that changes the row of a kind and number, or the one from before
 abbrev pub last_change : ℕ → ℕ → Option Edit → List Edit → Option Edit
 last_change kind number before [] = before
-last_change kind number before (edit ∷ edits) = last_change kind number (if changes kind number edit then Some edit else before) edits
+last_change kind number before (edit ∷ edits) = last_change kind number
+    (if changes kind number edit then Some edit else before) edits
 
 abbrev pub row_at : ℕ → ℕ → List Row → Option Row
 row_at kind number rows = find (is_of kind number) rows
@@ -41,4 +43,5 @@ HasRowOf rows kind number edit = (row : Row) × (row_at kind number rows ≡ Som
 -- The rows of a batch: by rising kind and number, one for each that an edit changes, and that of the last such edit.
 pub record AreRowsOfEdits (edits : List Edit) (rows : List Row) : Type 0 where
   pub rise : RowsRise rows
-  pub last : (kind number : ℕ) → MatchOption (last_change kind number None edits) (row_at kind number rows ≡ None) (HasRowOf rows kind number)
+  pub last : (kind number : ℕ) → MatchOption (last_change kind number None edits) (row_at kind number rows ≡ None)
+      (HasRowOf rows kind number)

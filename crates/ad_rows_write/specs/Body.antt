@@ -49,7 +49,8 @@ SpellsName rdns text = AreRdns rdns × SpellsText (rdns_text rdns) text
 
 -- the counters, and the name above the root
 abbrev pub SpellsMeta : Meta → List ℕ → Type 0
-SpellsMeta meta text = StartsWith (SpellsBe 4) meta.next_number (StartsWith (SpellsBe 4) meta.next_rid (SpellsName meta.suffix)) text
+SpellsMeta meta text = StartsWith (SpellsBe 4) meta.next_number
+    (StartsWith (SpellsBe 4) meta.next_rid (SpellsName meta.suffix)) text
 
 abbrev pub kind_byte : SchemaKind → ℕ
 kind_byte Attribute = 0

@@ -24,7 +24,8 @@ const RECORDS: u8 = 4;
 
 // The row of an object that was found.
 fn described_row(alloc: Global, dir: &Dir, number: u32, object: &Object) -> Result<Row, AllocError>
-    requires { object_of dir.now.objects number ≡ Some (object_seen object.now (sd_at dir.now.objects number)) }
+    requires { object_of dir.now.objects number
+        ≡ Some (object_seen object.now (sd_at dir.now.objects number)) }
     ensures { IfOk result (IsRowAt 1 SpellsObject (number, object_at dir.now.objects number)) }
 {
     match dir.sd(number) {
@@ -49,7 +50,9 @@ fn object_row(alloc: Global, dir: &Dir, number: u32) -> Result<Row, AllocError>
 // The rows of the objects of these numbers.
 fn put_each<R: RowList>(alloc: Global, into: R, dir: &Dir, live: &[u32]) -> Result<R, AllocError>
     requires { live.now ≡ numbers dir.now.objects }
-    ensures { IfOk result (λ rows. Adds (AreRowsAt 1 SpellsObject (objects_at dir.now.objects live.now)) (R.rows into) (R.rows rows)) }
+    ensures { IfOk result (λ rows. Adds
+        (AreRowsAt 1 SpellsObject (objects_at dir.now.objects live.now)) (R.rows into)
+        (R.rows rows)) }
 {
     let mut rows = into;
     for number in live {
@@ -61,7 +64,9 @@ fn put_each<R: RowList>(alloc: Global, into: R, dir: &Dir, live: &[u32]) -> Resu
 
 // The rows of all objects.
 fn put_objects<R: RowList>(alloc: Global, into: R, dir: &Dir) -> Result<R, AllocError>
-    ensures { IfOk result (λ rows. Adds (AreRowsAt 1 SpellsObject (objects_at dir.now.objects (numbers dir.now.objects))) (R.rows into) (R.rows rows)) }
+    ensures { IfOk result (λ rows. Adds
+        (AreRowsAt 1 SpellsObject (objects_at dir.now.objects (numbers dir.now.objects)))
+        (R.rows into) (R.rows rows)) }
 {
     let live = dir.numbers(alloc)?;
     put_each(alloc, into, dir, live.as_slice())
@@ -94,7 +99,8 @@ fn put_records<R: RowList>(
     into: R,
     records: &[SchemaRecord],
 ) -> Result<R, AllocError>
-    ensures { IfOk result (λ rows. Adds (AreRowsAt 4 SpellsRecord (counted 0 records.now)) (R.rows into) (R.rows rows)) }
+    ensures { IfOk result (λ rows. Adds (AreRowsAt 4 SpellsRecord (counted 0 records.now))
+        (R.rows into) (R.rows rows)) }
 {
     let mut rows = into;
     for i in 0..records.len() {
@@ -113,7 +119,8 @@ pub(crate) fn put_rest<R: RowList>(
     meta: &Meta,
     records: &[SchemaRecord],
 ) -> Result<R, AllocError>
-    ensures { IfOk result (λ rows. (objects : List ObjectOf) → Rise objects → AreRowsAt 1 SpellsObject (objects_at objects (numbers objects)) (R.rows into)
+    ensures { IfOk result (λ rows. (objects : List ObjectOf) → Rise objects
+        → AreRowsAt 1 SpellsObject (objects_at objects (numbers objects)) (R.rows into)
         → AreAllOf (dir_of records.now objects pending.now (meta_seen meta.now)) (R.rows rows)) }
 {
     let queue = row(QUEUE, 0, queue_body(alloc, pending)?);

@@ -53,7 +53,8 @@ impl Batch {
     /// Out of memory. What was noted stays.
     pub fn note(&mut self, edit: &Edit) -> Result<(), AllocError>
         requires { HasNormal edit.now }
-        ensures noted { OnOk result ((edits : List EditOf) → AreRowsOfEdits edits self.old → AreRowsOfEdits (edits ++ edit_seen edit.now ∷ []) self.new) }
+        ensures noted { OnOk result ((edits : List EditOf) → AreRowsOfEdits edits self.old
+            → AreRowsOfEdits (edits ++ edit_seen edit.now ∷ []) self.new) }
         ensures err { OnErr result (self.new ≡ self.old) }
     {
         let row = row_of(self.alloc, edit)?;
@@ -77,8 +78,10 @@ type Noted = BTreeMap<(u8, u64), Option<Bytes>>;
 
 // One row more, in the place of the one of its kind and number.
 fn put(noted: &mut Noted, row: Row) -> Result<(), AllocError>
-    ensures rows { OnOk result ((kind number : ℕ) → row_at kind number (rows_noted noted.new.entries)
-        ≡ (if is_of kind number row then Some row else row_at kind number (rows_noted noted.old.entries))) }
+    ensures rows { OnOk result ((kind number : ℕ)
+        → row_at kind number (rows_noted noted.new.entries)
+        ≡ (if is_of kind number row then Some row
+        else row_at kind number (rows_noted noted.old.entries))) }
     ensures rise { OnOk result (RowsRise (rows_noted noted.new.entries)) }
     ensures err { OnErr result (noted.new.entries ≡ noted.old.entries) }
 {

@@ -31,7 +31,8 @@ fn write_entries(
     into: WrittenRows,
     objects: Vec<(Object, NormalSd)>,
 ) -> Result<WrittenRows, AllocError>
-    ensures { IfOk result (Adds (AreRowsAt 1 SpellsObject (map numbered (objects_of objects.items))) into) }
+    ensures { IfOk result (Adds (AreRowsAt 1 SpellsObject (map numbered (objects_of objects.items)))
+        into) }
 {
     let mut written = into;
     for (object, sd) in objects {
@@ -55,7 +56,9 @@ pub fn write_parts(
     meta: &Meta,
 ) -> Result<WrittenRows, AllocError>
     requires { Rise (objects_of objects.items) }
-    ensures rows { IfOk result (λ rows. AreRowsOf (dir_of schema.now (objects_of objects.items) [] (meta_seen meta.now)) (table_of rows)) }
+    ensures rows { IfOk result (λ rows.
+        AreRowsOf (dir_of schema.now (objects_of objects.items) [] (meta_seen meta.now))
+        (table_of rows)) }
     ensures listed { IfOk result (λ rows. AreListed rows) }
 {
     let none = WrittenRows::new(alloc, 0)?;

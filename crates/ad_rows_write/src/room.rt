@@ -23,7 +23,8 @@ const EIGHT: usize = 8;
 
 // Room for the row of an object that was found.
 fn described_room(dir: &Dir, number: u32, object: &Object) -> usize
-    requires { object_of dir.now.objects number ≡ Some (object_seen object.now (sd_at dir.now.objects number)) }
+    requires { object_of dir.now.objects number
+        ≡ Some (object_seen object.now (sd_at dir.now.objects number)) }
 {
     match dir.sd(number) {
         Some(sd) => room_for(object, sd.as_bytes()).saturating_add(BESIDE_BODY),

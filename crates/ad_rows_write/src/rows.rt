@@ -93,7 +93,8 @@ pub(crate) fn room_for(object: &Object, sd: &[u8]) -> usize {
 
 /// An object, and the normal bytes of its descriptor.
 pub(crate) fn object_body(alloc: Global, object: &Object, sd: &[u8]) -> Result<Vec<u8>, AllocError>
-    ensures { IfOk result (λ body. (of : SdValue) → SpellsNormal of sd.now → SpellsObject (object_seen object.now of) body.items) }
+    ensures { IfOk result (λ body. (of : SdValue) → SpellsNormal of sd.now
+        → SpellsObject (object_seen object.now of) body.items) }
 {
     let mut body = Vec::with_capacity(alloc, room_for(object, sd))?;
     put4(&mut body, object.parent)?;

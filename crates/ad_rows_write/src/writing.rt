@@ -5,7 +5,8 @@ ghost use Rattle.ad_bytes.specs.Numbers.{be_bytes, SpellsBe, SpellsByte};
 ghost use Rattle.ad_bytes.specs.Reading.{SpellsEach};
 ghost use Rattle.ad_dir_model.specs.Object.{link};
 ghost use Rattle.ad_dir_objects.specs.Seen.{stored_seen, held_seen};
-ghost use Rattle.ad_rows_write.specs.Body.{SpellsText, SpellsList, SpellsStored, SpellsHeld, SpellsPending, SpellsLine, SpellsRecord, kind_byte};
+ghost use Rattle.ad_rows_write.specs.Body.{SpellsText, SpellsList, SpellsStored, SpellsHeld, SpellsPending};
+ghost use Rattle.ad_rows_write.specs.Body.{SpellsLine, SpellsRecord, kind_byte};
 ghost use Rattle.ad_rows_write.specs.Puts.{Puts};
 
 use ad_bytes::Few;

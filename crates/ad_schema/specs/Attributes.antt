@@ -1,5 +1,6 @@
 -- What the records of attributes and rights say.
-use Rattle.std.specs.Prelude.{ℕ, ◌^◌, Bool, true, false, List, [], ◌∷◌, ◌==◌, Option, Some, None, unwrap_or, filter, map, filter_map, find, if◌then◌else◌}
+use Rattle.std.specs.Prelude.{ℕ, ◌^◌, Bool, true, false, List, [], ◌∷◌, ◌==◌, Option, Some, None, unwrap_or, filter}
+use Rattle.std.specs.Prelude.{map, filter_map, find, if◌then◌else◌}
 use Rattle.std.specs.Int.{bit_at}
 use Rattle.std.specs.Option.{option_map, option_and_then}
 use Rattle.ad_ids.specs.Guid.{same_guid}

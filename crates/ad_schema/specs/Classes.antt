@@ -1,5 +1,6 @@
 -- What the records of classes say.
-use Rattle.std.specs.Prelude.{ℕ, ◌+◌, ◌^◌, Bool, false, ◌||◌, ◌==◌, List, [], ◌∷◌, ◌++◌, codes, Option, None, unwrap_or, map, filter_map, if◌then◌else◌}
+use Rattle.std.specs.Prelude.{ℕ, ◌+◌, ◌^◌, Bool, false, ◌||◌, ◌==◌, List, [], ◌∷◌, ◌++◌, codes, Option, None}
+use Rattle.std.specs.Prelude.{unwrap_or, map, filter_map, if◌then◌else◌}
 use Rattle.std.specs.List.{list_any}
 use Rattle.std.specs.Option.{option_map, option_and_then, option_to_list}
 use Rattle.ad_ids.specs.declared.guid.Guid.{Guid}
@@ -27,7 +28,8 @@ class_named records name = option_map (λ n. record { 0 = n }) (place_of (names_
 -- The superclass. A class that is its own subClassOf has none.
 unfoldable pub superclass : List (List ℕ) → List Line → Option ℕ
 superclass classes lines =
-    if same_name (text_of field.SubClassOf lines) (text_of field.DisplayName lines) then None else place_of classes (text_of field.SubClassOf lines)
+    if same_name (text_of field.SubClassOf lines) (text_of field.DisplayName lines) then None
+    else place_of classes (text_of field.SubClassOf lines)
 
 -- its own naming attribute
 unfoldable pub own_naming : List (List ℕ) → List Line → Option ℕ
@@ -48,7 +50,8 @@ superiors classes lines = places_of classes field.Superiors field.SystemSuperior
 
 -- its auxiliary classes and its superclass
 unfoldable pub neighbours : List (List ℕ) → List Line → List ℕ
-neighbours classes lines = places_of classes field.Auxiliary field.SystemAuxiliary lines ++ option_to_list (superclass classes lines)
+neighbours classes lines = places_of classes field.Auxiliary field.SystemAuxiliary lines
+    ++ option_to_list (superclass classes lines)
 
 -- ---- all classes
 
@@ -82,7 +85,8 @@ cn_of attrs = unwrap_or (place_of attrs (codes "cn")) 0
 
 -- its rDNAttID, else that of its superclass, else cn
 unfoldable pub naming_of : List SchemaRecord → ℕ → ℕ
-naming_of records class = naming_by (superclasses records) (own_namings records) (cn_of (names_of Attribute records)) class
+naming_of records class = naming_by (superclasses records) (own_namings records) (cn_of (names_of Attribute records))
+    class
 
 -- ---- the infos
 
@@ -103,11 +107,13 @@ class_info above naming lines = record {
 -- those of the classes from place n on
 unfoldable pub class_infos : List (Option ℕ) → List (Option ℕ) → ℕ → ℕ → List (List Line) → List ClassInfo
 class_infos above own cn n [] = []
-class_infos above own cn n (lines ∷ rest) = class_info (option_at above n) (naming_by above own cn n) lines ∷ class_infos above own cn (n + 1) rest
+class_infos above own cn n (lines ∷ rest) = class_info (option_at above n) (naming_by above own cn n) lines
+    ∷ class_infos above own cn (n + 1) rest
 
 -- the classes, in file order: a ClassId is a place in this list
 unfoldable pub classes_of : List SchemaRecord → List ClassInfo
-classes_of records = class_infos (superclasses records) (own_namings records) (cn_of (names_of Attribute records)) 0 (lines_of Class records)
+classes_of records = class_infos (superclasses records) (own_namings records) (cn_of (names_of Attribute records)) 0
+    (lines_of Class records)
 
 -- ---- attributes of a class
 
@@ -120,7 +126,8 @@ is_may records class attr = listed (set_of (all_neighbours records) class) 0 (al
 
 -- must or may, of a class of the set, or the naming attribute
 unfoldable pub is_allowed : List SchemaRecord → ℕ → ℕ → Bool
-is_allowed records class attr = is_must records class attr || is_may records class attr || naming_of records class == attr
+is_allowed records class attr = is_must records class attr || is_may records class attr || naming_of records class
+    == attr
 
 -- ---- classes above and below
 
@@ -128,7 +135,8 @@ is_allowed records class attr = is_must records class attr || is_may records cla
 -- possible superior that is in the parent's chain.
 unfoldable pub is_under : List SchemaRecord → ℕ → ℕ → Bool
 is_under records child parent =
-    list_any (λ class. list_any (contains (chain_of records parent)) (list_at (all_superiors records) class)) (chain_of records child)
+    list_any (λ class. list_any (contains (chain_of records parent)) (list_at (all_superiors records) class))
+    (chain_of records child)
 
 unfoldable pub class_guids : List SchemaRecord → List Guid
 class_guids records = map class_guid (lines_of Class records)

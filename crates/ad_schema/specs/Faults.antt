@@ -16,12 +16,14 @@ is_bad before value field = not (reads field value) || not (is_list field) && ha
 
 -- what such a line says
 unfoldable pub bad_line : SchemaKind → List Line → Line → Option Field
-bad_line kind before line = option_and_then (λ field. if is_bad before line.value field then Some field else None) (field_of kind line)
+bad_line kind before line = option_and_then (λ field. if is_bad before line.value field then Some field else None)
+    (field_of kind line)
 
 -- the first such line, after the lines before
 unfoldable pub bad_behind : SchemaKind → List Line → List Line → Option Field
 bad_behind kind before [] = None
-bad_behind kind before (line ∷ lines) = option_or (bad_line kind before line) (bad_behind kind (before ++ line ∷ []) lines)
+bad_behind kind before (line ∷ lines) = option_or (bad_line kind before line)
+    (bad_behind kind (before ++ line ∷ []) lines)
 
 unfoldable pub bad_value : SchemaKind → List Line → Option Field
 bad_value kind lines = bad_behind kind [] lines

@@ -1,5 +1,6 @@
 -- The lines of a record: which have a meaning in a record of a kind, which are required, and how their values read.
-use Rattle.std.specs.Prelude.{ℕ, ◌^◌, Bool, true, false, ◌||◌, List, [], ◌∷◌, codes, Option, None, find, map, filter, is_some, unwrap_or, if◌then◌else◌}
+use Rattle.std.specs.Prelude.{ℕ, ◌^◌, Bool, true, false, ◌||◌, List, [], ◌∷◌, codes, Option, None, find, map, filter}
+use Rattle.std.specs.Prelude.{is_some, unwrap_or, if◌then◌else◌}
 use Rattle.std.specs.List.{list_any}
 use Rattle.std.specs.Option.{option_map}
 use Rattle.ad_dn.specs.AttributeType.{is_type}
@@ -106,7 +107,8 @@ text_of field lines = unwrap_or (value_of field lines) []
 
 -- the values of all lines of one of two names, in order
 unfoldable pub values_of : Field → Field → List Line → List (List ℕ)
-values_of field system lines = map (λ line. line.value) (filter (λ line. is_line_of field line || is_line_of system line) lines)
+values_of field system lines = map (λ line. line.value)
+    (filter (λ line. is_line_of field line || is_line_of system line) lines)
 
 -- what a line of one of two names gives
 unfoldable pub value_if : {A : Type 0} → (List ℕ → Option A) → Field → Field → Line → Option A

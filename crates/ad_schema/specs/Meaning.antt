@@ -1,6 +1,7 @@
 -- What attributes and classes are to a directory: links and back links, the attributes that no object lacks, those
 -- that rules name, and which class is in the chain of another.
-use Rattle.std.specs.Prelude.{ℕ, ◌%◌, Bool, true, false, not, ◌&&◌, ◌||◌, ◌==◌, List, codes, Option, Some, None, slice_get, if◌then◌else◌}
+use Rattle.std.specs.Prelude.{ℕ, ◌%◌, Bool, true, false, not, ◌&&◌, ◌||◌, ◌==◌, List, codes, Option, Some, None}
+use Rattle.std.specs.Prelude.{slice_get, if◌then◌else◌}
 use Rattle.std.specs.Option.{option_map_or, option_and_then}
 use Rattle.ad_value.specs.declared.syntax.Syntax.{Syntax}
 use Rattle.ad_value.specs.declared.syntax.Syntax.TheVariants as syntax
@@ -33,7 +34,8 @@ is_of_names _ = false
 
 -- an attribute with even linkID and the syntax of names
 unfoldable pub is_link : AttrInfo → Bool
-is_link info = not (is_neither info.name) && option_map_or (λ id. id % 2 == 0) info.link false && is_of_names info.syntax
+is_link info = not (is_neither info.name) && option_map_or (λ id. id % 2 == 0) info.link false
+    && is_of_names info.syntax
 
 -- the same of the attribute of this place
 unfoldable pub attr_is_link : List SchemaRecord → ℕ → Bool
@@ -58,7 +60,8 @@ is_given name =
 -- No object of the class lacks the attribute: it has one of these names, or is the class's naming attribute.
 unfoldable pub is_never_missing : List SchemaRecord → ℕ → ℕ → Bool
 is_never_missing records class attr =
-    naming_of records class == attr || option_map_or (λ info. is_computed info.name || is_given info.name) (slice_get (attrs_of records) attr) false
+    naming_of records class == attr || option_map_or (λ info. is_computed info.name || is_given info.name)
+    (slice_get (attrs_of records) attr) false
 
 -- ---- attributes that rules name
 
@@ -90,7 +93,8 @@ counts rule.Member info = is_link info
 
 -- the attribute at a place, where it counts
 unfoldable pub if_counts : List SchemaRecord → RuleAttr → AttrId → Option AttrId
-if_counts records rule id = if option_map_or (counts rule) (slice_get (attrs_of records) id.0) false then Some id else None
+if_counts records rule id = if option_map_or (counts rule) (slice_get (attrs_of records) id.0) false then Some id
+    else None
 
 -- The attribute that a rule means. Where there is none, no object has a value for the rule.
 unfoldable pub attr_of_rule : List SchemaRecord → RuleAttr → Option AttrId

@@ -1,5 +1,6 @@
 -- Texts of numbers and truth values.
-use Rattle.std.specs.Prelude.{ℕ, ◌+◌, ◌-◌, ◌*◌, ◌^◌, nat_lt, Bool, true, false, ◌==◌, List, [], ◌∷◌, codes, Option, Some, None, if◌then◌else◌}
+use Rattle.std.specs.Prelude.{ℕ, ◌+◌, ◌-◌, ◌*◌, ◌^◌, nat_lt, Bool, true, false, ◌==◌, List, [], ◌∷◌, codes, Option}
+use Rattle.std.specs.Prelude.{Some, None, if◌then◌else◌}
 use Rattle.std.specs.Option.{option_and_then}
 use Rattle.std.specs.Char.{is_ascii_digit}
 pub use Rattle.ad_schema_classes.specs.Names.{same_name}
@@ -38,4 +39,5 @@ signed_bits (b ∷ text) =
 
 -- TRUE or FALSE, in either case
 unfoldable pub truth_of : List ℕ → Option Bool
-truth_of text = if same_name text (codes "TRUE") then Some true else (if same_name text (codes "FALSE") then Some false else None)
+truth_of text = if same_name text (codes "TRUE") then Some true
+    else (if same_name text (codes "FALSE") then Some false else None)

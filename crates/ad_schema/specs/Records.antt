@@ -82,7 +82,8 @@ names_nothing attrs classes field.SystemMayContain value = is_none (place_of att
 names_nothing attrs classes _ value = false
 
 unfoldable pub is_unknown : List (List ℕ) → List (List ℕ) → Line → Bool
-is_unknown attrs classes line = elim (field_of Class line) [ None ↦ false | Some field ↦ names_nothing attrs classes field line.value ]
+is_unknown attrs classes line = elim (field_of Class line)
+    [ None ↦ false | Some field ↦ names_nothing attrs classes field line.value ]
 
 -- the first such value in the record of a class, and in all of them
 unfoldable pub unknown_in : List (List ℕ) → List (List ℕ) → List Line → Option (List ℕ)
@@ -90,7 +91,8 @@ unknown_in attrs classes lines = option_map (λ line. line.value) (find (is_unkn
 
 unfoldable pub first_unknown : List (List ℕ) → List (List ℕ) → List (List Line) → Option (List ℕ)
 first_unknown attrs classes [] = None
-first_unknown attrs classes (lines ∷ records) = option_or (unknown_in attrs classes lines) (first_unknown attrs classes records)
+first_unknown attrs classes (lines ∷ records) = option_or (unknown_in attrs classes lines)
+    (first_unknown attrs classes records)
 
 unfoldable pub unknown : List SchemaRecord → Option (List ℕ)
 unknown records = first_unknown (names_of Attribute records) (names_of Class records) (lines_of Class records)

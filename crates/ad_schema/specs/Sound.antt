@@ -1,5 +1,6 @@
 -- Which lists of records a builder and a schema have, and what follows for what is looked up in them.
-use Rattle.std.specs.Prelude.{◌≡◌, ℕ, ◌^◌, ◌<◌, Bool, true, ◌&&◌, List, [], ◌∷◌, ◌++◌, length, position, slice_get, is_ok, Some}
+use Rattle.std.specs.Prelude.{◌≡◌, ℕ, ◌^◌, ◌<◌, Bool, true, ◌&&◌, List, [], ◌∷◌, ◌++◌, length, position, slice_get}
+use Rattle.std.specs.Prelude.{is_ok, Some}
 use Rattle.std.specs.Option.{option_map_or}
 use Rattle.ad_ids.specs.declared.guid.Guid.{Guid}
 use Rattle.ad_schema.specs.declared.line.SchemaKind.TheVariants.{Attribute, Class}
@@ -33,7 +34,8 @@ abbrev pub AreDistinct : List (List ℕ) → Type 0
 AreDistinct names = (i : ℕ) (name : List ℕ) → slice_get names i ≡ Some name → place_of names name ≡ Some i
 
 abbrev pub AreDistinctGuids : List Guid → Type 0
-AreDistinctGuids guids = (i : ℕ) (guid : Guid) → slice_get guids i ≡ Some guid → position (λ other. same_guid other guid) guids ≡ Some i
+AreDistinctGuids guids = (i : ℕ) (guid : Guid) → slice_get guids i ≡ Some guid
+    → position (λ other. same_guid other guid) guids ≡ Some i
 
 -- no two attributes or classes have one name, and no two rights one GUID
 pub record NamesAreDistinct (records : List SchemaRecord) : Type 0 where
@@ -43,9 +45,11 @@ pub record NamesAreDistinct (records : List SchemaRecord) : Type 0 where
 
 -- what is named is there, and the chain of each class ends: it is the class, and then the chain of the one above
 pub record ChainsEnd (records : List SchemaRecord) : Type 0 where
-  pub above : (class superior : ℕ) → option_at (superclasses records) class ≡ Some superior → superior < length (classes_of records)
+  pub above : (class superior : ℕ) → option_at (superclasses records) class ≡ Some superior → superior
+      < length (classes_of records)
   pub naming : (class : ℕ) → naming_of records class < length (attrs_of records)
-  pub ends : (class : ℕ) → class < length (classes_of records) → ends_within (superclasses records) (length (classes_of records)) class ≡ true
+  pub ends : (class : ℕ) → class < length (classes_of records) → ends_within (superclasses records)
+      (length (classes_of records)) class ≡ true
   pub step : (class : ℕ) → class < length (classes_of records)
       → chain_of records class ≡ class ∷ option_map_or (chain_of records)
       (option_at (superclasses records) class) []

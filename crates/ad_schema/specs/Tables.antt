@@ -14,13 +14,15 @@ use Rattle.ad_schema_classes.specs.Rows.{HaveRows}
 use Rattle.ad_schema.specs.Titles.{right_keys}
 
 -- the infos, as the records say them
-pub record AreInfosOf (records : List SchemaRecord) (attrs : List AttrInfo) (classes : List ClassInfo) (rights : List RightInfo) : Type 0 where
+pub record AreInfosOf (records : List SchemaRecord) (attrs : List AttrInfo) (classes : List ClassInfo)
+    (rights : List RightInfo) : Type 0 where
   pub attrs_are : attrs ≡ attrs_of records
   pub classes_are : classes ≡ classes_of records
   pub rights_are : rights ≡ rights_of records
 
 -- the names and the GUIDs of rights, and what the classes name
-pub record AreLinksOf (records : List SchemaRecord) (attrs classes rights : List (List ℕ)) (links : List ClassLinks) : Type 0 where
+pub record AreLinksOf (records : List SchemaRecord) (attrs classes rights : List (List ℕ)) (links : List ClassLinks)
+    : Type 0 where
   pub attr_names_are : attrs ≡ names_of Attribute records
   pub class_names_are : classes ≡ names_of Class records
   pub right_keys_are : rights ≡ right_keys records

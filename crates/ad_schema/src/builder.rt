@@ -1,6 +1,7 @@
 //! A schema while its records are added.
 
-ghost use Rattle.std.specs.Prelude.{◌≡◌, ◌<◌, ◌-◌, ◌^◌, ◌++◌, ◌∷◌, ◌==◌, [], length, List, OnOk, OnErr, IfOk, IfErr, is_some, if◌then◌else◌};
+ghost use Rattle.std.specs.Prelude.{◌≡◌, ◌<◌, ◌-◌, ◌^◌, ◌++◌, ◌∷◌, ◌==◌, [], length, List, OnOk, OnErr, IfOk, IfErr};
+ghost use Rattle.std.specs.Prelude.{is_some, if◌then◌else◌};
 ghost use Rattle.ad_bytes.specs.Reading.{GivesUnless};
 ghost use Rattle.ad_schema.specs.declared.line.SchemaRecord.{SchemaRecord as RecordValue};
 ghost use Rattle.ad_schema.specs.declared.fault.SchemaFault.TheVariants.{Repeated};
@@ -111,7 +112,8 @@ fn note(
         attrs.new classes.new rights.new) }
     ensures fault { (records : List RecordValue)
         → AreTitlesOf records attrs.old classes.old rights.old
-        → GivesUnless is_memory (λ _. tt) result (none_of Repeated (repeated records kind lines.now)) }
+        → GivesUnless is_memory (λ _. tt) result
+        (none_of Repeated (repeated records kind lines.now)) }
     ensures err { OnErr result ((attrs.new ≡ attrs.old) × (classes.new ≡ classes.old)
         × (rights.new ≡ rights.old)) }
 {

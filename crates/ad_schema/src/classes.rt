@@ -16,7 +16,8 @@ use std::alloc::{AllocError, Global};
 
 /// The lines of the records of classes.
 fn class_lines(alloc: Global, records: &[SchemaRecord]) -> Result<Vec<&[Line]>, AllocError>
-    ensures { IfOk result (λ all. map (λ lines. lines.now) all.items ≡ lines_of Class records.entry.now) }
+    ensures { IfOk result (λ all. map (λ lines. lines.now) all.items
+        ≡ lines_of Class records.entry.now) }
 {
     let mut all = Vec::new(alloc);
     for record in records {

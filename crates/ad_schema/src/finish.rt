@@ -65,7 +65,8 @@ fn check_ends(alloc: Global, links: &[ClassLinks], classes: &Names) -> Result<()
     requires few { length links.now < 2 ^ 32 }
     requires long { length classes.now ≡ length links.now }
     ensures { GivesUnless is_memory (λ _. tt) result
-        (none_of Loop (option_and_then (slice_get classes.now) (first_endless (aboves links.now)))) }
+        (none_of Loop (option_and_then (slice_get classes.now)
+        (first_endless (aboves links.now)))) }
 {
     let Some(class) = first_endless(alloc, links)? else {
         return Ok(());

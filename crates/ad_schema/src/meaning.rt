@@ -13,7 +13,8 @@ use crate::schema::Schema;
 use ad_schema_classes::same_name;
 use ad_value::Syntax;
 
-/// An attribute that rules of a directory name. It counts only where it has the syntax that it has in the base schema.
+/// An attribute that rules of a directory name. It counts only where it has the syntax that it has in the base
+/// schema.
 #[derive(Clone, Copy, Debug, PartialEq, Eq)]
 pub enum RuleAttr {
     /// objectSid, of syntax 2.5.5.17.
@@ -138,8 +139,8 @@ impl Schema {
         is_back_link(self.attr_info(attr))
     }
 
-    /// Whether no object of the class lacks the attribute, given or not: it is the class's naming attribute, or one of
-    /// objectClass, distinguishedName, name, nTSecurityDescriptor, objectCategory, instanceType, objectSid and
+    /// Whether no object of the class lacks the attribute, given or not: it is the class's naming attribute, or one
+    /// of objectClass, distinguishedName, name, nTSecurityDescriptor, objectCategory, instanceType, objectSid and
     /// sAMAccountName.
     #[tactic(auto, unfolding(crate::specs::Meaning::is_never_missing))]
     pub fn never_missing(&self, class: ClassId, attr: AttrId) -> bool

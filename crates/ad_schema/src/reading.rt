@@ -74,7 +74,8 @@ fn is_confidential(lines: &[Line]) -> bool
 }
 
 fn is_single(lines: &[Line]) -> bool
-    ensures { result ≡ unwrap_or (option_and_then truth_of (value_of Field.SingleValued lines.now)) false }
+    ensures { result ≡ unwrap_or (option_and_then truth_of (value_of Field.SingleValued lines.now))
+        false }
 {
     let Some(value) = value_of(Field::SingleValued, lines) else {
         return false;

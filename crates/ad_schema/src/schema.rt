@@ -114,7 +114,8 @@ fn tables_of(
     requires links { links.now ≡ links_of records.now }
     requires few { length links.now < 2 ^ 32 }
     requires cn { cn ≡ cn_of (names_of Attribute records.now) }
-    ensures infos { IfOk result (λ t. AreInfosOf records.now t.attrs.items t.classes.items t.rights.items) }
+    ensures infos { IfOk result (λ t. AreInfosOf records.now t.attrs.items t.classes.items
+        t.rights.items) }
     ensures rows { IfOk result (λ t. AreAllRowsOf records.now t.rows.items) }
 {
     let attrs = all_attrs(alloc, records)?;
@@ -216,7 +217,8 @@ impl Schema {
     pub fn class_info(&self, id: ClassId) -> &ClassInfo
         requires { id.0 < length (classes_of self.now) }
         ensures info { slice_get (classes_of self.entry.now) id.0 ≡ Some result.now }
-        ensures above { IfSome result.now.above (λ above. above.0 < length (classes_of self.entry.now)) }
+        ensures above { IfSome result.now.above
+            (λ above. above.0 < length (classes_of self.entry.now)) }
         ensures naming { result.now.naming.0 < length (attrs_of self.entry.now) }
     {
         class_at(self.classes.as_slice(), id)

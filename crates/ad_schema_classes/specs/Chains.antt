@@ -71,17 +71,19 @@ unfoldable pub set_within : List (List ℕ) → ℕ → ℕ → ℕ → Bool
 set_within next zero class k = class == k
 set_within next (suc n) class k = grown next (set_within next n class) k
 
--- The least set of classes that has the class and, with each class, those next to it (IsLeastSet): each growth but the
--- last has a class more.
+-- The least set of classes that has the class and, with each class, those next to it (IsLeastSet): each growth but
+-- the last has a class more.
 unfoldable pub set_of : List (List ℕ) → ℕ → ℕ → Bool
 set_of next class k = set_within next (length next) class k
 
 -- a set of classes, by place, that has the class and, with each class, those next to it
 pub record IsClosedSet (next : List (List ℕ)) (class : ℕ) (set : ℕ → Bool) : Type 0 where
   pub has : set class ≡ true
-  pub goes_on : (a b : ℕ) → a < length next → b < length next → set a ≡ true → contains (list_at next a) b ≡ true → set b ≡ true
+  pub goes_on : (a b : ℕ) → a < length next → b < length next → set a ≡ true → contains (list_at next a) b ≡ true
+      → set b ≡ true
 
 -- the least of these sets
 pub record IsLeastSet (next : List (List ℕ)) (class : ℕ) (set : ℕ → Bool) : Type 0 where
   pub closed : IsClosedSet next class set
-  pub least : (other : ℕ → Bool) → IsClosedSet next class other → (k : ℕ) → k < length next → set k ≡ true → other k ≡ true
+  pub least : (other : ℕ → Bool) → IsClosedSet next class other → (k : ℕ) → k < length next → set k ≡ true → other k
+      ≡ true

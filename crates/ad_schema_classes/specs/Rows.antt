@@ -49,7 +49,8 @@ pub record AreRowsOf (links : List ClassLinks) (cn attrs class : ℕ) (rows : Cl
 
 -- each class has its rows
 abbrev pub HaveRows : List ClassLinks → ℕ → ℕ → List ClassRows → Type 0
-HaveRows links cn attrs all = (class : ℕ) (rows : ClassRows) → slice_get all class ≡ Some rows → AreRowsOf links cn attrs class rows
+HaveRows links cn attrs all = (class : ℕ) (rows : ClassRows) → slice_get all class ≡ Some rows
+    → AreRowsOf links cn attrs class rows
 
 -- a flag of a class's rows
 unfoldable pub must_in : List ClassRows → ℕ → ℕ → Bool

@@ -1,5 +1,6 @@
 -- The classes of a set, as they are found.
-use Rattle.std.specs.Prelude.{◌≡◌, ℕ, ◌+◌, ◌<◌, Bool, true, false, not, ◌||◌, List, [], ◌∷◌, ◌++◌, length, take, slice_get, if◌then◌else◌}
+use Rattle.std.specs.Prelude.{◌≡◌, ℕ, ◌+◌, ◌<◌, Bool, true, false, not, ◌||◌, List, [], ◌∷◌, ◌++◌, length, take}
+use Rattle.std.specs.Prelude.{slice_get, if◌then◌else◌}
 use Rattle.std.specs.Prelude.{◌⊎◌}
 use Rattle.std.specs.Option.{option_map_or}
 use Rattle.ad_schema_classes.specs.Chains.{contains, list_at, set_of}
@@ -31,4 +32,5 @@ pub record IsSetSoFar (next : List (List ℕ)) (class : ℕ) (row : List Bool) (
   pub has : flag_at row class ≡ true
   pub reached : (x : ℕ) → contains order x ≡ true → (x < length next) × (set_of next class x ≡ true)
   pub listed : (x : ℕ) → x < length next → flag_at row x ≡ true → contains order x ≡ true
-  pub done : (x b : ℕ) → contains (take n order) x ≡ true → b < length next → contains (list_at next x) b ≡ true → flag_at row b ≡ true
+  pub done : (x b : ℕ) → contains (take n order) x ≡ true → b < length next → contains (list_at next x) b ≡ true
+      → flag_at row b ≡ true

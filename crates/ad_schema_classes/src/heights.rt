@@ -32,8 +32,8 @@ fn height_at(heights: &[u32], class: u32) -> u32
     }
 }
 
-/// The number of classes of a chain, from a class so many steps up whose height is known, where there are no more than
-/// `most`.
+/// The number of classes of a chain, from a class so many steps up whose height is known, where there are no more
+/// than `most`.
 fn within(height: u32, steps: u32, most: usize) -> Option<u32>
     requires { most < 2 ^ 32 }
     ensures some { IfSome result (λ h. (h ≡ height + steps) × (h ≤ most)) }

@@ -1,10 +1,12 @@
 //! Names and GUIDs, with their places by their hashes.
 
-ghost use Rattle.std.specs.Prelude.{◌≡◌, ◌<◌, ◌≤◌, ◌-◌, ◌%◌, drop, ◌+◌, ◌*◌, ◌^◌, ◌++◌, [], ◌∷◌, length, nat_eq, OnOk, OnErr};
+ghost use Rattle.std.specs.Prelude.{◌≡◌, ◌<◌, ◌≤◌, ◌-◌, ◌%◌, drop, ◌+◌, ◌*◌, ◌^◌, ◌++◌, [], ◌∷◌, length, nat_eq};
+ghost use Rattle.std.specs.Prelude.{OnOk, OnErr};
 ghost use Rattle.indexmap.specs.IndexMap.{get};
 ghost use Rattle.std.specs.Char.{to_ascii_lowercase};
 ghost use Rattle.ad_schema_classes.specs.Names.{same_name, place_of};
-ghost use Rattle.ad_schema_classes.specs.Hashes.{hash_behind, hash_of, bucket, same_by, place_by, is_at, key, IsIndexOf};
+ghost use Rattle.ad_schema_classes.specs.Hashes.{hash_behind, hash_of, bucket, same_by, place_by, is_at, key};
+ghost use Rattle.ad_schema_classes.specs.Hashes.{IsIndexOf};
 
 use ad_bytes::Bytes;
 use indexmap::IndexMap;
@@ -51,7 +53,8 @@ pub fn same_name(a: &[u8], b: &[u8]) -> bool
 // Takes eight bytes of a name, as their lower-case letters, at once.
 fn take_eight(hasher: &mut DefaultHasher, name: &[u8], at: usize)
     requires { at + 8 ≤ length name.now }
-    ensures { hash_behind hasher.new (drop (at + 8) name.now) ≡ hash_behind hasher.old (drop at name.now) }
+    ensures { hash_behind hasher.new (drop (at + 8) name.now)
+        ≡ hash_behind hasher.old (drop at name.now) }
 {
     hasher.write(&[
         name[at].to_ascii_lowercase(),
@@ -67,7 +70,8 @@ fn take_eight(hasher: &mut DefaultHasher, name: &[u8], at: usize)
 
 // Takes all bytes of a name from here on, but for fewer than eight, and tells where these begin.
 fn take_words(hasher: &mut DefaultHasher, name: &[u8]) -> usize
-    ensures hashed { hash_behind hasher.new (drop result name.now) ≡ hash_behind hasher.old name.now }
+    ensures hashed { hash_behind hasher.new (drop result name.now)
+        ≡ hash_behind hasher.old name.now }
     ensures within { result ≤ length name.now }
 {
     let mut at = 0;

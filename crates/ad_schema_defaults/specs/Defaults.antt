@@ -22,4 +22,5 @@ default_in domain None = parts_or_none (read_of domain default_text)
 default_in domain (Some text) = parts_or_none (read_of domain text)
 
 unfoldable pub default_of : List SchemaRecord → Option SidValue → ℕ → SdParts
-default_of schema domain class = default_in domain (option_and_then (λ info. info.default_sd) (slice_get (classes_of schema) class))
+default_of schema domain class = default_in domain
+    (option_and_then (λ info. info.default_sd) (slice_get (classes_of schema) class))

@@ -5,7 +5,8 @@ ghost use Rattle.std.specs.List.{list_all};
 ghost use Rattle.ad_schema_classes.specs.Chains.{contains};
 ghost use Rattle.ad_schema.specs.Classes.{classes_of, chain_of};
 ghost use Rattle.ad_schema_defaults.specs.Lowest.{lower, if_below_all};
-ghost use Rattle.ad_schema_defaults.specs.NewClass.{class_by_names, classes_named, is_of_schema, is_schema_class, is_structural, lowest_of};
+ghost use Rattle.ad_schema_defaults.specs.NewClass.{class_by_names, classes_named, is_of_schema, is_schema_class};
+ghost use Rattle.ad_schema_defaults.specs.NewClass.{is_structural, lowest_of};
 
 use ad_bytes::Bytes;
 use ad_schema::{ClassId, Schema, chains_end};
@@ -15,7 +16,8 @@ use std::alloc::{AllocError, Global};
 // Whether all of the classes are in the chain of one.
 #[tactic(auto, unfolding(ad_schema::specs::Meaning::is_in_chain))]
 fn is_below_all(schema: &Schema, classes: &[ClassId], class: ClassId) -> bool
-    ensures { result ≡ list_all (λ other. contains (chain_of schema.now class.0) other.0) classes.now }
+    ensures { result ≡ list_all (λ other. contains (chain_of schema.now class.0) other.0)
+        classes.now }
 {
     classes.iter().all(|other| schema.in_chain(class, *other))
 }
@@ -35,7 +37,8 @@ fn lower(schema: &Schema, class: ClassId, next: ClassId) -> ClassId
 // chain of the last, that one.
 fn candidate(schema: &Schema, classes: &[ClassId], first: ClassId) -> ClassId
     requires first { slice_get classes.now 0 ≡ Some first }
-    ensures { lowest_of schema.now (map (λ id. id.0) classes.now) ≡ if_below_all schema.now (map (λ id. id.0) classes.now) result.0 }
+    ensures { lowest_of schema.now (map (λ id. id.0) classes.now) ≡ if_below_all schema.now
+        (map (λ id. id.0) classes.now) result.0 }
 {
     schema.make_schema();
     chains_end();
@@ -87,7 +90,8 @@ fn classes_named(
     schema: &Schema,
     names: &[Bytes],
 ) -> Result<Option<Vec<ClassId>>, AllocError>
-    ensures { IfOk result (λ classes. option_map (λ ids. map (λ id. id.0) ids.items) classes ≡ classes_named schema.now names.now) }
+    ensures { IfOk result (λ classes. option_map (λ ids. map (λ id. id.0) ids.items) classes
+        ≡ classes_named schema.now names.now) }
 {
     let mut classes = Vec::with_capacity(alloc, names.len())?;
     for name in names {
@@ -111,7 +115,8 @@ pub fn class_by_names(
     schema: &Schema,
     names: &[Bytes],
 ) -> Result<Option<ClassId>, AllocError>
-    ensures { IfOk result (λ class. option_map (λ id. id.0) class ≡ class_by_names schema.now names.now) }
+    ensures { IfOk result (λ class. option_map (λ id. id.0) class ≡ class_by_names schema.now
+        names.now) }
 {
     let Some(classes) = classes_named(alloc, schema, names)? else {
         return Ok(None);

@@ -30,7 +30,8 @@ fn no_parts() -> SdParts
 
 // The parts of a text, or none where it can't be read.
 fn parts_of(alloc: Global, text: &[u8], domain: Option<&Sid>) -> Result<SdParts, AllocError>
-    ensures { IfOk result (λ parts. parts ≡ parts_or_none (read_of (option_copied domain.entry) text.now)) }
+    ensures { IfOk result (λ parts. parts
+        ≡ parts_or_none (read_of (option_copied domain.entry) text.now)) }
 {
     match read(alloc, text, domain) {
         Ok(parts) => Ok(parts),
@@ -40,7 +41,8 @@ fn parts_of(alloc: Global, text: &[u8], domain: Option<&Sid>) -> Result<SdParts,
 }
 
 fn text_of(schema: &Schema, class: ClassId) -> Option<&[u8]>
-    ensures { option_copied result ≡ option_and_then (λ info. info.default_sd) (slice_get (classes_of schema.entry.now) class.0) }
+    ensures { option_copied result ≡ option_and_then (λ info. info.default_sd)
+        (slice_get (classes_of schema.entry.now) class.0) }
 {
     match schema.classes().get(class.0 as usize) {
         Some(info) => match &info.default_sd {
@@ -65,7 +67,8 @@ pub fn default_parts(
     domain: Option<&Sid>,
     class: ClassId,
 ) -> Result<SdParts, AllocError>
-    ensures { IfOk result (λ parts. parts ≡ default_of schema.now (option_copied domain.entry) class.0) }
+    ensures { IfOk result (λ parts. parts ≡ default_of schema.now (option_copied domain.entry)
+        class.0) }
 {
     match text_of(schema, class) {
         Some(text) => parts_of(alloc, text, domain),

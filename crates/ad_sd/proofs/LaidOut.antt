@@ -1,5 +1,6 @@
 -- What is written of a descriptor is an encoding of it.
-use Rattle.std.proofs.Common.{◌≡◌, inr, ℕ, ◌+◌, ◌^◌, ◌<◌, ◌≤◌, Bool, true, false, cond, Option, None, Some, List, [], ◌++◌, length, refl, sym, ◌∙◌, append_assoc, arith}
+use Rattle.std.proofs.Common.{◌≡◌, inr, ℕ, ◌+◌, ◌^◌, ◌<◌, ◌≤◌, Bool, true, false, cond, Option, None, Some, List, []}
+use Rattle.std.proofs.Common.{◌++◌, length, refl, sym, ◌∙◌, append_assoc, arith}
 use Rattle.std.specs.Option.{is_some}
 use Rattle.std.proofs.lemmas.List.{append-nil, length-append}
 use Rattle.ad_bytes.specs.Numbers.{le_bytes}
@@ -8,7 +9,8 @@ use Rattle.ad_ids.specs.SidValue.{SidValue}
 use Rattle.ad_acl.specs.Entry.{says}
 use Rattle.ad_sd.specs.declared.parts.AceList.{AceList}
 use Rattle.ad_sd.specs.declared.parts.SdParts.{SdParts}
-use Rattle.ad_sd.specs.Sd.{dacl_present, sacl_present, dacl_protected, sacl_protected, SpellsSidAt, SpellsSacl, SpellsDacl, headed, SpellsParts}
+use Rattle.ad_sd.specs.Sd.{dacl_present, sacl_present, dacl_protected, sacl_protected, SpellsSidAt, SpellsSacl}
+use Rattle.ad_sd.specs.Sd.{SpellsDacl, headed, SpellsParts}
 use Rattle.ad_sd.specs.Writing.{sid_part, IsSidIf, SpellsListIf, dacl_bits, sacl_bits, offset_if, laid_out}
 
 -- ---- the control bits
@@ -16,27 +18,32 @@ use Rattle.ad_sd.specs.Writing.{sid_part, IsSidIf, SpellsListIf, dacl_bits, sacl
 abbrev control : Option AceList → Option AceList → ℕ
 control dacl sacl = 0x8000 + dacl_bits dacl + sacl_bits sacl
 
-both_dacl : (d s : Bool) → (says (0x8000 + cond d 0x1404 0x404 + cond s 0x2810 0x810) 4 ≡ true) × (says (0x8000 + cond d 0x1404 0x404 + cond s 0x2810 0x810) 0x1000 ≡ d)
+both_dacl : (d s : Bool) → (says (0x8000 + cond d 0x1404 0x404 + cond s 0x2810 0x810) 4 ≡ true)
+    × (says (0x8000 + cond d 0x1404 0x404 + cond s 0x2810 0x810) 0x1000 ≡ d)
 both_dacl true true = (refl, refl)
 both_dacl true false = (refl, refl)
 both_dacl false true = (refl, refl)
 both_dacl false false = (refl, refl)
 
-both_sacl : (d s : Bool) → (says (0x8000 + cond d 0x1404 0x404 + cond s 0x2810 0x810) 0x10 ≡ true) × (says (0x8000 + cond d 0x1404 0x404 + cond s 0x2810 0x810) 0x2000 ≡ s)
+both_sacl : (d s : Bool) → (says (0x8000 + cond d 0x1404 0x404 + cond s 0x2810 0x810) 0x10 ≡ true)
+    × (says (0x8000 + cond d 0x1404 0x404 + cond s 0x2810 0x810) 0x2000 ≡ s)
 both_sacl true true = (refl, refl)
 both_sacl true false = (refl, refl)
 both_sacl false true = (refl, refl)
 both_sacl false false = (refl, refl)
 
-one_dacl : (d : Bool) → (says (0x8000 + cond d 0x1404 0x404 + 0) 4 ≡ true) × (says (0x8000 + cond d 0x1404 0x404 + 0) 0x1000 ≡ d) × (says (0x8000 + cond d 0x1404 0x404 + 0) 0x10 ≡ false)
+one_dacl : (d : Bool) → (says (0x8000 + cond d 0x1404 0x404 + 0) 4 ≡ true)
+    × (says (0x8000 + cond d 0x1404 0x404 + 0) 0x1000 ≡ d) × (says (0x8000 + cond d 0x1404 0x404 + 0) 0x10 ≡ false)
 one_dacl true = (refl, refl, refl)
 one_dacl false = (refl, refl, refl)
 
-one_sacl : (s : Bool) → (says (0x8000 + 0 + cond s 0x2810 0x810) 0x10 ≡ true) × (says (0x8000 + 0 + cond s 0x2810 0x810) 0x2000 ≡ s) × (says (0x8000 + 0 + cond s 0x2810 0x810) 4 ≡ false)
+one_sacl : (s : Bool) → (says (0x8000 + 0 + cond s 0x2810 0x810) 0x10 ≡ true)
+    × (says (0x8000 + 0 + cond s 0x2810 0x810) 0x2000 ≡ s) × (says (0x8000 + 0 + cond s 0x2810 0x810) 4 ≡ false)
 one_sacl true = (refl, refl, refl)
 one_sacl false = (refl, refl, refl)
 
-dacl_told : (list : AceList) (sacl : Option AceList) → (says (control (Some list) sacl) dacl_present ≡ true) × (says (control (Some list) sacl) dacl_protected ≡ list.protected)
+dacl_told : (list : AceList) (sacl : Option AceList) → (says (control (Some list) sacl) dacl_present ≡ true)
+    × (says (control (Some list) sacl) dacl_protected ≡ list.protected)
 dacl_told list None = ((one_dacl list.protected).0, (one_dacl list.protected).1)
 dacl_told list (Some other) = both_dacl list.protected other.protected
 
@@ -44,7 +51,8 @@ dacl_absent : (sacl : Option AceList) → says (control None sacl) dacl_present 
 dacl_absent None = refl
 dacl_absent (Some list) = (one_sacl list.protected).2
 
-sacl_told : (list : AceList) (dacl : Option AceList) → (says (control dacl (Some list)) sacl_present ≡ true) × (says (control dacl (Some list)) sacl_protected ≡ list.protected)
+sacl_told : (list : AceList) (dacl : Option AceList) → (says (control dacl (Some list)) sacl_present ≡ true)
+    × (says (control dacl (Some list)) sacl_protected ≡ list.protected)
 sacl_told list None = ((one_sacl list.protected).0, (one_sacl list.protected).1)
 sacl_told list (Some other) = both_sacl other.protected list.protected
 
@@ -66,21 +74,52 @@ offset_fits : (b : Bool) (at : ℕ) → at < 2 ^ 32 → offset_if b at < 2 ^ 32
 offset_fits true at lt = lt
 offset_fits false at lt = omega arith
 
-sid_stands : (o : Option SidValue) (bytes before behind : List ℕ) (at : ℕ) → IsSidIf o → bytes ≡ before ++ (sid_part o ++ behind) → length before ≡ at → 0 < at → SpellsSidAt bytes (offset_if (is_some o) at) o
+sid_stands : (o : Option SidValue) (bytes before behind : List ℕ) (at : ℕ) → IsSidIf o → bytes ≡ before
+    ++ (sid_part o ++ behind) → length before ≡ at → 0 < at → SpellsSidAt bytes (offset_if (is_some o) at) o
 sid_stands None bytes before behind at h parts place pos = refl
-sid_stands (Some sid) bytes before behind at h parts place pos = (pos, record { before = before; text = sid_part (Some sid); behind = behind; place = place; parts = parts; spelled = (h, refl) })
+sid_stands (Some sid) bytes before behind at h parts place pos
+    = (
+      pos,
+      record {
+        before = before;
+        text = sid_part (Some sid);
+        behind = behind;
+        place = place;
+        parts
+            = parts;
+        spelled = (h, refl);
+      },
+    )
 
-sacl_stands : (sacl dacl : Option AceList) (bytes before text behind : List ℕ) (at : ℕ) → SpellsListIf sacl text → bytes ≡ before ++ (text ++ behind) → length before ≡ at → 0 < at → SpellsSacl bytes (control dacl sacl) (offset_if (is_some sacl) at) sacl
+sacl_stands : (sacl dacl : Option AceList) (bytes before text behind : List ℕ) (at : ℕ) → SpellsListIf sacl text
+    → bytes ≡ before ++ (text ++ behind) → length before ≡ at → 0 < at → SpellsSacl bytes (control dacl sacl)
+    (offset_if (is_some sacl) at) sacl
 sacl_stands None dacl bytes before text behind at h parts place pos = inr refl
 sacl_stands (Some list) dacl bytes before text behind at h parts place pos =
-    let told = sacl_told list dacl in
-    (told.0, record { not_null = pos; protected_is = sym told.1; entries = record { before = before; text = text; behind = behind; place = place; parts = parts; spelled = h } })
+    let told = sacl_told list dacl in (
+      told.0,
+      record {
+        not_null = pos;
+        protected_is = sym told.1;
+        entries
+            = record { before = before; text = text; behind = behind; place = place; parts = parts; spelled = h };
+      },
+    )
 
-dacl_stands : (dacl sacl : Option AceList) (bytes before text behind : List ℕ) (at : ℕ) → SpellsListIf dacl text → bytes ≡ before ++ (text ++ behind) → length before ≡ at → 0 < at → SpellsDacl bytes (control dacl sacl) (offset_if (is_some dacl) at) dacl
+dacl_stands : (dacl sacl : Option AceList) (bytes before text behind : List ℕ) (at : ℕ) → SpellsListIf dacl text
+    → bytes ≡ before ++ (text ++ behind) → length before ≡ at → 0 < at → SpellsDacl bytes (control dacl sacl)
+    (offset_if (is_some dacl) at) dacl
 dacl_stands None sacl bytes before text behind at h parts place pos = dacl_absent sacl
 dacl_stands (Some list) sacl bytes before text behind at h parts place pos =
-    let told = dacl_told list sacl in
-    (told.0, record { not_null = pos; protected_is = sym told.1; entries = record { before = before; text = text; behind = behind; place = place; parts = parts; spelled = h } })
+    let told = dacl_told list sacl in (
+      told.0,
+      record {
+        not_null = pos;
+        protected_is = sym told.1;
+        entries
+            = record { before = before; text = text; behind = behind; place = place; parts = parts; spelled = h };
+      },
+    )
 
 -- ---- the whole
 
@@ -90,7 +129,23 @@ head c o g s d = headed 1 0 c o g s d []
 
 length-head : (c o g s d : ℕ) → length (head c o g s d) ≡ 20
 length-head c o g s d =
-    omega (arith, length-append (le_bytes 2 c) (le_bytes 4 o ++ (le_bytes 4 g ++ (le_bytes 4 s ++ (le_bytes 4 d ++ [])))), length-append (le_bytes 4 o) (le_bytes 4 g ++ (le_bytes 4 s ++ (le_bytes 4 d ++ []))), length-append (le_bytes 4 g) (le_bytes 4 s ++ (le_bytes 4 d ++ [])), length-append (le_bytes 4 s) (le_bytes 4 d ++ []), length-append (le_bytes 4 d) [], length-le_bytes 2 c, length-le_bytes 4 o, length-le_bytes 4 g, length-le_bytes 4 s, length-le_bytes 4 d)
+    omega (
+      arith,
+      length-append (le_bytes 2 c)
+          (le_bytes 4 o ++ (le_bytes 4 g ++ (le_bytes 4 s ++ (le_bytes 4 d ++ [])))),
+      length-append (le_bytes 4 o)
+          (le_bytes 4 g ++ (le_bytes 4 s ++ (le_bytes 4 d ++ []))),
+      length-append (le_bytes 4 g)
+          (le_bytes 4 s ++ (le_bytes 4 d ++ [])),
+      length-append (le_bytes 4 s) (le_bytes 4 d ++ []),
+      length-append
+          (le_bytes 4 d) [],
+      length-le_bytes 2 c,
+      length-le_bytes 4 o,
+      length-le_bytes 4 g,
+      length-le_bytes 4 s,
+      length-le_bytes 4 d,
+    )
 
 behind_head : (c o g s d : ℕ) (rest : List ℕ) → headed 1 0 c o g s d rest ≡ head c o g s d ++ rest
 behind_head c o g s d rest = simp append_assoc
@@ -105,8 +160,10 @@ third h a b c r = simp append_assoc
 fourth : (h a b c d : List ℕ) → h ++ (a ++ (b ++ (c ++ d))) ≡ (((h ++ a) ++ b) ++ c) ++ (d ++ [])
 fourth h a b c d = simp (append_assoc, append-nil)
 
-pub laid_spelled : (p : SdParts) (sacl dacl : List ℕ) → IsSidIf p.owner → IsSidIf p.group → SpellsListIf p.sacl sacl → SpellsListIf p.dacl dacl
-    → length (sid_part p.owner) ≤ 68 → length (sid_part p.group) ≤ 68 → length sacl ≤ 65535 → SpellsParts p (laid_out p sacl dacl)
+pub laid_spelled : (p : SdParts) (sacl dacl : List ℕ) → IsSidIf p.owner → IsSidIf p.group → SpellsListIf p.sacl sacl
+    → SpellsListIf p.dacl dacl
+    → length (sid_part p.owner) ≤ 68 → length (sid_part p.group) ≤ 68 → length sacl ≤ 65535
+    → SpellsParts p (laid_out p sacl dacl)
 unfolding laid_out
 laid_spelled p sacl dacl owner_is group_is sacl_is dacl_is owner_few group_few sacl_few =
     let owner = sid_part p.owner in
@@ -132,10 +189,24 @@ laid_spelled p sacl dacl owner_is group_is sacl_is dacl_is owner_few group_few s
       owner_fits = offset_fits (is_some p.owner) 20 (omega arith);
       group_fits = offset_fits (is_some p.group) (20 + length owner) (omega (arith, owner_few));
       sacl_fits = offset_fits (is_some p.sacl) (20 + length owner + length group) (omega (arith, owner_few, group_few));
-      dacl_fits = offset_fits (is_some p.dacl) (20 + length owner + length group + length sacl) (omega (arith, owner_few, group_few, sacl_few));
+      dacl_fits = offset_fits (is_some p.dacl) (20 + length owner + length group + length sacl)
+          (omega (arith, owner_few, group_few, sacl_few));
       header = refl;
-      owner_is = sid_stands p.owner (laid_out p sacl dacl) h (group ++ (sacl ++ dacl)) 20 owner_is whole long (omega arith);
-      group_is = sid_stands p.group (laid_out p sacl dacl) (h ++ owner) (sacl ++ dacl) (20 + length owner) group_is (whole ∙ second h owner group (sacl ++ dacl)) (omega (arith, long, length-append h owner)) (omega arith);
-      sacl_is = sacl_stands p.sacl p.dacl (laid_out p sacl dacl) ((h ++ owner) ++ group) sacl dacl (20 + length owner + length group) sacl_is (whole ∙ third h owner group sacl dacl) (omega (arith, long, length-append h owner, length-append (h ++ owner) group)) (omega arith);
-      dacl_is = dacl_stands p.dacl p.sacl (laid_out p sacl dacl) (((h ++ owner) ++ group) ++ sacl) dacl [] (20 + length owner + length group + length sacl) dacl_is (whole ∙ fourth h owner group sacl dacl) (omega (arith, long, length-append h owner, length-append (h ++ owner) group, length-append ((h ++ owner) ++ group) sacl)) (omega arith);
+      owner_is = sid_stands p.owner (laid_out p sacl dacl) h (group ++ (sacl ++ dacl)) 20 owner_is whole long
+          (omega arith);
+      group_is = sid_stands p.group (laid_out p sacl dacl) (h ++ owner) (sacl ++ dacl) (20 + length owner) group_is
+          (whole ∙ second h owner group (sacl ++ dacl)) (omega (arith, long, length-append h owner)) (omega arith);
+      sacl_is = sacl_stands p.sacl p.dacl (laid_out p sacl dacl) ((h ++ owner) ++ group) sacl dacl
+          (20 + length owner + length group) sacl_is (whole ∙ third h owner group sacl dacl)
+          (omega (arith, long, length-append h owner, length-append (h ++ owner) group)) (omega arith);
+      dacl_is = dacl_stands p.dacl p.sacl (laid_out p sacl dacl) (((h ++ owner) ++ group) ++ sacl) dacl []
+          (20 + length owner + length group + length sacl) dacl_is (whole ∙ fourth h owner group sacl dacl)
+          (omega (
+            arith,
+            long,
+            length-append h owner,
+            length-append (h ++ owner) group,
+            length-append
+                ((h ++ owner) ++ group) sacl,
+          )) (omega arith);
     }

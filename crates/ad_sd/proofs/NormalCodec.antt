@@ -37,7 +37,8 @@ marks_apart true true false true e = absurd (omega (arith, e))
 marks_apart true true true true e = (refl, refl)
 
 -- the same entries, and the same after them
-pub entries_apart : (a b : List Entry) (r s : List ℕ) → AreEntries a → AreEntries b → entries_bytes a ++ r ≡ entries_bytes b ++ s → (a ≡ b) × (r ≡ s)
+pub entries_apart : (a b : List Entry) (r s : List ℕ) → AreEntries a → AreEntries b → entries_bytes a ++ r
+    ≡ entries_bytes b ++ s → (a ≡ b) × (r ≡ s)
 unfolding entries_bytes
 entries_apart a b r s ha hb e =
     let na = be_bytes 8 (length a) in
@@ -45,10 +46,12 @@ entries_apart a b r s ha hb e =
     let ta = flat_map entry_bytes a in
     let tb = flat_map entry_bytes b in
     let parted : na ++ (ta ++ r) ≡ nb ++ (tb ++ s) = sym (append_assoc na ta r) ∙ e ∙ append_assoc nb tb s in
-    let count = spellings_apart (SpellsBe 8) (be_at 8) (be_reader 8) (length a) (length b) na nb (ta ++ r) (tb ++ s) (ha.count, refl) (hb.count, refl) parted in
+    let count = spellings_apart (SpellsBe 8) (be_at 8) (be_reader 8) (length a) (length b) na nb (ta ++ r) (tb ++ s)
+    (ha.count, refl) (hb.count, refl) parted in
     let one : SpellsMany SpellsEntry (length b) a ta = (count.0, each_spelled a ha.each) in
     let two : SpellsMany SpellsEntry (length b) b tb = (refl, each_spelled b hb.each) in
-    let each = spellings_apart (SpellsMany SpellsEntry (length b)) (many_at entry_at (length b)) (many_reader SpellsEntry entry_at entry_reader (length b)) a b ta tb r s one two count.2 in
+    let each = spellings_apart (SpellsMany SpellsEntry (length b)) (many_at entry_at (length b))
+    (many_reader SpellsEntry entry_at entry_reader (length b)) a b ta tb r s one two count.2 in
     (each.0, each.2)
 
 cons_head : (a b : ℕ) (x y : List ℕ) → a ∷ x ≡ b ∷ y → a ≡ b
@@ -58,7 +61,12 @@ cons_tail : (a b : ℕ) (x y : List ℕ) → a ∷ x ≡ b ∷ y → x ≡ y
 cons_tail a b x y e = cc
 
 abbrev sd : SidValue → SidValue → Bool → List Entry → Bool → List Entry → Sd
-sd owner group p dacl q sacl = record { owner = owner; group = group; dacl = record { protected = p; entries = dacl }; sacl = record { protected = q; entries = sacl } }
+sd owner group p dacl q sacl = record {
+  owner = owner;
+  group = group;
+  dacl = record { protected = p; entries = dacl };
+  sacl = record { protected = q; entries = sacl };
+}
 
 regroup : (o g d s r : List ℕ) → (o ++ (g ++ (d ++ s))) ++ r ≡ o ++ (g ++ (d ++ (s ++ r)))
 regroup o g d s r = simp append_assoc
@@ -77,13 +85,18 @@ normal_apart a b r s ha hb e =
     let db = entries_bytes b.dacl.entries in
     let ca = entries_bytes a.sacl.entries in
     let cb = entries_bytes b.sacl.entries in
-    let marks = marks_apart a.dacl.protected a.sacl.protected b.dacl.protected b.sacl.protected (cons_head ma mb ((oa ++ (ga ++ (da ++ ca))) ++ r) ((ob ++ (gb ++ (db ++ cb))) ++ s) e) in
+    let marks = marks_apart a.dacl.protected a.sacl.protected b.dacl.protected b.sacl.protected
+    (cons_head ma mb ((oa ++ (ga ++ (da ++ ca))) ++ r) ((ob ++ (gb ++ (db ++ cb))) ++ s) e) in
     let behind : oa ++ (ga ++ (da ++ (ca ++ r))) ≡ ob ++ (gb ++ (db ++ (cb ++ s))) =
-    sym (regroup oa ga da ca r) ∙ cons_tail ma mb ((oa ++ (ga ++ (da ++ ca))) ++ r) ((ob ++ (gb ++ (db ++ cb))) ++ s) e ∙ regroup ob gb db cb s in
-    let owner = spellings_apart SpellsSid sid_at sid_reader a.owner b.owner oa ob (ga ++ (da ++ (ca ++ r))) (gb ++ (db ++ (cb ++ s))) (ha.owner, refl) (hb.owner, refl) behind in
-    let group = spellings_apart SpellsSid sid_at sid_reader a.group b.group ga gb (da ++ (ca ++ r)) (db ++ (cb ++ s)) (ha.group, refl) (hb.group, refl) owner.2 in
+    sym (regroup oa ga da ca r) ∙ cons_tail ma mb ((oa ++ (ga ++ (da ++ ca))) ++ r) ((ob ++ (gb ++ (db ++ cb))) ++ s)
+    e ∙ regroup ob gb db cb s in
+    let owner = spellings_apart SpellsSid sid_at sid_reader a.owner b.owner oa ob (ga ++ (da ++ (ca ++ r)))
+    (gb ++ (db ++ (cb ++ s))) (ha.owner, refl) (hb.owner, refl) behind in
+    let group = spellings_apart SpellsSid sid_at sid_reader a.group b.group ga gb (da ++ (ca ++ r)) (db ++ (cb ++ s))
+    (ha.group, refl) (hb.group, refl) owner.2 in
     let dacl = entries_apart a.dacl.entries b.dacl.entries (ca ++ r) (cb ++ s) ha.dacl hb.dacl group.2 in
     let sacl = entries_apart a.sacl.entries b.sacl.entries r s ha.sacl hb.sacl dacl.1 in
-    let same : sd a.owner a.group a.dacl.protected a.dacl.entries a.sacl.protected a.sacl.entries ≡ sd b.owner b.group b.dacl.protected b.dacl.entries b.sacl.protected b.sacl.entries =
+    let same : sd a.owner a.group a.dacl.protected a.dacl.entries a.sacl.protected a.sacl.entries
+    ≡ sd b.owner b.group b.dacl.protected b.dacl.entries b.sacl.protected b.sacl.entries =
     rw (owner.0, group.0, marks.0, dacl.0, marks.1, sacl.0) refl in
     same

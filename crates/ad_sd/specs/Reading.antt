@@ -1,5 +1,6 @@
 -- How a self-relative descriptor is read, with the fault that stands first.
-use Rattle.std.specs.Prelude.{ℕ, Bool, true, false, not, ◌==◌, ◌||◌, nat_lt, if◌then◌else◌, Option, None, Some, List, length, drop, Result, Ok, Err}
+use Rattle.std.specs.Prelude.{ℕ, Bool, true, false, not, ◌==◌, ◌||◌, nat_lt, if◌then◌else◌, Option, None, Some, List}
+use Rattle.std.specs.Prelude.{length, drop, Result, Ok, Err}
 use Rattle.ad_bytes.specs.Reading.{Reading, ◌>>=◌, need, or_fault, fault_as}
 use Rattle.ad_bytes.specs.Numbers.{byte_at, le_at}
 use Rattle.ad_bytes.specs.declared.input.Short.{Short as Absent}
@@ -11,7 +12,8 @@ use Rattle.ad_acl.specs.declared.fault.AclFault.TheVariants as list_fault
 use Rattle.ad_acl.specs.Entry.{says}
 use Rattle.ad_acl.specs.Reading.{list_at}
 use Rattle.ad_sd.specs.declared.fault.SdFault.{SdFault}
-use Rattle.ad_sd.specs.declared.fault.SdFault.TheVariants.{Short, Revision, Offset, Owner, Group, Sacl, NullDacl, Dacl, NoOwner, NoGroup, NoDacl, Memory}
+use Rattle.ad_sd.specs.declared.fault.SdFault.TheVariants.{Short, Revision, Offset, Owner, Group, Sacl, NullDacl}
+use Rattle.ad_sd.specs.declared.fault.SdFault.TheVariants.{Dacl, NoOwner, NoGroup, NoDacl, Memory}
 use Rattle.ad_sd.specs.declared.parts.AceList.{AceList}
 use Rattle.ad_sd.specs.declared.parts.Sd.{Sd}
 use Rattle.ad_sd.specs.declared.parts.SdParts.{SdParts}
@@ -34,7 +36,18 @@ header_at bytes = do
   group ← le_at 4 owner.1
   sacl ← le_at 4 group.1
   dacl ← le_at 4 sacl.1
-  Ok (record { revision = revision.0; control = control.0; owner = owner.0; group = group.0; sacl = sacl.0; dacl = dacl.0 }, dacl.1)
+  Ok (
+    record {
+      revision = revision.0;
+      control = control.0;
+      owner = owner.0;
+      group = group.0;
+      sacl = sacl.0;
+      dacl
+          = dacl.0;
+    },
+    dacl.1,
+  )
 
 -- ---- the parts
 

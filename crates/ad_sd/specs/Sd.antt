@@ -48,12 +48,14 @@ pub record SpellsListAt (bytes : List ℕ) (offset : ℕ) (protected : Bool) (li
 -- the SACL is absent without its bit, and at offset 0
 abbrev pub SpellsSacl : List ℕ → ℕ → ℕ → Option AceList → Type 0
 SpellsSacl bytes control offset None = (says control sacl_present ≡ false) ⊎ (offset ≡ 0)
-SpellsSacl bytes control offset (Some list) = (says control sacl_present ≡ true) × SpellsListAt bytes offset (says control sacl_protected) list
+SpellsSacl bytes control offset (Some list) = (says control sacl_present ≡ true) × SpellsListAt bytes offset
+    (says control sacl_protected) list
 
 -- the DACL is absent without its bit alone
 abbrev pub SpellsDacl : List ℕ → ℕ → ℕ → Option AceList → Type 0
 SpellsDacl bytes control offset None = says control dacl_present ≡ false
-SpellsDacl bytes control offset (Some list) = (says control dacl_present ≡ true) × SpellsListAt bytes offset (says control dacl_protected) list
+SpellsDacl bytes control offset (Some list) = (says control dacl_present ≡ true) × SpellsListAt bytes offset
+    (says control dacl_protected) list
 
 -- ---- the descriptor
 

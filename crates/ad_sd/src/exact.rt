@@ -18,7 +18,8 @@ pub(crate) struct NotNormal;
 
 // The bytes after the entry that stands at the start as it is written, or none where none does.
 fn after_entry(bytes: &[u8]) -> Option<&[u8]>
-    ensures { MatchOption result (IsNotRead (entry_exactly_at bytes.now)) (λ left. IsReadTo (entry_exactly_at bytes.now) left.now) }
+    ensures { MatchOption result (IsNotRead (entry_exactly_at bytes.now))
+        (λ left. IsReadTo (entry_exactly_at bytes.now) left.now) }
 {
     match written_size(bytes) {
         Some(size) => Some(tail(bytes, size)),
@@ -28,7 +29,8 @@ fn after_entry(bytes: &[u8]) -> Option<&[u8]>
 
 // The same of so many entries.
 fn after_entries(bytes: &[u8], count: u64) -> Option<&[u8]>
-    ensures { MatchOption result (IsNotRead (many_at entry_exactly_at count bytes.now)) (λ left. IsReadTo (many_at entry_exactly_at count bytes.now) left.now) }
+    ensures { MatchOption result (IsNotRead (many_at entry_exactly_at count bytes.now))
+        (λ left. IsReadTo (many_at entry_exactly_at count bytes.now) left.now) }
 {
     let mut rest = bytes;
     for _ in 0..count {
@@ -42,7 +44,8 @@ fn after_entries(bytes: &[u8], count: u64) -> Option<&[u8]>
 
 // The same of a list of entries after their number.
 fn after_list(bytes: &[u8]) -> Option<&[u8]>
-    ensures { MatchOption result (IsNotRead (entries_exactly_at bytes.now)) (λ left. IsReadTo (entries_exactly_at bytes.now) left.now) }
+    ensures { MatchOption result (IsNotRead (entries_exactly_at bytes.now))
+        (λ left. IsReadTo (entries_exactly_at bytes.now) left.now) }
 {
     let mut input = Input::new(bytes);
     match input.be64() {
@@ -56,7 +59,8 @@ fn after_list(bytes: &[u8]) -> Option<&[u8]>
 
 // The same of an identifier.
 fn after_sid(bytes: &[u8]) -> Option<&[u8]>
-    ensures { MatchOption result (IsNotRead (or_fault not_normal (sid_at bytes.now))) (λ left. IsReadTo (or_fault not_normal (sid_at bytes.now)) left.now) }
+    ensures { MatchOption result (IsNotRead (or_fault not_normal (sid_at bytes.now)))
+        (λ left. IsReadTo (or_fault not_normal (sid_at bytes.now)) left.now) }
 {
     let mut input = Input::new(bytes);
     match Sid::read(&mut input) {

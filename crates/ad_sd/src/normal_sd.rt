@@ -52,7 +52,9 @@ impl NormalSd {
     ///
     /// Memory ran out.
     pub fn from_bytes(alloc: Global, bytes: &[u8]) -> Result<Option<NormalSd>, AllocError>
-        ensures { IfOk result (λ kept. MatchOption kept ((sd : SdValue) → SpellsNormal sd bytes.now → ⊥) (λ sd. SpellsNormal sd bytes.now)) }
+        ensures { IfOk result (λ kept.
+            MatchOption kept ((sd : SdValue) → SpellsNormal sd bytes.now → ⊥)
+            (λ sd. SpellsNormal sd bytes.now)) }
     {
         if !is_normal(bytes) {
             return Ok(None);

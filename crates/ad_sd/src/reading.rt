@@ -120,7 +120,8 @@ fn read_present(
     protected: bool,
     offset: u32,
 ) -> Result<Option<AceList>, SdFault>
-    ensures { GivesUnless is_memory (λ list. list) result (present_list part (list_named part) protected offset bytes.now) }
+    ensures { GivesUnless is_memory (λ list. list) result
+        (present_list part (list_named part) protected offset bytes.now) }
 {
     let mut input = from_offset(bytes, part, offset)?;
     match read_list(alloc, &mut input) {
@@ -192,15 +193,16 @@ fn parts(alloc: Global, bytes: &[u8]) -> Result<SdParts, SdFault>
 ///
 /// # Errors
 ///
-/// The first in this order: `Short` below 20 bytes, `Revision` where it isn't 1, and then for the owner, the group, the
-/// SACL and the DACL `Offset` where the part isn't absent and its offset is at the end of the
+/// The first in this order: `Short` below 20 bytes, `Revision` where it isn't 1, and then for the owner, the group,
+/// the SACL and the DACL `Offset` where the part isn't absent and its offset is at the end of the
 /// bytes or after it, and `Owner`, `Group`, `Sacl`, `Dacl` where it can't be read. `NullDacl` where the
 /// DACL isn't absent and its offset is 0. `Memory` may come instead of any answer.
 pub fn read_parts(alloc: Global, bytes: &[u8]) -> Result<SdParts, SdFault>
     // What is read is encoded so.
     ensures found { IfOk result (λ parts. SpellsParts parts bytes.now) }
     // Whatever is encoded so is read, unless memory ran out.
-    ensures only { (parts : PartsValue) → SpellsParts parts bytes.now → GivesUnless is_memory (λ parts. parts) result (Ok parts) }
+    ensures only { (parts : PartsValue) → SpellsParts parts bytes.now
+        → GivesUnless is_memory (λ parts. parts) result (Ok parts) }
     // Which fault it is.
     ensures fault { GivesUnless is_memory (λ parts. parts) result (parts_of bytes.now) }
 {
@@ -257,7 +259,8 @@ pub fn read_sd(alloc: Global, bytes: &[u8]) -> Result<Sd, SdFault>
     // What is read is encoded so.
     ensures found { IfOk result (λ sd. SpellsSd sd bytes.now) }
     // Whatever is encoded so is read, unless memory ran out.
-    ensures only { (sd : SdValue) → SpellsSd sd bytes.now → GivesUnless is_memory (λ sd. sd) result (Ok sd) }
+    ensures only { (sd : SdValue) → SpellsSd sd bytes.now → GivesUnless is_memory (λ sd. sd) result
+        (Ok sd) }
     // Which fault it is.
     ensures fault { GivesUnless is_memory (λ sd. sd) result (sd_of bytes.now) }
 {

@@ -31,7 +31,8 @@ fn asked_list(
     protected: bool,
     entries: Entries<'_>,
 ) -> Result<Option<AceList>, AllocError>
-    ensures { IfOk result (λ list. list ≡ asked wanted (record { protected = protected; entries = entries_left entries.entry })) }
+    ensures { IfOk result (λ list. list
+        ≡ asked wanted (record { protected = protected; entries = entries_left entries.entry })) }
 {
     if !wanted {
         return Ok(None);
@@ -80,7 +81,8 @@ fn parts_shown(alloc: Global, view: &SdView<'_>, parts: u8) -> Result<SdParts, A
 /// answer.
 pub fn write_view(alloc: Global, view: SdView<'_>, parts: u8) -> Result<Vec<u8>, AclWriteFault>
     // What is written, and when nothing is.
-    ensures written { GivesUnless is_memory (λ v. v.items) result (written (parts_shown (seen view.entry) parts)) }
+    ensures written { GivesUnless is_memory (λ v. v.items) result
+        (written (parts_shown (seen view.entry) parts)) }
     // What is written encodes the parts, so that it is read as them again.
     ensures spelled { IfOk result (λ v. SpellsParts (parts_shown (seen view.entry) parts) v.items) }
 {
@@ -88,7 +90,8 @@ pub fn write_view(alloc: Global, view: SdView<'_>, parts: u8) -> Result<Vec<u8>,
 }
 
 fn write_shown(alloc: Global, view: &SdView<'_>, parts: u8) -> Result<Vec<u8>, AclWriteFault>
-    ensures written { GivesUnless is_memory (λ v. v.items) result (written (parts_shown (seen view.now) parts)) }
+    ensures written { GivesUnless is_memory (λ v. v.items) result
+        (written (parts_shown (seen view.now) parts)) }
     ensures spelled { IfOk result (λ v. SpellsParts (parts_shown (seen view.now) parts) v.items) }
 {
     let shown = parts_shown(alloc, view, parts)?;

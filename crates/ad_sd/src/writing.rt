@@ -7,7 +7,8 @@ ghost use Rattle.ad_bytes.specs.Numbers.{le_bytes};
 ghost use Rattle.ad_ids.specs.Sid.{IsSid, SpellsSid, sid_bytes};
 ghost use Rattle.ad_acl.specs.Writing.{is_memory};
 ghost use Rattle.ad_sd.specs.Sd.{SpellsParts, headed};
-ghost use Rattle.ad_sd.specs.Writing.{sid_part, list_part, IsSidIf, SpellsListIf, dacl_bits, sacl_bits, offset_if, laid_out, written};
+ghost use Rattle.ad_sd.specs.Writing.{sid_part, list_part, IsSidIf, SpellsListIf, dacl_bits, sacl_bits, offset_if};
+ghost use Rattle.ad_sd.specs.Writing.{laid_out, written};
 
 use crate::parts::{AceList, SdParts};
 use ad_acl::{AclWriteFault, write_acl};
@@ -91,7 +92,8 @@ struct Offsets {
 #[tactic(auto, unfolding(ad_bytes::specs::Numbers::le_bytes))]
 fn put_header(into: &mut Vec<u8>, control: u16, at: Offsets) -> Result<(), AllocError>
     ensures { OnOk result (into.new.items ≡ into.old.items ++ 1 ∷ 0 ∷ le_bytes 2 control
-        ++ (le_bytes 4 at.owner ++ (le_bytes 4 at.group ++ (le_bytes 4 at.sacl ++ le_bytes 4 at.dacl)))) }
+        ++ (le_bytes 4 at.owner ++ (le_bytes 4 at.group
+        ++ (le_bytes 4 at.sacl ++ le_bytes 4 at.dacl)))) }
 {
     into.extend_from_slice(&[1, 0])?;
     into.extend_from_slice(&control.to_le_bytes())?;
@@ -135,7 +137,8 @@ fn put_parts(
     sacl: &[u8],
     dacl: &[u8],
 ) -> Result<(), AllocError>
-    ensures { OnOk result (into.new.items ≡ into.old.items ++ owner.now ++ group.now ++ sacl.now ++ dacl.now) }
+    ensures { OnOk result (into.new.items ≡ into.old.items ++ owner.now ++ group.now ++ sacl.now
+        ++ dacl.now) }
 {
     into.extend_from_slice(owner)?;
     into.extend_from_slice(group)?;
@@ -155,7 +158,8 @@ fn laid_out(
 ) -> Result<Vec<u8>, AllocError>
     requires owner { owner.now ≡ sid_part parts.now.owner }
     requires group { group.now ≡ sid_part parts.now.group }
-    requires few { length owner.now + length group.now + length sacl.now + length dacl.now < 2 ^ 18 }
+    requires few { length owner.now + length group.now + length sacl.now + length dacl.now
+        < 2 ^ 18 }
     ensures { IfOk result (λ v. v.items ≡ laid_out parts.now sacl.now dacl.now) }
 {
     let offsets = offsets_of(parts, owner.len(), group.len(), sacl.len());

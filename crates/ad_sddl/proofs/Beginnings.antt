@@ -28,7 +28,8 @@ begins_two v w (a ∷ []) e = absurd (short (eqb v a) e)
 begins_two v w (a ∷ b ∷ bytes) e =
     let first = both_true (eqb v a) (eqb w b && true) e in
     let second = both_true (eqb w b) true first.1 in
-    ap (λ (x : ℕ). x ∷ b ∷ bytes) (sym (eqb-true v a first.0)) ∙ ap (λ (x : ℕ). v ∷ x ∷ bytes) (sym (eqb-true w b second.0))
+    ap (λ (x : ℕ). x ∷ b ∷ bytes) (sym (eqb-true v a first.0)) ∙ ap (λ (x : ℕ). v ∷ x ∷ bytes)
+    (sym (eqb-true w b second.0))
 
 -- the first characters alone decide
 pub begins_head : (w : ℕ) (a b : List ℕ) (x : ℕ) → begins (w ∷ []) (x ∷ a) ≡ begins (w ∷ []) (x ∷ b)
@@ -38,16 +39,19 @@ begins_head w a b x = refl
 -- ---- the end of a field
 
 -- a part encoded before the character that ends it
-pub record TakesField {A : Type 0} (end : ℕ) (Spells : A → List ℕ → Type 0) (bytes : List ℕ) (value : A) (rest : List ℕ) : Type 0 where
+pub record TakesField {A : Type 0} (end : ℕ) (Spells : A → List ℕ → Type 0) (bytes : List ℕ) (value : A)
+    (rest : List ℕ) : Type 0 where
   pub text : List ℕ
   pub parts : bytes ≡ text ++ end ∷ rest
   pub spelled : Spells value text
 
-pub end_takes : (end : ℕ) (bytes : List ℕ) (u : Unit {0}) (rest : List ℕ) → end_at end bytes ≡ Ok (u, rest) → bytes ≡ end ∷ rest
+pub end_takes : (end : ℕ) (bytes : List ℕ) (u : Unit {0}) (rest : List ℕ) → end_at end bytes ≡ Ok (u, rest) → bytes
+    ≡ end ∷ rest
 unfolding end_at byte_at
 end_takes end [] u rest e = absurd cc
 end_takes end (b ∷ bytes) u rest e =
-    from_need (eqb b end) (stop kind.Shape (b ∷ bytes)) _ (u, rest) e (λ (is : eqb b end ≡ true) (e2 : Ok (tt, bytes) ≡ Ok (u, rest)).
+    from_need (eqb b end) (stop kind.Shape (b ∷ bytes)) _ (u, rest) e
+    (λ (is : eqb b end ≡ true) (e2 : Ok (tt, bytes) ≡ Ok (u, rest)).
     let same : (tt, bytes) ≡ (u, rest) = from_ok {E = Stop} (tt, bytes) (u, rest) e2 in
     ap (λ (x : ℕ). x ∷ bytes) (eqb-true b end is) ∙ ap (λ (p : Unit {0} × List ℕ). end ∷ p.1) same)
 

@@ -1,5 +1,6 @@
 -- The text of an entry, and that of a list, encode them.
-use Rattle.std.proofs.Common.{Bool, true, false, ◌≡◌, inl, ℕ, List, [], ◌∷◌, ◌++◌, Option, Some, None, if◌then◌else◌, codes, refl, ap, ◌∙◌}
+use Rattle.std.proofs.Common.{Bool, true, false, ◌≡◌, inl, ℕ, List, [], ◌∷◌, ◌++◌, Option, Some, None, if◌then◌else◌}
+use Rattle.std.proofs.Common.{codes, refl, ap, ◌∙◌}
 use Rattle.std.specs.List.{flat_map, AllByRecursion}
 use Rattle.std.specs.Str.{str_to_ascii_lowercase}
 use Rattle.ad_bytes.specs.Reading.{SpellsEach}
@@ -19,27 +20,36 @@ use Rattle.ad_sddl.proofs.CanonicalMasks.{flags_spelled, rights_spelled}
 
 -- ---- an entry
 
-field_lower : (field rest others : List ℕ) → str_to_ascii_lowercase rest ≡ others → str_to_ascii_lowercase (field ++ 59 ∷ rest) ≡ str_to_ascii_lowercase field ++ 59 ∷ others
-field_lower field rest others e = lower_append field (59 ∷ rest) ∙ ap (λ (t : List ℕ). str_to_ascii_lowercase field ++ 59 ∷ t) e
+field_lower : (field rest others : List ℕ) → str_to_ascii_lowercase rest ≡ others
+    → str_to_ascii_lowercase (field ++ 59 ∷ rest) ≡ str_to_ascii_lowercase field ++ 59 ∷ others
+field_lower field rest others e = lower_append field (59 ∷ rest)
+    ∙ ap (λ (t : List ℕ). str_to_ascii_lowercase field ++ 59 ∷ t) e
 
 entry_lower : (kind flags rights object inherited sid : List ℕ)
-    → str_to_ascii_lowercase (entry_of kind flags rights object inherited sid) ≡ entry_of (str_to_ascii_lowercase kind) (str_to_ascii_lowercase flags) (str_to_ascii_lowercase rights) (str_to_ascii_lowercase object) (str_to_ascii_lowercase inherited) (str_to_ascii_lowercase sid)
+    → str_to_ascii_lowercase (entry_of kind flags rights object inherited sid)
+    ≡ entry_of (str_to_ascii_lowercase kind) (str_to_ascii_lowercase flags) (str_to_ascii_lowercase rights)
+    (str_to_ascii_lowercase object) (str_to_ascii_lowercase inherited) (str_to_ascii_lowercase sid)
 entry_lower kind flags rights object inherited sid =
-    ap (λ (t : List ℕ). 40 ∷ t) (field_lower kind _ _ (field_lower flags _ _ (field_lower rights _ _ (field_lower object _ _ (field_lower inherited _ _ (lower_append sid (codes ")")))))))
+    ap (λ (t : List ℕ). 40 ∷ t) (field_lower kind _ _
+    (field_lower flags _ _ (field_lower rights _ _
+    (field_lower object _ _ (field_lower inherited _ _ (lower_append sid (codes ")")))))))
 
-object_spelled : (object inherited : Option Guid) → IsGuidIf object → SpellsGuidIf (has_guid object inherited) object (str_to_ascii_lowercase (guid_text_if object))
+object_spelled : (object inherited : Option Guid) → IsGuidIf object → SpellsGuidIf (has_guid object inherited) object
+    (str_to_ascii_lowercase (guid_text_if object))
 object_spelled None None is = refl
 object_spelled None (Some g) is = refl
 object_spelled (Some g) None is = guid_spelled g is
 object_spelled (Some g) (Some h) is = guid_spelled g is
 
-inherited_spelled : (object inherited : Option Guid) → IsGuidIf inherited → SpellsGuidIf (has_guid object inherited) inherited (str_to_ascii_lowercase (guid_text_if inherited))
+inherited_spelled : (object inherited : Option Guid) → IsGuidIf inherited → SpellsGuidIf (has_guid object inherited)
+    inherited (str_to_ascii_lowercase (guid_text_if inherited))
 inherited_spelled None None is = refl
 inherited_spelled (Some g) None is = refl
 inherited_spelled None (Some h) is = guid_spelled h is
 inherited_spelled (Some g) (Some h) is = guid_spelled h is
 
-pub entry_spelled : (domain : Option SidValue) (e : Entry) → IsEntry e → SpellsEntry domain e (str_to_ascii_lowercase (entry_text e))
+pub entry_spelled : (domain : Option SidValue) (e : Entry) → IsEntry e
+    → SpellsEntry domain e (str_to_ascii_lowercase (entry_text e))
 entry_spelled domain e is = record {
   is_object = has_guid e.object e.inherited;
   flags = str_to_ascii_lowercase (codes_text flag_codes e.flags);
@@ -52,12 +62,14 @@ entry_spelled domain e is = record {
   object_is = object_spelled e.object e.inherited is.object;
   inherited_is = inherited_spelled e.object e.inherited is.inherited;
   sid_is = inl (sid_spelled e.sid is.sid);
-  parts = entry_lower (type_text (has_guid e.object e.inherited) e.kind) (codes_text flag_codes e.flags) (rights_text e.mask) (guid_text_if e.object) (guid_text_if e.inherited) (sid_text e.sid);
+  parts = entry_lower (type_text (has_guid e.object e.inherited) e.kind) (codes_text flag_codes e.flags)
+      (rights_text e.mask) (guid_text_if e.object) (guid_text_if e.inherited) (sid_text e.sid);
 }
 
 -- ---- a list
 
-entries_spelled : (domain : Option SidValue) (entries : List Entry) → AllByRecursion IsEntry entries → SpellsEach (SpellsEntry domain) entries (str_to_ascii_lowercase (flat_map entry_text entries))
+entries_spelled : (domain : Option SidValue) (entries : List Entry) → AllByRecursion IsEntry entries
+    → SpellsEach (SpellsEntry domain) entries (str_to_ascii_lowercase (flat_map entry_text entries))
 entries_spelled domain [] each = refl
 entries_spelled domain (e ∷ entries) each = record {
   front = str_to_ascii_lowercase (entry_text e);
@@ -75,7 +87,8 @@ list_flags_spelled : (protected : Bool) → SpellsListFlags protected (str_to_as
 list_flags_spelled true = record { given = codes "p" ∷ []; each = (inl refl, tt); protected_is = refl; parts = refl }
 list_flags_spelled false = record { given = []; each = tt; protected_is = refl; parts = refl }
 
-pub list_spelled : (domain : Option SidValue) (list : AceList) → AllByRecursion IsEntry list.entries → SpellsList domain list (str_to_ascii_lowercase (list_text list))
+pub list_spelled : (domain : Option SidValue) (list : AceList) → AllByRecursion IsEntry list.entries
+    → SpellsList domain list (str_to_ascii_lowercase (list_text list))
 list_spelled domain list each = record {
   flags = str_to_ascii_lowercase (flags_text list.protected);
   entries = str_to_ascii_lowercase (flat_map entry_text list.entries);

@@ -1,5 +1,6 @@
 -- The hexadecimal digits of a mask encode it.
-use Rattle.std.proofs.Common.{Bool, eqb, true, false, ◌≡◌, inl, ℕ, zero, suc, ◌+◌, ◌*◌, ◌/◌, ◌%◌, ◌^◌, ◌<◌, ◌≤◌, if◌then◌else◌, List, [], ◌∷◌, ◌++◌, length, codes, refl, sym, ap, ◌∙◌, arith}
+use Rattle.std.proofs.Common.{Bool, eqb, true, false, ◌≡◌, inl, ℕ, zero, suc, ◌+◌, ◌*◌, ◌/◌, ◌%◌, ◌^◌, ◌<◌, ◌≤◌}
+use Rattle.std.proofs.Common.{if◌then◌else◌, List, [], ◌∷◌, ◌++◌, length, codes, refl, sym, ap, ◌∙◌, arith}
 use Rattle.std.specs.Char.{to_ascii_lowercase}
 use Rattle.std.specs.List.{AllByRecursion}
 use Rattle.std.specs.Str.{str_to_ascii_lowercase}
@@ -20,13 +21,16 @@ record IsDigit (d c : ℕ) : Type 0 where
   small : to_ascii_lowercase c ≡ c
 
 digit_written : (d : ℕ) → d < 16 → IsDigit d (hex_digit d)
-digit_written d small = rw (table_at lower d 0 (inl refl) small) (record { hex = grind (arith, nat_tests); value = grind (arith, nat_tests); small = grind (arith, nat_tests) })
+digit_written d small = rw (table_at lower d 0 (inl refl) small)
+    (record { hex = grind (arith, nat_tests); value = grind (arith, nat_tests); small = grind (arith, nat_tests) })
 
-each_more : (P : ℕ → Type 0) (digits : List ℕ) (d : ℕ) → AllByRecursion P digits → P d → AllByRecursion P (digits ++ d ∷ [])
+each_more : (P : ℕ → Type 0) (digits : List ℕ) (d : ℕ) → AllByRecursion P digits → P d
+    → AllByRecursion P (digits ++ d ∷ [])
 each_more P [] d each p = (p, tt)
 each_more P (x ∷ digits) d each p = (each.0, each_more P digits d each.1 p)
 
-value_more : (n : ℕ) (digits : List ℕ) (d : ℕ) → digits_value n (digits ++ d ∷ []) ≡ digits_value n digits * 16 + value_of d
+value_more : (n : ℕ) (digits : List ℕ) (d : ℕ) → digits_value n (digits ++ d ∷ []) ≡ digits_value n digits * 16
+    + value_of d
 value_more n [] d = refl
 value_more n (x ∷ digits) d = value_more (n * 16 + value_of x) digits d
 
@@ -38,8 +42,17 @@ record IsNumber (k n : ℕ) (text : List ℕ) : Type 0 where
   value : digits_value 0 text ≡ n
   small : IsLower text
 
-hex_if : (is : Bool) (k n : ℕ) (front : List ℕ) → eqb n 0 ≡ is → IsNumber k (n / 16) front → IsNumber (suc k) n (if is then [] else front ++ hex_digit (n % 16) ∷ [])
-hex_if true k n front is f = let none : n ≡ 0 = eqb-true n 0 is in record { each = tt; few = omega arith; some = λ above. absurd (omega (arith, none, above)); value = sym none; small = refl }
+hex_if : (is : Bool) (k n : ℕ) (front : List ℕ) → eqb n 0 ≡ is → IsNumber k (n / 16) front
+    → IsNumber (suc k) n (if is then [] else front ++ hex_digit (n % 16) ∷ [])
+hex_if true k n front is f = let none : n ≡ 0 = eqb-true n 0 is
+    in record {
+      each = tt;
+      few = omega arith;
+      some = λ above. absurd (omega (arith, none, above));
+      value
+          = sym none;
+      small = refl;
+    }
 hex_if false k n front is f =
     let last = hex_digit (n % 16) in
     let d : IsDigit (n % 16) last = digit_written (n % 16) (omega arith) in
@@ -54,10 +67,20 @@ hex_if false k n front is f =
 
 hex_written : (k n : ℕ) → n < 16 ^ k → IsNumber k n (hex_text k n)
 unfolding hex_text
-hex_written zero n small = let none : n ≡ 0 = omega (arith, small) in record { each = tt; few = omega arith; some = λ above. absurd (omega (arith, none, above)); value = sym none; small = refl }
-hex_written (suc k) n small = hex_if (eqb n 0) k n (hex_text k (n / 16)) refl (hex_written k (n / 16) (omega (arith, small)))
+hex_written zero n small = let none : n ≡ 0 = omega (arith, small)
+    in record {
+      each = tt;
+      few = omega arith;
+      some = λ above. absurd (omega (arith, none, above));
+      value
+          = sym none;
+      small = refl;
+    }
+hex_written (suc k) n small = hex_if (eqb n 0) k n (hex_text k (n / 16)) refl
+    (hex_written k (n / 16) (omega (arith, small)))
 
-pub hex_spelled : (mask : ℕ) → 0 < mask → mask < 2 ^ 32 → SpellsHex mask (str_to_ascii_lowercase (codes "0x" ++ hex_text 8 mask))
+pub hex_spelled : (mask : ℕ) → 0 < mask → mask < 2 ^ 32
+    → SpellsHex mask (str_to_ascii_lowercase (codes "0x" ++ hex_text 8 mask))
 hex_spelled mask above small =
     let is : IsNumber 8 mask (hex_text 8 mask) = hex_written 8 mask (omega (arith, small)) in
     record {

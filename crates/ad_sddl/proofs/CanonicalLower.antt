@@ -7,7 +7,8 @@ use Rattle.std.proofs.lemmas.Str.Parse.{digit_from_value}
 use Rattle.std.proofs.lemmas.Fmt.{decimal_is_IsNumeral}
 use Rattle.std.specs.Str.Parse.{AllDigits}
 
-pub lower_append : (a b : List ℕ) → str_to_ascii_lowercase (a ++ b) ≡ str_to_ascii_lowercase a ++ str_to_ascii_lowercase b
+pub lower_append : (a b : List ℕ) → str_to_ascii_lowercase (a ++ b) ≡ str_to_ascii_lowercase a
+    ++ str_to_ascii_lowercase b
 lower_append [] b = refl
 lower_append (x ∷ a) b = ap (λ (t : List ℕ). to_ascii_lowercase x ∷ t) (lower_append a b)
 
@@ -16,7 +17,8 @@ abbrev pub IsLower : List ℕ → Type 0
 IsLower text = str_to_ascii_lowercase text ≡ text
 
 pub lower_both : (a b : List ℕ) → IsLower a → IsLower b → IsLower (a ++ b)
-lower_both a b p q = lower_append a b ∙ ap (λ (t : List ℕ). t ++ str_to_ascii_lowercase b) p ∙ ap (λ (t : List ℕ). a ++ t) q
+lower_both a b p q = lower_append a b ∙ ap (λ (t : List ℕ). t ++ str_to_ascii_lowercase b) p
+    ∙ ap (λ (t : List ℕ). a ++ t) q
 
 pub lower_more : (c : ℕ) (text : List ℕ) → to_ascii_lowercase c ≡ c → IsLower text → IsLower (c ∷ text)
 lower_more c text p q = ap (λ (x : ℕ). x ∷ str_to_ascii_lowercase text) p ∙ ap (λ (t : List ℕ). c ∷ t) q
@@ -25,7 +27,8 @@ lower_more c text p q = ap (λ (x : ℕ). x ∷ str_to_ascii_lowercase text) p �
 
 digits_lower : (ds : List ℕ) → AllDigits 10 ds → IsLower ds
 digits_lower [] d = refl
-digits_lower (c ∷ cs) d = let range = digit_from_value c d.0 in lower_more c cs ((lowercase_is c).1 (omega (arith, range))) (digits_lower cs d.1)
+digits_lower (c ∷ cs) d = let range = digit_from_value c d.0
+    in lower_more c cs ((lowercase_is c).1 (omega (arith, range))) (digits_lower cs d.1)
 
 pub decimal_lower : (n : ℕ) → n < 2 ^ 64 → IsLower (decimal n)
 decimal_lower n small = digits_lower (decimal n) (decimal_is_IsNumeral n small).0.1

@@ -1,5 +1,6 @@
 -- The text of an identifier encodes it in lower case too.
-use Rattle.std.proofs.Common.{true, ◌≡◌, ◌⊎◌, inl, inr, ℕ, zero, suc, ◌+◌, ◌/◌, ◌^◌, ◌<◌, ◌≤◌, List, [], ◌∷◌, ◌++◌, codes, decimal, refl, ap, ◌∙◌, arith}
+use Rattle.std.proofs.Common.{true, ◌≡◌, ◌⊎◌, inl, inr, ℕ, zero, suc, ◌+◌, ◌/◌, ◌^◌, ◌<◌, ◌≤◌, List, [], ◌∷◌, ◌++◌}
+use Rattle.std.proofs.Common.{codes, decimal, refl, ap, ◌∙◌, arith}
 use Rattle.std.specs.Char.{to_ascii_lowercase}
 use Rattle.std.specs.List.{AllByRecursion}
 use Rattle.std.specs.Str.{str_to_ascii_lowercase}
@@ -18,14 +19,17 @@ use Rattle.ad_sddl.proofs.CanonicalLower.{lower_append, lower_both, decimal_lowe
 same_digit : (c d : ℕ) → d ≡ c → is_hex_digit c ≡ true → (is_hex_digit d ≡ true) × (value_of d ≡ value_of c)
 same_digit c d e is = (ap is_hex_digit e ∙ is, ap value_of e)
 
-next_digit : (c d : ℕ) → 65 ≤ c → c < 91 → d ≡ c + 32 → is_hex_digit c ≡ true → (is_hex_digit d ≡ true) × (value_of d ≡ value_of c)
+next_digit : (c d : ℕ) → 65 ≤ c → c < 91 → d ≡ c + 32 → is_hex_digit c ≡ true → (is_hex_digit d ≡ true)
+    × (value_of d ≡ value_of c)
 next_digit c d ge lt e is = rw e (grind (arith, nat_tests), grind (arith, nat_tests))
 
-digit_lower : (c : ℕ) → is_hex_digit c ≡ true → (is_hex_digit (to_ascii_lowercase c) ≡ true) × (value_of (to_ascii_lowercase c) ≡ value_of c)
+digit_lower : (c : ℕ) → is_hex_digit c ≡ true → (is_hex_digit (to_ascii_lowercase c) ≡ true)
+    × (value_of (to_ascii_lowercase c) ≡ value_of c)
 digit_lower c is = elim (cases_lt c 65) [
   | inl below ↦ same_digit c (to_ascii_lowercase c) ((lowercase_is c).1 below) is
   | inr above ↦ elim (cases_lt c 91) [
-    | inl capital ↦ next_digit c (to_ascii_lowercase c) above capital ((lowercase_is c).0 (omega (arith, above, capital), omega (arith, above, capital))) is
+    | inl capital ↦ next_digit c (to_ascii_lowercase c) above capital
+        ((lowercase_is c).0 (omega (arith, above, capital), omega (arith, above, capital))) is
     | inr high ↦ same_digit c (to_ascii_lowercase c) ((lowercase_is c).2 (omega (arith, high))) is
   ]
 ]
@@ -54,14 +58,21 @@ authority_lower n text (inr s) = inr (record {
 
 others_lower : (others : List ℕ) → AllByRecursion (λ n. n < 2 ^ 32) others → IsLower (others_text others)
 others_lower [] small = refl
-others_lower (n ∷ others) small = ap (λ (t : List ℕ). 45 ∷ t) (lower_both (decimal n) (others_text others) (decimal_lower n (omega (arith, small.0))) (others_lower others small.1))
+others_lower (n ∷ others) small = ap (λ (t : List ℕ). 45 ∷ t)
+    (lower_both (decimal n) (others_text others) (decimal_lower n (omega (arith, small.0)))
+    (others_lower others small.1))
 
 letter_lower : (letter : ℕ) → (letter ≡ 83) ⊎ (letter ≡ 115) → to_ascii_lowercase letter ≡ 115
 letter_lower letter (inl e) = ap to_ascii_lowercase e
 letter_lower letter (inr e) = ap to_ascii_lowercase e
 
 front_lower : (front : List ℕ) → IsFront front → IsFront (str_to_ascii_lowercase front)
-front_lower front f = record { letter = 115; is_s = inr refl; parts = ap str_to_ascii_lowercase f.parts ∙ ap (λ (x : ℕ). x ∷ codes "-1-") (letter_lower f.letter f.is_s) }
+front_lower front f = record {
+  letter = 115;
+  is_s = inr refl;
+  parts = ap str_to_ascii_lowercase f.parts
+      ∙ ap (λ (x : ℕ). x ∷ codes "-1-") (letter_lower f.letter f.is_s);
+}
 
 -- in lower case a text encodes what it encoded
 pub sid_lower : (v : SidValue) (text : List ℕ) → SpellsSidText v text → SpellsSidText v (str_to_ascii_lowercase text)
@@ -73,8 +84,10 @@ sid_lower v text s = record {
   spelled = authority_lower v.authority s.authority s.spelled;
   parts =
       ap str_to_ascii_lowercase s.parts ∙ lower_append (s.front ++ s.authority) (others_text v.sub_authorities)
-      ∙ ap (λ (t : List ℕ). t ++ str_to_ascii_lowercase (others_text v.sub_authorities)) (lower_append s.front s.authority)
-      ∙ ap (λ (t : List ℕ). (str_to_ascii_lowercase s.front ++ str_to_ascii_lowercase s.authority) ++ t) (others_lower v.sub_authorities s.is_sid.sub_authorities);
+      ∙ ap (λ (t : List ℕ). t ++ str_to_ascii_lowercase (others_text v.sub_authorities))
+      (lower_append s.front s.authority)
+      ∙ ap (λ (t : List ℕ). (str_to_ascii_lowercase s.front ++ str_to_ascii_lowercase s.authority) ++ t)
+      (others_lower v.sub_authorities s.is_sid.sub_authorities);
 }
 
 pub sid_spelled : (v : SidValue) → IsSid v → SpellsSidText v (str_to_ascii_lowercase (sid_text v))

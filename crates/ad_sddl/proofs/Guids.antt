@@ -1,5 +1,6 @@
 -- The GUID of a text.
-use Rattle.std.proofs.Common.{Bool, eqb, true, false, if◌then◌else◌, Option, Some, None, unwrap_or, ◌≡◌, ℕ, ◌<◌, List, length, take, refl, sym, ap, ◌∙◌, arith}
+use Rattle.std.proofs.Common.{Bool, eqb, true, false, if◌then◌else◌, Option, Some, None, unwrap_or, ◌≡◌, ℕ, ◌<◌, List}
+use Rattle.std.proofs.Common.{length, take, refl, sym, ap, ◌∙◌, arith}
 use Rattle.std.specs.Prelude.{option_map}
 use Rattle.std.proofs.lemmas.List.{length-take}
 use Rattle.std.proofs.lemmas.Bool.Decides.{nat_tests}
@@ -43,7 +44,8 @@ pub guid_spelled : (g : Guid) (text : List ℕ) → SpellsGuidText g text → gu
 unfolding guid_of_text
 guid_spelled g text s = ap (option_map swapped) s.1 ∙ ap (λ (b : List ℕ). Some (guid b)) (swap_twice g.bytes s.0)
 
-from_parsed : (text : List ℕ) (g : Guid) (o : Option (List ℕ)) → parsed_hyphenated text ≡ o → option_map swapped o ≡ Some g → SpellsGuidText g text
+from_parsed : (text : List ℕ) (g : Guid) (o : Option (List ℕ)) → parsed_hyphenated text ≡ o → option_map swapped o
+    ≡ Some g → SpellsGuidText g text
 from_parsed text g None is e = absurd cc
 from_parsed text g (Some xs) is e =
     let sixteen : length xs ≡ 16 = sixteen_read text xs (sym is) in

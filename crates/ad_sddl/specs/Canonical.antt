@@ -1,5 +1,6 @@
 -- The one text that is written of the parts of a security descriptor.
-use Rattle.std.specs.Prelude.{◌≡◌, ℕ, zero, suc, ◌/◌, ◌%◌, ◌<◌, ◌==◌, Bool, bit_or, if◌then◌else◌, Option, Some, None, List, [], ◌∷◌, ◌++◌, codes}
+use Rattle.std.specs.Prelude.{◌≡◌, ℕ, zero, suc, ◌/◌, ◌%◌, ◌<◌, ◌==◌, Bool, bit_or, if◌then◌else◌, Option, Some, None}
+use Rattle.std.specs.Prelude.{List, [], ◌∷◌, ◌++◌, codes}
 use Rattle.std.specs.List.{flat_map, AllByRecursion}
 use Rattle.ad_ids.specs.declared.guid.Guid.{Guid}
 use Rattle.ad_ids.specs.GuidText.{guid_text}
@@ -69,7 +70,8 @@ list_part head (Some list) = head ++ list_text list
 
 -- owner, group, DACL and SACL
 unfoldable pub canonical : SdParts → List ℕ
-canonical p = sid_part (codes "O:") p.owner ++ (sid_part (codes "G:") p.group ++ (list_part (codes "D:") p.dacl ++ list_part (codes "S:") p.sacl))
+canonical p = sid_part (codes "O:") p.owner
+    ++ (sid_part (codes "G:") p.group ++ (list_part (codes "D:") p.dacl ++ list_part (codes "S:") p.sacl))
 
 -- all four parts of a descriptor
 abbrev pub all_parts : Sd → SdParts

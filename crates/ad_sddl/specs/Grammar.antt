@@ -1,6 +1,7 @@
 -- Which texts encode the parts of a security descriptor. Letters may stand in either case: the grammar is that of
 -- texts in lower case, and a text is looked at as one.
-use Rattle.std.specs.Prelude.{◌≡◌, ◌⊎◌, ℕ, ◌+◌, ◌*◌, ◌≤◌, Bool, true, false, bit_or, if◌then◌else◌, Option, Some, None, List, [], ◌∷◌, ◌++◌, length, codes}
+use Rattle.std.specs.Prelude.{◌≡◌, ◌⊎◌, ℕ, ◌+◌, ◌*◌, ◌≤◌, Bool, true, false, bit_or, if◌then◌else◌, Option, Some}
+use Rattle.std.specs.Prelude.{None, List, [], ◌∷◌, ◌++◌, length, codes}
 use Rattle.std.specs.List.{flat_map, list_any, AllByRecursion}
 use Rattle.std.specs.Option.{is_some}
 use Rattle.std.specs.Str.{bytes_eq, str_to_ascii_lowercase}
@@ -26,7 +27,8 @@ lower_letters code = str_to_ascii_lowercase code.letters
 
 -- a code of the table
 abbrev pub IsIn : List Code → Code → Type 0
-IsIn table code = (first : ℕ) × (second : ℕ) × (lower_letters code ≡ first ∷ second ∷ []) × (find table first second ≡ Some code)
+IsIn table code = (first : ℕ) × (second : ℕ) × (lower_letters code ≡ first ∷ second ∷ [])
+    × (find table first second ≡ Some code)
 
 -- the mask with the bits of each code added
 abbrev pub with_codes : ℕ → List Code → ℕ
@@ -107,7 +109,8 @@ pub record SpellsEntry (domain : Option SidValue) (entry : Entry) (text : List �
   pub object_is : SpellsGuidIf is_object entry.object object
   pub inherited_is : SpellsGuidIf is_object entry.inherited inherited
   pub sid_is : SpellsSid domain entry.sid sid
-  pub parts : text ≡ entry_of (str_to_ascii_lowercase (type_text is_object entry.kind)) flags rights object inherited sid
+  pub parts : text ≡ entry_of (str_to_ascii_lowercase (type_text is_object entry.kind)) flags rights object inherited
+      sid
 
 -- ---- lists
 

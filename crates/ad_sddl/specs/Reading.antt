@@ -69,7 +69,8 @@ field_at table kind bytes = codes_at table kind (suc (length bytes)) 0 bytes
 unfoldable pub digits_at : ℕ → ℕ → List ℕ → ℕ × List ℕ
 digits_at zero n bytes = (n, bytes)
 digits_at (suc room) n [] = (n, [])
-digits_at (suc room) n (b ∷ bytes) = if is_hex_digit b then digits_at room (n * 16 + value_of b) bytes else (n, b ∷ bytes)
+digits_at (suc room) n (b ∷ bytes) = if is_hex_digit b then digits_at room (n * 16 + value_of b) bytes
+    else (n, b ∷ bytes)
 
 -- the value of the digit at the beginning
 abbrev pub digit_here : List ℕ → Option ℕ
@@ -142,13 +143,25 @@ entry_at domain bytes = do
   inherited ← guid_at type.0.is_object object.1
   sid ← sid_at domain inherited.1
   close ← end_at 41 sid.1
-  Ok (record { kind = type.0.kind; flags = flags.0; mask = rights.0; object = object.0; inherited = inherited.0; sid = sid.0 }, close.1)
+  Ok (
+    record {
+      kind = type.0.kind;
+      flags = flags.0;
+      mask = rights.0;
+      object = object.0;
+      inherited = inherited.0;
+      sid
+          = sid.0;
+    },
+    close.1,
+  )
 
 -- entries, as long as one begins; n is no smaller than the number of bytes
 unfoldable pub entries_at : Option SidValue → ℕ → List ℕ → Reading (List Entry) Stop
 entries_at domain zero bytes = Ok ([], bytes)
 entries_at domain (suc n) bytes =
-    if begins (codes "(") bytes then (entry_at domain (drop 1 bytes) >>= λ first. entries_at domain n first.1 >>= λ others. Ok (first.0 ∷ others.0, others.1))
+    if begins (codes "(") bytes then (entry_at domain (drop 1 bytes) >>= λ first. entries_at domain n first.1
+    >>= λ others. Ok (first.0 ∷ others.0, others.1))
     else Ok ([], bytes)
 
 -- all of them
@@ -172,7 +185,8 @@ if_given otherwise f (Some x) = f x
 -- number of bytes
 unfoldable pub list_flags_at : ℕ → Bool → List ℕ → Bool × List ℕ
 list_flags_at zero protected bytes = (protected, bytes)
-list_flags_at (suc n) protected bytes = if_given (protected, bytes) (λ flag. list_flags_at n (protected || flag.0) flag.1) (list_flag_at bytes)
+list_flags_at (suc n) protected bytes = if_given (protected, bytes)
+    (λ flag. list_flags_at n (protected || flag.0) flag.1) (list_flag_at bytes)
 
 abbrev pub all_flags : List ℕ → Bool × List ℕ
 all_flags bytes = list_flags_at (length bytes) false bytes
@@ -184,7 +198,8 @@ list_at domain bytes = do
 
 -- ---- the descriptor
 
--- A part after its letter and colon: that it isn't there yet, and what it is. The fault of its letter is before these.
+-- A part after its letter and colon: that it isn't there yet, and what it is. The fault of its letter is before
+-- these.
 unfoldable pub once_at : {A : Type 0} → (List ℕ → Reading A Stop) → Bool → List ℕ → Reading A Stop
 once_at read is_there bytes = do
   _ ← need (not is_there) (stop kind.Repeated bytes)
@@ -197,16 +212,21 @@ with_part put read = read >>= λ found. Ok (put found.0, found.1)
 -- the parts with the next one
 unfoldable pub part_at : Option SidValue → SdParts → List ℕ → Reading SdParts Stop
 part_at domain parts bytes =
-    if begins (codes "o:") bytes then with_part (λ sid. record parts { owner = Some sid }) (once_at (sid_at domain) (is_some parts.owner) bytes)
-    else if begins (codes "g:") bytes then with_part (λ sid. record parts { group = Some sid }) (once_at (sid_at domain) (is_some parts.group) bytes)
-    else if begins (codes "d:") bytes then with_part (λ list. record parts { dacl = Some list }) (once_at (list_at domain) (is_some parts.dacl) bytes)
-    else if begins (codes "s:") bytes then with_part (λ list. record parts { sacl = Some list }) (once_at (list_at domain) (is_some parts.sacl) bytes)
+    if begins (codes "o:") bytes then with_part (λ sid. record parts { owner = Some sid })
+    (once_at (sid_at domain) (is_some parts.owner) bytes)
+    else if begins (codes "g:") bytes then with_part (λ sid. record parts { group = Some sid })
+    (once_at (sid_at domain) (is_some parts.group) bytes)
+    else if begins (codes "d:") bytes then with_part (λ list. record parts { dacl = Some list })
+    (once_at (list_at domain) (is_some parts.dacl) bytes)
+    else if begins (codes "s:") bytes then with_part (λ list. record parts { sacl = Some list })
+    (once_at (list_at domain) (is_some parts.sacl) bytes)
     else Err (stop kind.Part bytes)
 
 -- one part, and others up to the end; n is no smaller than the number of bytes after the first
 unfoldable pub rest_at : Option SidValue → ℕ → SdParts → List ℕ → Result SdParts Stop
 rest_at domain zero parts bytes = Err (stop kind.Part bytes)
-rest_at domain (suc n) parts bytes = part_at domain parts bytes >>= λ next. if length next.1 == 0 then Ok next.0 else rest_at domain n next.0 next.1
+rest_at domain (suc n) parts bytes = part_at domain parts bytes >>= λ next. if length next.1 == 0 then Ok next.0
+    else rest_at domain n next.0 next.1
 
 abbrev pub parts_at : Option SidValue → SdParts → List ℕ → Result SdParts Stop
 parts_at domain parts bytes = rest_at domain (suc (length bytes)) parts bytes

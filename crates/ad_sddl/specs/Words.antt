@@ -55,7 +55,8 @@ right_codes =
 
 -- the letters, which are in lower case, are those of the code
 abbrev pub are_letters : ℕ → ℕ → List ℕ → Bool
-are_letters first second letters = (to_ascii_lowercase (slice_index letters 0) == first) && (to_ascii_lowercase (slice_index letters 1) == second)
+are_letters first second letters = (to_ascii_lowercase (slice_index letters 0) == first)
+    && (to_ascii_lowercase (slice_index letters 1) == second)
 
 -- the code of the letters
 abbrev pub find : List Code → ℕ → ℕ → Option Code
@@ -114,7 +115,8 @@ alias_codes =
 -- the alias of the letters
 abbrev pub find_alias : List Alias → ℕ → ℕ → Option Alias
 find_alias [] first second = None
-find_alias (alias ∷ table) first second = if are_letters first second alias.letters then Some alias else find_alias table first second
+find_alias (alias ∷ table) first second = if are_letters first second alias.letters then Some alias
+    else find_alias table first second
 
 abbrev pub sid : ℕ → List ℕ → SidValue
 sid authority others = record { authority = authority; sub_authorities = others }

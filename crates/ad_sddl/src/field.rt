@@ -6,7 +6,8 @@ ghost use Rattle.ad_bytes.specs.Reading.{Reads};
 ghost use Rattle.ad_ids.specs.GuidText.{guid_of_text};
 ghost use Rattle.ad_sddl.specs.Words.{begins, find, flag_codes, right_codes};
 ghost use Rattle.ad_sddl.specs.declared.fault.SddlKind.TheVariants as kind;
-ghost use Rattle.ad_sddl.specs.Reading.{end_at, code_at, field_at, digits_at, digit_here, hex_at, rights_at, present_guid_at, guid_at};
+ghost use Rattle.ad_sddl.specs.Reading.{end_at, code_at, field_at, digits_at, digit_here, hex_at, rights_at};
+ghost use Rattle.ad_sddl.specs.Reading.{present_guid_at, guid_at};
 ghost use Rattle.ad_sddl.specs.Calls.{with_rest};
 
 use crate::fault::{SddlKind, Stop};

@@ -1,6 +1,7 @@
 //! How a list is read after its letter and colon.
 
-ghost use Rattle.std.specs.Prelude.{◌≡◌, ◌≤◌, ◌<◌, ◌||◌, List, ℕ, Option, Some, None, length, drop, OnOk, OnSome, IfNone};
+ghost use Rattle.std.specs.Prelude.{◌≡◌, ◌≤◌, ◌<◌, ◌||◌, List, ℕ, Option, Some, None, length, drop, OnOk, OnSome};
+ghost use Rattle.std.specs.Prelude.{IfNone};
 ghost use Rattle.std.specs.Option.{option_copied};
 ghost use Rattle.ad_bytes.specs.Reading.{ReadsUnless};
 ghost use Rattle.ad_sddl.specs.Reading.{list_flag_at, all_flags, all_entries, list_at};
@@ -49,7 +50,8 @@ fn read_list_flags(input: &mut Input<'_>) -> bool
 
 // Reads entries as long as one begins.
 fn read_entries(alloc: Global, input: &mut Input<'_>, domain: Option<&Sid>) -> Result<Aces, Stop>
-    ensures read { ReadsUnless is_memory (λ a. a) result input.new (all_entries (option_copied domain.entry) input.old) }
+    ensures read { ReadsUnless is_memory (λ a. a) result input.new
+        (all_entries (option_copied domain.entry) input.old) }
     ensures left { OnOk result (length input.new ≤ length input.old) }
 {
     let mut entries = Aces::new(alloc);
@@ -66,7 +68,8 @@ pub(crate) fn read_list(
     input: &mut Input<'_>,
     domain: Option<&Sid>,
 ) -> Result<AceList, Stop>
-    ensures read { ReadsUnless is_memory (λ list. list) result input.new (list_at (option_copied domain.entry) input.old) }
+    ensures read { ReadsUnless is_memory (λ list. list) result input.new
+        (list_at (option_copied domain.entry) input.old) }
     ensures left { OnOk result (length input.new ≤ length input.old) }
 {
     let protected = read_list_flags(input);

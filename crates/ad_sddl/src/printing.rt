@@ -35,7 +35,8 @@ fn push_letters(text: &mut String, letters: [u8; 2]) -> Result<(), AllocError>
 // Writes the codes of the mask in the order of the table.
 fn push_codes(text: &mut String, table: &[Code], mask: u32) -> Result<(), AllocError>
     requires { AreCapitals table.now }
-    ensures { OnOk result (string_bytes text.new ≡ string_bytes text.old ++ codes_text table.now mask) }
+    ensures { OnOk result (string_bytes text.new ≡ string_bytes text.old
+        ++ codes_text table.now mask) }
 {
     for code in table {
         if mask & code.bits != 0 {
@@ -115,7 +116,8 @@ fn has_guid(ace: &Ace) -> bool
 }
 
 fn push_entry(alloc: Global, text: &mut String, ace: &Ace) -> Result<(), AllocError>
-    ensures text { OnOk result (string_bytes text.new ≡ string_bytes text.old ++ entry_text ace.now) }
+    ensures text { OnOk result (string_bytes text.new ≡ string_bytes text.old
+        ++ entry_text ace.now) }
 {
     text.push_str("(")?;
     text.push_str(type_text(has_guid(ace), ace.kind))?;
@@ -133,7 +135,8 @@ fn push_entry(alloc: Global, text: &mut String, ace: &Ace) -> Result<(), AllocEr
 }
 
 fn push_list(alloc: Global, text: &mut String, list: &AceList) -> Result<(), AllocError>
-    ensures text { OnOk result (string_bytes text.new ≡ string_bytes text.old ++ list_text list.now) }
+    ensures text { OnOk result (string_bytes text.new ≡ string_bytes text.old
+        ++ list_text list.now) }
     ensures are { OnOk result (AllByRecursion IsEntry list.now.entries) }
 {
     if list.protected {
@@ -143,7 +146,8 @@ fn push_list(alloc: Global, text: &mut String, list: &AceList) -> Result<(), All
 }
 
 fn push_entries(alloc: Global, text: &mut String, entries: &[Ace]) -> Result<(), AllocError>
-    ensures text { OnOk result (string_bytes text.new ≡ string_bytes text.old ++ flat_map entry_text entries.now) }
+    ensures text { OnOk result (string_bytes text.new ≡ string_bytes text.old
+        ++ flat_map entry_text entries.now) }
     ensures are { OnOk result (AllByRecursion IsEntry entries.now) }
 {
     for ace in entries {
@@ -159,7 +163,8 @@ fn push_sid_part(
     head: &str,
     sid: &Option<Sid>,
 ) -> Result<(), AllocError>
-    ensures text { OnOk result (string_bytes text.new ≡ string_bytes text.old ++ sid_part head.now sid.now) }
+    ensures text { OnOk result (string_bytes text.new ≡ string_bytes text.old
+        ++ sid_part head.now sid.now) }
     ensures is { OnOk result (IsSidIf sid.now) }
 {
     match sid {
@@ -177,7 +182,8 @@ fn push_list_part(
     head: &str,
     list: &Option<AceList>,
 ) -> Result<(), AllocError>
-    ensures text { OnOk result (string_bytes text.new ≡ string_bytes text.old ++ list_part head.now list.now) }
+    ensures text { OnOk result (string_bytes text.new ≡ string_bytes text.old
+        ++ list_part head.now list.now) }
     ensures are { OnOk result (AreEntriesIf list.now) }
 {
     match list {
@@ -228,7 +234,8 @@ fn text_of_sd(alloc: Global, sd: &Sd) -> Result<String, AllocError>
 pub fn print_parts(alloc: Global, parts: &SdParts) -> Result<String, AllocError>
     ensures written { IfOk result (λ text. string_bytes text ≡ canonical parts.now) }
     // Where a part is there, what is written encodes them, so that it is read as them again.
-    ensures spelled { IfOk result (λ text. (IsEmpty parts.now → ⊥) → (domain : Option SidValue) → SpellsSddl domain parts.now (string_bytes text)) }
+    ensures spelled { IfOk result (λ text. (IsEmpty parts.now → ⊥) → (domain : Option SidValue)
+        → SpellsSddl domain parts.now (string_bytes text)) }
 {
     text_of_parts(alloc, parts)
 }
@@ -241,7 +248,8 @@ pub fn print_parts(alloc: Global, parts: &SdParts) -> Result<String, AllocError>
 pub fn print(alloc: Global, sd: &Sd) -> Result<String, AllocError>
     ensures written { IfOk result (λ text. string_bytes text ≡ canonical (all_parts sd.now)) }
     // What is written encodes the four parts, so that it is read as them again.
-    ensures spelled { IfOk result (λ text. (domain : Option SidValue) → SpellsSddl domain (all_parts sd.now) (string_bytes text)) }
+    ensures spelled { IfOk result (λ text. (domain : Option SidValue)
+        → SpellsSddl domain (all_parts sd.now) (string_bytes text)) }
 {
     text_of_sd(alloc, sd)
 }

@@ -1,11 +1,13 @@
 //! How a whole text is read.
 
-ghost use Rattle.std.specs.Prelude.{◌≡◌, ◌≤◌, ◌<◌, List, ℕ, Option, Some, None, length, drop, OnOk, IfOk, IfErr, Ok, false};
+ghost use Rattle.std.specs.Prelude.{◌≡◌, ◌≤◌, ◌<◌, List, ℕ, Option, Some, None, length, drop, OnOk, IfOk, IfErr, Ok};
+ghost use Rattle.std.specs.Prelude.{false};
 ghost use Rattle.std.specs.Option.{option_copied};
 ghost use Rattle.ad_bytes.specs.Reading.{Reads, ReadsUnless, GivesUnless};
 ghost use Rattle.ad_sd.specs.declared.parts.SdParts.{SdParts as PartsValue};
 ghost use Rattle.ad_sddl.specs.Grammar.{no_parts, SpellsSddl};
-ghost use Rattle.ad_sddl.specs.Reading.{sid_at, list_at, once_at, part_at, parts_at, parts_of, is_out_of_memory, read_of};
+ghost use Rattle.ad_sddl.specs.Reading.{sid_at, list_at, once_at, part_at, parts_at, parts_of, is_out_of_memory};
+ghost use Rattle.ad_sddl.specs.Reading.{read_of};
 ghost use Rattle.ad_sddl.specs.Calls.{is_memory, ReadsParts, ReadsAll};
 
 use crate::fault::{SddlFault, SddlKind, Stop};
@@ -75,7 +77,8 @@ fn read_part(
     domain: Option<&Sid>,
     parts: &mut SdParts,
 ) -> Result<(), Stop>
-    ensures read { ReadsParts result parts.new input.new (part_at (option_copied domain.entry) parts.old input.old) }
+    ensures read { ReadsParts result parts.new input.new
+        (part_at (option_copied domain.entry) parts.old input.old) }
     ensures left { OnOk result (length input.new < length input.old) }
 {
     let left = input.len();
@@ -109,7 +112,8 @@ fn read_all(
     domain: Option<&Sid>,
     parts: &mut SdParts,
 ) -> Result<(), Stop>
-    ensures read { ReadsAll result parts.new (parts_at (option_copied domain.entry) parts.old input.old) }
+    ensures read { ReadsAll result parts.new
+        (parts_at (option_copied domain.entry) parts.old input.old) }
 {
     'parts: loop {
         read_part(alloc, input, domain, parts)?;
@@ -121,7 +125,8 @@ fn read_all(
 
 // Reads a text in lower case.
 fn read_lower(alloc: Global, text: &[u8], domain: Option<&Sid>) -> Result<SdParts, Stop>
-    ensures { GivesUnless is_memory (λ p. p) result (parts_of (option_copied domain.entry) text.now) }
+    ensures { GivesUnless is_memory (λ p. p) result
+        (parts_of (option_copied domain.entry) text.now) }
 {
     let mut input = Input::new(text);
     let mut parts = no_parts();
@@ -133,7 +138,8 @@ fn read_lower(alloc: Global, text: &[u8], domain: Option<&Sid>) -> Result<SdPart
 #[tactic(auto, unfolding(crate::specs::Reading::read_of))]
 fn read_text(alloc: Global, text: &[u8], domain: Option<&Sid>) -> Result<SdParts, SddlFault>
     // What is read, and which fault it is and where.
-    ensures { GivesUnless is_out_of_memory (λ p. p) result (read_of (option_copied domain.entry) text.now) }
+    ensures { GivesUnless is_out_of_memory (λ p. p) result
+        (read_of (option_copied domain.entry) text.now) }
 {
     let lower = text.to_ascii_lowercase(alloc)?;
     match read_lower(alloc, &lower, domain) {
@@ -160,9 +166,11 @@ pub fn read(alloc: Global, text: &[u8], domain: Option<&Sid>) -> Result<SdParts,
     // What is read is encoded so.
     ensures found { IfOk result (λ parts. SpellsSddl (option_copied domain.entry) parts text.now) }
     // Whatever is encoded so is read.
-    ensures only { (parts : PartsValue) → SpellsSddl (option_copied domain.entry) parts text.now → GivesUnless is_out_of_memory (λ p. p) result (Ok parts) }
+    ensures only { (parts : PartsValue) → SpellsSddl (option_copied domain.entry) parts text.now
+        → GivesUnless is_out_of_memory (λ p. p) result (Ok parts) }
     // Which fault it is, and where.
-    ensures read { GivesUnless is_out_of_memory (λ p. p) result (read_of (option_copied domain.entry) text.now) }
+    ensures read { GivesUnless is_out_of_memory (λ p. p) result
+        (read_of (option_copied domain.entry) text.now) }
 {
     read_text(alloc, text, domain)
 }

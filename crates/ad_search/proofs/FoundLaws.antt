@@ -1,5 +1,6 @@
 -- An object is found by each spelling of its name, in every directory that stands.
-use Rattle.std.proofs.Common.{◌≡◌, ℕ, zero, suc, ◌<◌, ◌≤◌, Bool, true, false, List, [], ◌∷◌, ◌++◌, length, drop, reverse, Option, Some, None, refl, sym, subst, ap, ◌∙◌, arith}
+use Rattle.std.proofs.Common.{◌≡◌, ℕ, zero, suc, ◌<◌, ◌≤◌, Bool, true, false, List, [], ◌∷◌, ◌++◌, length, drop}
+use Rattle.std.proofs.Common.{reverse, Option, Some, None, refl, sym, subst, ap, ◌∙◌, arith}
 use Rattle.std.specs.Prelude.{nat_eq, find, if◌then◌else◌}
 use Rattle.std.specs.Option.{option_and_then}
 use Rattle.std.proofs.lemmas.Bool.{eqb-true, eq-eqb, ne_eqb, both_ways, and_parts, and_from}
@@ -13,7 +14,8 @@ use Rattle.ad_dir_model.specs.Object.{Object}
 use Rattle.ad_dir_model.specs.Objects.{object_of, is_live, object_at}
 use Rattle.ad_dir_model.specs.Tree.{root, IsAtDepth, IsPlaced}
 use Rattle.ad_dir_model.specs.Directory.{Directory, parents}
-use Rattle.ad_dir_model.specs.Names.{rdn_of, rdns_within, rdns_of, same_folded, same_rdn, begins_with, is_child_named, child_named, number_if_typed, child_of_rdn, found_below, found_from_end, found}
+use Rattle.ad_dir_model.specs.Names.{rdn_of, rdns_within, rdns_of, same_folded, same_rdn, begins_with, is_child_named}
+use Rattle.ad_dir_model.specs.Names.{child_named, number_if_typed, child_of_rdn, found_below, found_from_end, found}
 use Rattle.ad_dir_model.proofs.Finding.{of-live, at_number, found_first, none_found}
 use Rattle.ad_dir.specs.Standing.{AreStanding}
 use Rattle.ad_search.specs.Scope.{same_rdns}
@@ -25,9 +27,11 @@ Stands dir = AreStanding dir.schema dir.objects
 -- ---- names from the end
 
 turned : (a b : Rdn) → same_rdn a b ≡ true → same_rdn b a ≡ true
-turned a b is = let same : IsSameRdn a b = from_part a b is in to_part b a (record { kind = sym same.kind; value = sym same.value })
+turned a b is = let same : IsSameRdn a b = from_part a b is
+    in to_part b a (record { kind = sym same.kind; value = sym same.value })
 
-same_snoc : (a b : List Rdn) (x y : Rdn) → same_rdns a b ≡ true → same_rdn x y ≡ true → same_rdns (a ++ x ∷ []) (b ++ y ∷ []) ≡ true
+same_snoc : (a b : List Rdn) (x y : Rdn) → same_rdns a b ≡ true → same_rdn x y ≡ true → same_rdns (a ++ x ∷ [])
+    (b ++ y ∷ []) ≡ true
 unfolding same_rdns
 same_snoc [] [] x y all one = and_from (same_rdn x y) true one refl
 same_snoc [] (b ∷ bs) x y all one = absurd (both_ways false refl all)
@@ -78,7 +82,14 @@ record EndsWith (a : List Rdn) (x : Rdn) (c : List Rdn) : Type 0 where
 at_end : (a : List Rdn) (x : Rdn) (c : List Rdn) → same_rdns (a ++ x ∷ []) c ≡ true → EndsWith a x c
 unfolding same_rdns
 at_end [] x [] all = absurd (both_ways false refl all)
-at_end [] x (c ∷ []) all = record { before = []; last = c; parts = refl; same_before = refl; same_last = (and_parts (same_rdn x c) true all).0 }
+at_end [] x (c ∷ []) all = record {
+  before = [];
+  last = c;
+  parts = refl;
+  same_before = refl;
+  same_last
+      = (and_parts (same_rdn x c) true all).0;
+}
 at_end [] x (c ∷ d ∷ cs) all = absurd (both_ways false refl (and_parts (same_rdn x c) false all).1)
 at_end (a ∷ as') x [] all = absurd (both_ways false refl all)
 at_end (a ∷ as') x (c ∷ cs) all =
@@ -99,22 +110,27 @@ path : Directory → ℕ → ℕ → List Rdn
 path dir zero n = []
 path dir (suc d) n = path dir d (parents dir n) ++ rdn_of dir.schema (object_at dir.objects n) ∷ []
 
-below_more : (dir : Directory) (n m : ℕ) (rdns : List Rdn) (rdn : Rdn) → found_below dir n rdns ≡ Some m → found_below dir n (rdns ++ rdn ∷ []) ≡ child_of_rdn dir m rdn
+below_more : (dir : Directory) (n m : ℕ) (rdns : List Rdn) (rdn : Rdn) → found_below dir n rdns ≡ Some m
+    → found_below dir n (rdns ++ rdn ∷ []) ≡ child_of_rdn dir m rdn
 unfolding found_below
-below_more dir n m [] rdn is = by_child (child_of_rdn dir n rdn) ∙ ap (λ (k : ℕ). child_of_rdn dir k rdn) (same_Some n m is)
+below_more dir n m [] rdn is = by_child (child_of_rdn dir n rdn) ∙ ap (λ (k : ℕ). child_of_rdn dir k rdn)
+    (same_Some n m is)
   where
     by_child : (child : Option ℕ) → option_and_then (λ (k : ℕ). Some k) child ≡ child
     by_child None = refl
     by_child (Some k) = refl
 below_more dir n m (first ∷ rest) rdn is = by_child (child_of_rdn dir n first) (λ k. below_more dir k m rest rdn) is
   where
-    by_child : (child : Option ℕ) → ((k : ℕ) → found_below dir k rest ≡ Some m → found_below dir k (rest ++ rdn ∷ []) ≡ child_of_rdn dir m rdn)
-        → option_and_then (λ (k : ℕ). found_below dir k rest) child ≡ Some m → option_and_then (λ (k : ℕ). found_below dir k (rest ++ rdn ∷ [])) child ≡ child_of_rdn dir m rdn
+    by_child : (child : Option ℕ) → ((k : ℕ) → found_below dir k rest ≡ Some m → found_below dir k (rest ++ rdn ∷ [])
+        ≡ child_of_rdn dir m rdn)
+        → option_and_then (λ (k : ℕ). found_below dir k rest) child ≡ Some m
+        → option_and_then (λ (k : ℕ). found_below dir k (rest ++ rdn ∷ [])) child ≡ child_of_rdn dir m rdn
     by_child None again is = absurd (none-some m is)
     by_child (Some k) again is = again k is
 
 -- a child is found below its parent by each spelling of its part of the name
-child_found : (dir : Directory) (n : ℕ) (rdn : Rdn) → Stands dir → is_live dir.objects n ≡ true → same_rdn (rdn_of dir.schema (object_at dir.objects n)) rdn ≡ true
+child_found : (dir : Directory) (n : ℕ) (rdn : Rdn) → Stands dir → is_live dir.objects n ≡ true
+    → same_rdn (rdn_of dir.schema (object_at dir.objects n)) rdn ≡ true
     → child_of_rdn dir (parents dir n) rdn ≡ Some n
 unfolding child_of_rdn child_named rdn_of
 child_found dir n rdn stands live same = by_found (find test dir.objects) refl
@@ -129,31 +145,41 @@ child_found dir n rdn stands live same = by_found (find test dir.objects) refl
     own_value = (from_part (rdn_of dir.schema o) rdn same).value
 
     own : test o ≡ true
-    own = and_from (nat_eq o.parent o.parent) (same_folded o.name rdn.value) (eq-eqb o.parent o.parent refl) ((bytes_eq-Decides (folded o.name) (folded rdn.value)).1 own_value)
+    own = and_from (nat_eq o.parent o.parent) (same_folded o.name rdn.value) (eq-eqb o.parent o.parent refl)
+        ((bytes_eq-Decides (folded o.name) (folded rdn.value)).1 own_value)
 
     number : o.number ≡ n
     number = at_number dir.objects n live
 
-    by_found : (result : Option Object) → find test dir.objects ≡ result → option_and_then (number_if_typed dir.schema rdn) result ≡ Some n
-    by_found None none = absurd (both_ways (test o) (none_found test dir.objects n o none (of-live dir.objects n live)) own)
+    by_found : (result : Option Object) → find test dir.objects ≡ result
+        → option_and_then (number_if_typed dir.schema rdn) result ≡ Some n
+    by_found None none = absurd (both_ways (test o)
+        (none_found test dir.objects n o none (of-live dir.objects n live)) own)
     by_found (Some x) is =
         let first = found_first test 0 dir.objects x stands.rise is in
         let parts = and_parts (nat_eq x.parent o.parent) (same_folded x.name rdn.value) first.passes in
-        let same_name : folded x.name ≡ folded o.name = (bytes_eq-Decides (folded x.name) (folded rdn.value)).0 parts.1 ∙ sym own_value in
-        let same_number : x.number ≡ o.number = stands.own_name n o (of-live dir.objects n live) x.number x first.live (eqb-true x.parent o.parent parts.0) same_name in
-        let itself : x ≡ o = same_Some x o (sym first.live ∙ ap (object_of dir.objects) (same_number ∙ number) ∙ of-live dir.objects n live) in
+        let same_name : folded x.name ≡ folded o.name = (bytes_eq-Decides (folded x.name) (folded rdn.value)).0
+        parts.1 ∙ sym own_value in
+        let same_number : x.number ≡ o.number = stands.own_name n o (of-live dir.objects n live) x.number x first.live
+        (eqb-true x.parent o.parent parts.0) same_name in
+        let itself : x ≡ o = same_Some x o (sym first.live ∙ ap (object_of dir.objects) (same_number ∙ number)
+        ∙ of-live dir.objects n live) in
         ap (λ (y : Object). number_if_typed dir.schema rdn y) itself
         ∙ ap (λ (b : Bool). if b then Some o.number else None) same
         ∙ ap (λ (k : ℕ). Some k) number
 
-pub parent_live : (dir : Directory) (n : ℕ) → Stands dir → is_live dir.objects n ≡ true → (n ≡ root → ⊥) → is_live dir.objects (parents dir n) ≡ true
+pub parent_live : (dir : Directory) (n : ℕ) → Stands dir → is_live dir.objects n ≡ true → (n ≡ root → ⊥)
+    → is_live dir.objects (parents dir n) ≡ true
 parent_live dir n stands live below = stands.parents n (object_at dir.objects n) (of-live dir.objects n live) below
 
-root_live : (dir : Directory) → Stands dir → (d n : ℕ) → is_live dir.objects n ≡ true → IsAtDepth (parents dir) d n → is_live dir.objects root ≡ true
+root_live : (dir : Directory) → Stands dir → (d n : ℕ) → is_live dir.objects n ≡ true → IsAtDepth (parents dir) d n
+    → is_live dir.objects root ≡ true
 root_live dir stands zero n live at = subst (λ (k : ℕ). is_live dir.objects k ≡ true) at live
-root_live dir stands (suc d) n live at = root_live dir stands d (parents dir n) (parent_live dir n stands live at.0) at.1
+root_live dir stands (suc d) n live at = root_live dir stands d (parents dir n) (parent_live dir n stands live at.0)
+    at.1
 
-path_found : (dir : Directory) → Stands dir → (d n : ℕ) (rdns : List Rdn) → is_live dir.objects n ≡ true → IsAtDepth (parents dir) d n → same_rdns (path dir d n) rdns ≡ true
+path_found : (dir : Directory) → Stands dir → (d n : ℕ) (rdns : List Rdn) → is_live dir.objects n ≡ true
+    → IsAtDepth (parents dir) d n → same_rdns (path dir d n) rdns ≡ true
     → found_below dir root rdns ≡ Some n
 unfolding path found_below same_rdns
 path_found dir stands zero n [] live at same = ap (λ (k : ℕ). Some k) (sym at)
@@ -161,7 +187,9 @@ path_found dir stands zero n (r ∷ rs) live at same = absurd (both_ways false r
 path_found dir stands (suc d) n rdns live at same =
     let ends = at_end (path dir d (parents dir n)) (rdn_of dir.schema (object_at dir.objects n)) rdns same in
     ap (found_below dir root) ends.parts
-    ∙ below_more dir root (parents dir n) ends.before ends.last (path_found dir stands d (parents dir n) ends.before (parent_live dir n stands live at.0) at.1 ends.same_before)
+    ∙ below_more dir root (parents dir n) ends.before ends.last
+    (path_found dir stands d (parents dir n) ends.before (parent_live dir n stands live at.0) at.1
+    ends.same_before)
     ∙ child_found dir n ends.last stands live ends.same_last
 
 -- ---- the name from its end
@@ -169,26 +197,33 @@ path_found dir stands (suc d) n rdns live at same =
 top_of : Directory → List Rdn
 top_of dir = rdn_of dir.schema (object_at dir.objects root) ∷ dir.meta.suffix
 
-within_is : (dir : Directory) (d levels n : ℕ) → IsAtDepth (parents dir) d n → d < levels → reverse (rdns_within dir levels n) ≡ reverse (top_of dir) ++ path dir d n
+within_is : (dir : Directory) (d levels n : ℕ) → IsAtDepth (parents dir) d n → d < levels
+    → reverse (rdns_within dir levels n) ≡ reverse (top_of dir) ++ path dir d n
 unfolding rdns_within path top_of
 within_is dir zero zero n at less = absurd (omega arith)
 within_is dir zero (suc levels) n at less =
-    rw (eq-eqb n root at) (ap (λ (k : ℕ). reverse (rdn_of dir.schema (object_at dir.objects k) ∷ dir.meta.suffix)) at ∙ sym (append-nil (reverse (top_of dir))))
+    rw (eq-eqb n root at) (ap (λ (k : ℕ). reverse (rdn_of dir.schema (object_at dir.objects k) ∷ dir.meta.suffix)) at
+    ∙ sym (append-nil (reverse (top_of dir))))
 within_is dir (suc d) zero n at less = absurd (omega arith)
 within_is dir (suc d) (suc levels) n at less =
     let below : d < levels = omega arith in
     rw (ne_eqb n root at.0)
     (reverse-append (rdn_of dir.schema (object_at dir.objects n) ∷ []) (rdns_within dir levels (parents dir n))
-    ∙ ap (λ (rdns : List Rdn). rdns ++ rdn_of dir.schema (object_at dir.objects n) ∷ []) (within_is dir d levels (parents dir n) at.1 below)
-    ∙ append_assoc (reverse (top_of dir)) (path dir d (parents dir n)) (rdn_of dir.schema (object_at dir.objects n) ∷ []))
+    ∙ ap (λ (rdns : List Rdn). rdns ++ rdn_of dir.schema (object_at dir.objects n) ∷ [])
+    (within_is dir d levels (parents dir n) at.1 below)
+    ∙ append_assoc (reverse (top_of dir)) (path dir d (parents dir n))
+    (rdn_of dir.schema (object_at dir.objects n) ∷ []))
 
-pub named_found : (dir : Directory) (n : ℕ) (rdns : List Rdn) → Stands dir → is_live dir.objects n ≡ true → same_rdns (rdns_of dir n) rdns ≡ true → found dir rdns ≡ Some n
+pub named_found : (dir : Directory) (n : ℕ) (rdns : List Rdn) → Stands dir → is_live dir.objects n ≡ true
+    → same_rdns (rdns_of dir n) rdns ≡ true → found dir rdns ≡ Some n
 unfolding found rdns_of path top_of
 named_found dir n rdns stands live same =
     ap (λ (top : List Rdn). found_from_end dir top (reverse rdns)) root_whole
     ∙ ap (λ (b : Bool). if b then found_below dir root (drop (length (reverse (top_of dir))) (reverse rdns)) else None)
-    (and_from (is_live dir.objects root) (begins_with (reverse rdns) (reverse (top_of dir))) (root_live dir stands placed.depth n live placed.chain) begins.begins)
-    ∙ path_found dir stands placed.depth n (drop (length (reverse (top_of dir))) (reverse rdns)) live placed.chain begins.rest
+    (and_from (is_live dir.objects root) (begins_with (reverse rdns) (reverse (top_of dir)))
+    (root_live dir stands placed.depth n live placed.chain) begins.begins)
+    ∙ path_found dir stands placed.depth n (drop (length (reverse (top_of dir))) (reverse rdns)) live placed.chain
+    begins.rest
   where
     placed : IsPlaced (parents dir) n
     placed = stands.placed n live
@@ -204,4 +239,5 @@ named_found dir n rdns stands live same =
 
     begins : Begins (reverse (top_of dir)) (path dir placed.depth n) (reverse rdns)
     begins = front (reverse (top_of dir)) (path dir placed.depth n) (reverse rdns)
-        (subst (λ (name : List Rdn). same_rdns name (reverse rdns) ≡ true) whole (same_reverse (rdns_within dir (suc max_depth) n) rdns same))
+        (subst (λ (name : List Rdn). same_rdns name (reverse rdns) ≡ true) whole
+        (same_reverse (rdns_within dir (suc max_depth) n) rdns same))

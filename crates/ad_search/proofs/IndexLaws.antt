@@ -1,6 +1,8 @@
 -- What is found by the indexes has the entries of all objects.
-use Rattle.std.proofs.Common.{◌≡◌, ℕ, zero, suc, ◌<◌, ◌≤◌, Bool, true, false, ◌&&◌, ◌||◌, List, [], ◌∷◌, ◌++◌, length, Option, Some, None, inl, inr, refl, sym, subst, ap, ◌∙◌, arith}
-use Rattle.std.specs.Prelude.{slice_get, nat_eq, nat_lt, ◌==◌, filter, codes, option_to_list, if◌then◌else◌, IfSome, IsSomeAnd}
+use Rattle.std.proofs.Common.{◌≡◌, ℕ, zero, suc, ◌<◌, ◌≤◌, Bool, true, false, ◌&&◌, ◌||◌, List, [], ◌∷◌, ◌++◌, length}
+use Rattle.std.proofs.Common.{Option, Some, None, inl, inr, refl, sym, subst, ap, ◌∙◌, arith}
+use Rattle.std.specs.Prelude.{slice_get, nat_eq, nat_lt, ◌==◌, filter, codes, option_to_list, if◌then◌else◌, IfSome}
+use Rattle.std.specs.Prelude.{IsSomeAnd}
 use Rattle.std.specs.List.{AllByRecursion, list_any}
 use Rattle.std.proofs.lemmas.Bool.{cases_Bool, cases_lt, both_ways, eqb-true, eq-eqb}
 use Rattle.std.proofs.lemmas.List.{append-nil}
@@ -38,11 +40,13 @@ use Rattle.ad_search.specs.Steps.{entries_among}
 use Rattle.ad_search.specs.Subtree.{is_in}
 use Rattle.ad_search.specs.Judged.{place_if}
 use Rattle.ad_search.specs.Needles.{has_key, IsPlain, IsNeedle}
-use Rattle.ad_search.specs.Indexed.{names_one, IsSoughtFor, IsSought, AreSought, IsNever, IsBefore, IsNextShown, IsNextFor, IsLeftOfAll}
+use Rattle.ad_search.specs.Indexed.{names_one, IsSoughtFor, IsSought, AreSought, IsNever, IsBefore, IsNextShown}
+use Rattle.ad_search.specs.Indexed.{IsNextFor, IsLeftOfAll}
 use Rattle.ad_search.proofs.NeedleLaws.{shows_no_key, not_found, and_none}
 use Rattle.ad_search.proofs.BareLaws.{or_false}
 use Rattle.ad_search.proofs.SeenLaws.{numbers_live}
-use Rattle.ad_search.proofs.SubtreeLaws.{and_false, in_filter, in_numbers, RisesAbove, kept_rising, numbers_rise, same_rising}
+use Rattle.ad_search.proofs.SubtreeLaws.{and_false, in_filter, in_numbers, RisesAbove, kept_rising, numbers_rise}
+use Rattle.ad_search.proofs.SubtreeLaws.{same_rising}
 use Rattle.ad_search.proofs.BaseLaws.{Has, those_numbers}
 
 -- ---- the next object that shows a value
@@ -59,7 +63,8 @@ or_right : (a b : Bool) → a || b ≡ false → b ≡ false
 or_right true b e = absurd (both_ways (true || b) e refl)
 or_right false b e = e
 
-any_at : {A : Type 0} (p : A → Bool) (xs : List A) (i : ℕ) (x : A) → list_any p xs ≡ false → slice_get xs i ≡ Some x → p x ≡ false
+any_at : {A : Type 0} (p : A → Bool) (xs : List A) (i : ℕ) (x : A) → list_any p xs ≡ false → slice_get xs i ≡ Some x
+    → p x ≡ false
 any_at p [] i x none is = absurd (none-some x is)
 any_at p (y ∷ ys) zero x none is = ap p (sym (same_Some y x is)) ∙ or_left (p y) (list_any p ys) none
 any_at p (y ∷ ys) (suc i) x none is = any_at p ys i x (or_right (p y) (list_any p ys) none) is
@@ -70,77 +75,102 @@ found_at (x ∷ xs) zero within = (x, refl)
 found_at (x ∷ xs) (suc i) within = found_at xs i (omega (arith, within))
 
 -- no class names its objects by the attribute
-none_named : (schema : List SchemaRecord) (attr class : ℕ) → IsPlain schema attr → class < length (classes_of schema) → names_one schema attr ≡ false → is_naming schema class attr ≡ false
+none_named : (schema : List SchemaRecord) (attr class : ℕ) → IsPlain schema attr → class < length (classes_of schema)
+    → names_one schema attr ≡ false → is_naming schema class attr ≡ false
 none_named schema attr class ordinary within none =
     let there = found_at (classes_of schema) class within in
     or_false (is_named schema (codes "name") attr) (naming_of schema class == attr) ordinary.no_name
-    (subst (λ (n : ℕ). (n == attr) ≡ false) (class_naming schema class there.0 there.1) (any_at (λ (info : ClassInfo). info.naming.0 == attr) (classes_of schema) class there.0 none there.1))
+    (subst (λ (n : ℕ). (n == attr) ≡ false) (class_naming schema class there.0 there.1)
+    (any_at (λ (info : ClassInfo). info.naming.0 == attr) (classes_of schema) class there.0 none there.1))
 
 -- it shows the naming value
-named_no_key : (dir : Directory) (number attr : ℕ) (key : Key) (o : Object) → object_at dir.objects number ≡ o → IsPlain dir.schema attr → is_naming dir.schema o.class attr ≡ true
-    → syntax_at dir.schema attr ≡ syntax.Unicode → same_key (computed syntax.Unicode o.name).key key ≡ false → has_key key (shown dir number attr) ≡ false
+named_no_key : (dir : Directory) (number attr : ℕ) (key : Key) (o : Object) → object_at dir.objects number ≡ o
+    → IsPlain dir.schema attr → is_naming dir.schema o.class attr ≡ true
+    → syntax_at dir.schema attr ≡ syntax.Unicode → same_key (computed syntax.Unicode o.name).key key ≡ false
+    → has_key key (shown dir number attr) ≡ false
 unfolding shown
 named_no_key dir number attr key o is ordinary naming text none =
-    let naming_there : is_naming dir.schema (object_at dir.objects number).class attr ≡ true = subst (λ (x : Object). is_naming dir.schema x.class attr ≡ true) (sym is) naming in
-    let none_text : same_key (computed (syntax_at dir.schema attr) o.name).key key ≡ false = subst (λ (kind : Syntax). same_key (computed kind o.name).key key ≡ false) (sym text) none in
-    let none_there : same_key (computed (syntax_at dir.schema attr) (object_at dir.objects number).name).key key ≡ false =
+    let naming_there : is_naming dir.schema (object_at dir.objects number).class attr ≡ true
+    = subst (λ (x : Object). is_naming dir.schema x.class attr ≡ true) (sym is) naming in
+    let none_text : same_key (computed (syntax_at dir.schema attr) o.name).key key ≡ false
+    = subst (λ (kind : Syntax). same_key (computed kind o.name).key key ≡ false) (sym text) none in
+    let none_there : same_key (computed (syntax_at dir.schema attr) (object_at dir.objects number).name).key key
+    ≡ false =
     subst (λ (x : Object). same_key (computed (syntax_at dir.schema attr) x.name).key key ≡ false) (sym is) none_text in
     rw ordinary.no_class (rw ordinary.no_dn (rw naming_there (rw none_there refl)))
 
 module _ (dir : Directory) (attr : ℕ) (key : Key) (above : ℕ) (standing : AreStanding dir.schema dir.objects) where
-  stores_none : (result : Option ℕ) (n : ℕ) → IsNextWith dir.objects attr key above result → is_live dir.objects n ≡ true → above < n → IsBefore n result
+  stores_none : (result : Option ℕ) (n : ℕ) → IsNextWith dir.objects attr key above result → is_live dir.objects n
+      ≡ true → above < n → IsBefore n result
       → list_any (may_have key) (stored_in (object_at dir.objects n).values attr) ≡ false
   stores_none result n next live more before = elim (cases_Bool (may_store attr key (object_at dir.objects n))) [
-    | inl so ↦ absurd (not_before n result (next.each n (object_at dir.objects n) (of-live dir.objects n live) so more) before)
+    | inl so ↦ absurd (not_before n result
+        (next.each n (object_at dir.objects n) (of-live dir.objects n live) so more) before)
     | inr not_so ↦ not_so
   ]
 
-  named_none : (result : Option ℕ) (n : ℕ) → IsNextNamed dir.objects key above result → is_live dir.objects n ≡ true → above < n → IsBefore n result
+  named_none : (result : Option ℕ) (n : ℕ) → IsNextNamed dir.objects key above result → is_live dir.objects n ≡ true
+      → above < n → IsBefore n result
       → same_key (computed syntax.Unicode (object_at dir.objects n).name).key key ≡ false
-  named_none result n next live more before = elim (cases_Bool (same_key (computed syntax.Unicode (object_at dir.objects n).name).key key)) [
-    | inl so ↦ absurd (not_before n result (next.each n (object_at dir.objects n) (of-live dir.objects n live) so more) before)
-    | inr not_so ↦ not_so
-  ]
+  named_none result n next live more before
+      = elim (cases_Bool (same_key (computed syntax.Unicode (object_at dir.objects n).name).key key)) [
+        | inl so ↦ absurd (not_before n result
+            (next.each n (object_at dir.objects n) (of-live dir.objects n live) so more) before)
+        | inr not_so ↦ not_so
+      ]
 
   -- where no class names its objects so
-  pub stored_shown : (result : Option ℕ) (n : ℕ) → IsNextWith dir.objects attr key above result → IsPlain dir.schema attr → names_one dir.schema attr ≡ false
+  pub stored_shown : (result : Option ℕ) (n : ℕ) → IsNextWith dir.objects attr key above result
+      → IsPlain dir.schema attr → names_one dir.schema attr ≡ false
       → is_live dir.objects n ≡ true → above < n → IsBefore n result → has_key key (shown dir n attr) ≡ false
   stored_shown result n next ordinary none live more before =
       shows_no_key dir n attr key (object_at dir.objects n) refl ordinary
-      (none_named dir.schema attr (object_at dir.objects n).class ordinary (standing.content n (object_at dir.objects n) (of-live dir.objects n live)).class_of_schema none)
+      (none_named dir.schema attr (object_at dir.objects n).class ordinary
+      (standing.content n (object_at dir.objects n) (of-live dir.objects n live)).class_of_schema none)
       (stores_none result n next live more before)
 
   -- and where one does
-  pub named_shown : (stored named : Option ℕ) (n : ℕ) → IsNextWith dir.objects attr key above stored → IsNextNamed dir.objects key above named → IsPlain dir.schema attr
-      → syntax_at dir.schema attr ≡ syntax.Unicode → is_live dir.objects n ≡ true → above < n → IsBefore n stored → IsBefore n named → has_key key (shown dir n attr) ≡ false
-  named_shown stored named n next next_named ordinary text live more before before_named = elim (cases_Bool (is_naming dir.schema (object_at dir.objects n).class attr)) [
-    | inl naming ↦ named_no_key dir n attr key (object_at dir.objects n) refl ordinary naming text (named_none named n next_named live more before_named)
-    | inr not_naming ↦ shows_no_key dir n attr key (object_at dir.objects n) refl ordinary not_naming (stores_none stored n next live more before)
-  ]
+  pub named_shown : (stored named : Option ℕ) (n : ℕ) → IsNextWith dir.objects attr key above stored
+      → IsNextNamed dir.objects key above named → IsPlain dir.schema attr
+      → syntax_at dir.schema attr ≡ syntax.Unicode → is_live dir.objects n ≡ true → above < n → IsBefore n stored
+      → IsBefore n named → has_key key (shown dir n attr) ≡ false
+  named_shown stored named n next next_named ordinary text live more before before_named
+      = elim (cases_Bool (is_naming dir.schema (object_at dir.objects n).class attr)) [
+        | inl naming ↦ named_no_key dir n attr key (object_at dir.objects n) refl ordinary naming text
+            (named_none named n next_named live more before_named)
+        | inr not_naming ↦ shows_no_key dir n attr key (object_at dir.objects n) refl ordinary not_naming
+            (stores_none stored n next live more before)
+      ]
 
 -- ---- of all that is sought
 
 -- what isn't shown makes the filter never true
-pub never_by : (dir : Directory) (f : FilterValue) (sought : Sought) (above n : ℕ) (result : Option ℕ) → IsSought dir.schema f sought → IsNextShown dir sought above result → is_live dir.objects n ≡ true
+pub never_by : (dir : Directory) (f : FilterValue) (sought : Sought) (above n : ℕ) (result : Option ℕ)
+    → IsSought dir.schema f sought → IsNextShown dir sought above result → is_live dir.objects n ≡ true
     → above < n → IsBefore n result → IsNever dir f n
 never_by dir f sought above n result is next live more before token =
     let for = is.sought_for in
-    let plain : IsPlain dir.schema sought.attr.0 = subst (λ (id : AttrId). IsPlain dir.schema id.0) (sym for.attr_is) is.needs.plain in
+    let plain : IsPlain dir.schema sought.attr.0 = subst (λ (id : AttrId). IsPlain dir.schema id.0) (sym for.attr_is)
+    is.needs.plain in
     let none : has_key sought.key (shown dir n sought.attr.0) ≡ false = next.none n live more before plain for.named in
     not_found dir token n f is.needle is.needs
-    (subst (λ (k : Key). has_key k (shown dir n is.needle.attr.0) ≡ false) for.key_is (subst (λ (id : AttrId). has_key sought.key (shown dir n id.0) ≡ false) for.attr_is none))
+    (subst (λ (k : Key). has_key k (shown dir n is.needle.attr.0) ≡ false) for.key_is
+    (subst (λ (id : AttrId). has_key sought.key (shown dir n id.0) ≡ false) for.attr_is none))
 
-pub sought_more : (schema : List SchemaRecord) (f : FilterValue) (old : List Sought) (new : Option Sought) → AreSought schema f old → IfSome new (IsSought schema f) → AreSought schema f (old ++ option_to_list new)
+pub sought_more : (schema : List SchemaRecord) (f : FilterValue) (old : List Sought) (new : Option Sought)
+    → AreSought schema f old → IfSome new (IsSought schema f) → AreSought schema f (old ++ option_to_list new)
 sought_more schema f [] None are is = tt
 sought_more schema f [] (Some s) are is = (is, tt)
 sought_more schema f (o ∷ old) new are is = (are.0, sought_more schema f old new are.1 is)
 
-pub sought_if : (schema : List SchemaRecord) (f : FilterValue) (needle : Needle) (new : Option Sought) → IsNeedle schema f needle → IfSome new (IsSoughtFor schema needle) → IfSome new (IsSought schema f)
+pub sought_if : (schema : List SchemaRecord) (f : FilterValue) (needle : Needle) (new : Option Sought)
+    → IsNeedle schema f needle → IfSome new (IsSoughtFor schema needle) → IfSome new (IsSought schema f)
 sought_if schema f needle None needs is = tt
 sought_if schema f needle (Some s) needs is = record { needle = needle; needs = needs; sought_for = is }
 
 -- the greater of two numbers
-pub greater_parts : (a b n g : ℕ) → g ≡ (if nat_lt a b then b else a) → (P : Type 0) → n < g → (n < a → P) → (n < b → P) → P
+pub greater_parts : (a b n g : ℕ) → g ≡ (if nat_lt a b then b else a) → (P : Type 0) → n < g → (n < a → P)
+    → (n < b → P) → P
 greater_parts a b n g is P less first second = elim (cases_Bool (nat_lt a b)) [
   | inl so ↦ let e : g ≡ b = rw so at is in second (omega (arith, e, less))
   | inr not_so ↦ let e : g ≡ a = rw not_so at is in first (omega (arith, e, less))
@@ -180,44 +210,56 @@ raise : (j k : ℕ) (xs : List ℕ) → j < k → AllByRecursion (λ (n : ℕ). 
 raise j k [] less all = tt
 raise j k (x ∷ xs) less all = (let le : x ≤ j = all.0 in omega (arith, le, less), raise j k xs less all.1)
 
-rises_push : (k above n : ℕ) (xs : List ℕ) → RisesAbove k xs → AllByRecursion (λ (m : ℕ). m ≤ above) xs → k < n → above < n → RisesAbove k (xs ++ n ∷ [])
+rises_push : (k above n : ℕ) (xs : List ℕ) → RisesAbove k xs → AllByRecursion (λ (m : ℕ). m ≤ above) xs → k < n
+    → above < n → RisesAbove k (xs ++ n ∷ [])
 rises_push k above n [] rises within first more = (first, tt)
-rises_push k above n (x ∷ xs) rises within first more = (rises.0, rises_push x above n xs rises.1 within.1 (let le : x ≤ above = within.0 in omega (arith, le, more)) more)
+rises_push k above n (x ∷ xs) rises within first more
+    = (
+      rises.0,
+      rises_push x above n xs rises.1 within.1 (let le : x ≤ above = within.0 in omega (arith, le, more))
+          more,
+    )
 
-pub one_more : (dir : Directory) (f : FilterValue) (above next : ℕ) (so : Bool) (left after : List ℕ) → IsNextFor dir f above (Some next)
-    → (so ≡ true → is_live dir.objects next ≡ true) → (so ≡ false → is_live dir.objects next ≡ true → IsNever dir f next)
+pub one_more : (dir : Directory) (f : FilterValue) (above next : ℕ) (so : Bool) (left after : List ℕ)
+    → IsNextFor dir f above (Some next)
+    → (so ≡ true → is_live dir.objects next ≡ true)
+    → (so ≡ false → is_live dir.objects next ≡ true → IsNever dir f next)
     → after ≡ left ++ place_if so next → IsUpTo dir f above left → IsUpTo dir f next after
 one_more dir f above next true left after is live never made so_far = subst (IsUpTo dir f next) (sym made) (record {
-  rises = rises_push 0 above next left so_far.rises so_far.within (let more : above < next = is.is_above in omega (arith, more)) is.is_above;
+  rises = rises_push 0 above next left so_far.rises so_far.within
+      (let more : above < next = is.is_above in omega (arith, more)) is.is_above;
   within = push (λ (n : ℕ). n ≤ next) left next (raise above next left is.is_above so_far.within) (omega arith);
   live = push (λ (n : ℕ). is_live dir.objects n ≡ true) left next so_far.live (live refl);
   none = λ m live_m le out.
-      let apart : is_in m left || is_in m (next ∷ []) ≡ false = sym (list_any-append (λ (n : ℕ). m == n) left (next ∷ [])) ∙ out in
+      let apart : is_in m left || is_in m (next ∷ []) ≡ false
+      = sym (list_any-append (λ (n : ℕ). m == n) left (next ∷ [])) ∙ out in
       let not_left : is_in m left ≡ false = or_left (is_in m left) (is_in m (next ∷ [])) apart in
       elim (cases_lt above m) [
         | inl more ↦ elim (cases_lt m next) [
           | inl less ↦ is.none m live_m more less
           | inr no_less ↦
               let same : m ≡ next = omega (arith, le, no_less) in
-              absurd (both_ways (is_in m (next ∷ [])) (or_right (is_in m left) (is_in m (next ∷ [])) apart) (rw (eq-eqb m next same) refl))
+              absurd (both_ways (is_in m (next ∷ [])) (or_right (is_in m left) (is_in m (next ∷ [])) apart)
+              (rw (eq-eqb m next same) refl))
         ]
         | inr no_more ↦ so_far.none m live_m no_more not_left
       ];
 })
-one_more dir f above next false left after is live never made so_far = subst (IsUpTo dir f next) (sym (made ∙ append-nil left)) (record {
-  rises = so_far.rises;
-  within = raise above next left is.is_above so_far.within;
-  live = so_far.live;
-  none = λ m live_m le out. elim (cases_lt above m) [
-    | inl more ↦ elim (cases_lt m next) [
-      | inl less ↦ is.none m live_m more less
-      | inr no_less ↦
-          let same : next ≡ m = omega (arith, le, no_less) in
-          subst (IsNever dir f) same (never refl (subst (λ (n : ℕ). is_live dir.objects n ≡ true) (sym same) live_m))
-    ]
-    | inr no_more ↦ so_far.none m live_m no_more out
-  ];
-})
+one_more dir f above next false left after is live never made so_far = subst (IsUpTo dir f next)
+    (sym (made ∙ append-nil left)) (record {
+      rises = so_far.rises;
+      within = raise above next left is.is_above so_far.within;
+      live = so_far.live;
+      none = λ m live_m le out. elim (cases_lt above m) [
+        | inl more ↦ elim (cases_lt m next) [
+          | inl less ↦ is.none m live_m more less
+          | inr no_less ↦
+              let same : next ≡ m = omega (arith, le, no_less) in
+              subst (IsNever dir f) same (never refl (subst (λ (n : ℕ). is_live dir.objects n ≡ true) (sym same) live_m))
+        ]
+        | inr no_more ↦ so_far.none m live_m no_more out
+      ];
+    })
 
 -- ---- at the end
 
@@ -228,14 +270,18 @@ member P (x ∷ xs) n all there = elim (cases_Bool (nat_eq n x)) [
   | inr other ↦ member P xs n all.1 (sym (ap (λ (b : Bool). b || is_in n xs) other) ∙ there)
 ]
 
-has_none : (dir : Directory) (token : Token) (search : SearchValue) (base : Dn) (m : ℕ) → is_true (truth (reads dir.schema (seen_of dir token m)) search.filter) ≡ false → Has dir token search base m ≡ false
+has_none : (dir : Directory) (token : Token) (search : SearchValue) (base : Dn) (m : ℕ)
+    → is_true (truth (reads dir.schema (seen_of dir token m)) search.filter) ≡ false → Has dir token search base m
+    ≡ false
 unfolding is_found
 has_none dir token search base m never = and_none (is_visible dir token m) _ _ never
 
-pub left_of_all : (dir : Directory) (search : SearchValue) (above : ℕ) (left : List ℕ) → Rise dir.objects → IsNextFor dir search.filter above None → IsUpTo dir search.filter above left → IsLeftOfAll dir search left
+pub left_of_all : (dir : Directory) (search : SearchValue) (above : ℕ) (left : List ℕ) → Rise dir.objects
+    → IsNextFor dir search.filter above None → IsUpTo dir search.filter above left → IsLeftOfAll dir search left
 left_of_all dir search above left rise is so_far = record {
   same = λ token id flags base.
-      sym (those_numbers dir token id search flags base test (numbers dir.objects) (every token base) (numbers_live dir.objects)
+      sym (those_numbers dir token id search flags base test (numbers dir.objects) (every token base)
+      (numbers_live dir.objects)
       ∙ ap (entries_among dir token id search flags base) filtered);
   live = so_far.live;
 }
@@ -249,19 +295,24 @@ left_of_all dir search above left rise is so_far = record {
       | inr no_more ↦ so_far.none m live no_more out
     ]
 
-    every : (token : Token) (base : Dn) (m : ℕ) → is_live dir.objects m ≡ true → Has dir token search base m ≡ true → test m ≡ true
+    every : (token : Token) (base : Dn) (m : ℕ) → is_live dir.objects m ≡ true → Has dir token search base m ≡ true
+        → test m ≡ true
     every token base m live has = elim (cases_Bool (is_in m left)) [
       | inl there ↦ there
-      | inr out ↦ absurd (both_ways (Has dir token search base m) (has_none dir token search base m (never m live out token)) has)
+      | inr out ↦ absurd (both_ways (Has dir token search base m)
+          (has_none dir token search base m (never m live out token)) has)
     ]
 
     among : (n : ℕ) (b : Bool) → is_in n left ≡ b → (is_live dir.objects n && is_in n left) ≡ is_in n left
     among n true there =
-        let live : is_live dir.objects n ≡ true = member (λ (k : ℕ). is_live dir.objects k ≡ true) left n so_far.live there in
+        let live : is_live dir.objects n ≡ true = member (λ (k : ℕ). is_live dir.objects k ≡ true) left n so_far.live
+        there in
         ap (λ (b : Bool). b && is_in n left) live
     among n false out = ap (λ (b : Bool). is_live dir.objects n && b) out ∙ and_false (is_live dir.objects n) ∙ sym out
 
     filtered : filter test (numbers dir.objects) ≡ left
     filtered =
-        same_rising 0 0 (filter test (numbers dir.objects)) left (kept_rising test 0 (numbers dir.objects) (numbers_rise 0 dir.objects rise)) so_far.rises
-        (λ n. in_filter test n (numbers dir.objects) ∙ ap (λ (b : Bool). b && is_in n left) (in_numbers n dir.objects) ∙ among n (is_in n left) refl)
+        same_rising 0 0 (filter test (numbers dir.objects)) left
+        (kept_rising test 0 (numbers dir.objects) (numbers_rise 0 dir.objects rise)) so_far.rises
+        (λ n. in_filter test n (numbers dir.objects) ∙ ap (λ (b : Bool). b && is_in n left) (in_numbers n dir.objects)
+        ∙ among n (is_in n left) refl)

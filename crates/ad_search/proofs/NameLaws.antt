@@ -1,5 +1,6 @@
 -- Names, part by part.
-use Rattle.std.proofs.Common.{◌≡◌, ◌↔◌, ℕ, zero, suc, ◌+◌, ◌-◌, ◌<◌, ◌≤◌, Bool, true, false, ◌&&◌, ◌||◌, IsTrue, List, [], ◌∷◌, length, drop, get_or, add-one, inl, inr, refl, sym, subst, ap, ◌∙◌, arith}
+use Rattle.std.proofs.Common.{◌≡◌, ◌↔◌, ℕ, zero, suc, ◌+◌, ◌-◌, ◌<◌, ◌≤◌, Bool, true, false, ◌&&◌, ◌||◌, IsTrue, List}
+use Rattle.std.proofs.Common.{[], ◌∷◌, length, drop, get_or, add-one, inl, inr, refl, sym, subst, ap, ◌∙◌, arith}
 use Rattle.std.specs.Str.{bytes_eq, str_to_ascii_uppercase}
 use Rattle.std.proofs.lemmas.Bool.{cases_Bool, cases_lt, and_parts, and_from, both_ways}
 use Rattle.std.proofs.lemmas.List.{drop_all}
@@ -17,11 +18,13 @@ use Rattle.ad_search.proofs.ListLaws.{from_here}
 pub to_part : (a b : Rdn) → IsSameRdn a b → same_rdn a b ≡ true
 to_part a b same =
     and_from (bytes_eq (str_to_ascii_uppercase a.kind) (str_to_ascii_uppercase b.kind)) (same_folded a.value b.value)
-    ((bytes_eq-Decides (str_to_ascii_uppercase a.kind) (str_to_ascii_uppercase b.kind)).1 same.kind) ((bytes_eq-Decides (folded a.value) (folded b.value)).1 same.value)
+    ((bytes_eq-Decides (str_to_ascii_uppercase a.kind) (str_to_ascii_uppercase b.kind)).1 same.kind)
+    ((bytes_eq-Decides (folded a.value) (folded b.value)).1 same.value)
 
 pub from_part : (a b : Rdn) → same_rdn a b ≡ true → IsSameRdn a b
 from_part a b same =
-    let parts = and_parts (bytes_eq (str_to_ascii_uppercase a.kind) (str_to_ascii_uppercase b.kind)) (same_folded a.value b.value) same in
+    let parts = and_parts (bytes_eq (str_to_ascii_uppercase a.kind) (str_to_ascii_uppercase b.kind))
+    (same_folded a.value b.value) same in
     record {
       kind = (bytes_eq-Decides (str_to_ascii_uppercase a.kind) (str_to_ascii_uppercase b.kind)).0 parts.0;
       value = (bytes_eq-Decides (folded a.value) (folded b.value)).0 parts.1;
@@ -75,7 +78,8 @@ or_false : (b : Bool) → (b || false) ≡ b
 or_false true = refl
 or_false false = refl
 
-pub long_enough : (base name : List Rdn) → length base ≤ length name → is_at_or_below base name ≡ same_rdns (drop (length name - length base) name) base
+pub long_enough : (base name : List Rdn) → length base ≤ length name → is_at_or_below base name
+    ≡ same_rdns (drop (length name - length base) name) base
 unfolding is_at_or_below
 long_enough [] [] le = refl
 long_enough (b ∷ bs) [] le = absurd (omega arith)
@@ -99,23 +103,29 @@ first_left [] i lt = absurd (omega (arith, lt))
 first_left (x ∷ xs) zero lt = (x, refl)
 first_left (x ∷ xs) (suc i) lt = first_left xs i (omega (arith, lt))
 
-pub nearest_here : (view : List Seen) (rdns : List Rdn) (i : ℕ) → i < length rdns → true ≡ is_there view (drop i rdns) → rdns_text (drop i rdns) ≡ nearest view (drop i rdns)
+pub nearest_here : (view : List Seen) (rdns : List Rdn) (i : ℕ) → i < length rdns → true ≡ is_there view (drop i rdns)
+    → rdns_text (drop i rdns) ≡ nearest view (drop i rdns)
 unfolding nearest
 nearest_here view rdns i lt is =
     let first = first_left rdns i lt in
     by first.0 (drop i rdns) (drop (suc i) rdns) first.1 is
   where
     by : (x : Rdn) (all rest : List Rdn) → all ≡ x ∷ rest → true ≡ is_there view all → rdns_text all ≡ nearest view all
-    by x all rest whole there = subst (λ (names : List Rdn). true ≡ is_there view names → rdns_text names ≡ nearest view names) (sym whole) (λ t. rw (← t) refl) there
+    by x all rest whole there = subst (λ (names : List Rdn). true ≡ is_there view names → rdns_text names
+        ≡ nearest view names) (sym whole) (λ t. rw (← t) refl) there
 
-pub nearest_later : (view : List Seen) (rdns : List Rdn) (i : ℕ) → i < length rdns → false ≡ is_there view (drop i rdns) → nearest view (drop i rdns) ≡ nearest view (drop (i + 1) rdns)
+pub nearest_later : (view : List Seen) (rdns : List Rdn) (i : ℕ) → i < length rdns → false
+    ≡ is_there view (drop i rdns) → nearest view (drop i rdns) ≡ nearest view (drop (i + 1) rdns)
 unfolding nearest
 nearest_later view rdns i lt is =
     let first = first_left rdns i lt in
-    by first.0 (drop i rdns) (drop (suc i) rdns) first.1 is ∙ ap (λ (n : ℕ). nearest view (drop n rdns)) (sym (add-one i))
+    by first.0 (drop i rdns) (drop (suc i) rdns) first.1 is ∙ ap (λ (n : ℕ). nearest view (drop n rdns))
+    (sym (add-one i))
   where
-    by : (x : Rdn) (all rest : List Rdn) → all ≡ x ∷ rest → false ≡ is_there view all → nearest view all ≡ nearest view rest
-    by x all rest whole there = subst (λ (names : List Rdn). false ≡ is_there view names → nearest view names ≡ nearest view rest) (sym whole) (λ t. rw (← t) refl) there
+    by : (x : Rdn) (all rest : List Rdn) → all ≡ x ∷ rest → false ≡ is_there view all → nearest view all
+        ≡ nearest view rest
+    by x all rest whole there = subst (λ (names : List Rdn). false ≡ is_there view names → nearest view names
+        ≡ nearest view rest) (sym whole) (λ t. rw (← t) refl) there
 
 pub nearest_none : (view : List Seen) (rdns : List Rdn) (i : ℕ) → length rdns ≤ i → nearest view (drop i rdns) ≡ []
 unfolding nearest

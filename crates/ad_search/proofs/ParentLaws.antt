@@ -14,24 +14,32 @@ use Rattle.ad_search.specs.declared.parents.Parent.{Parent}
 use Rattle.ad_search.specs.Parents.{IsKept}
 
 by_parent : (dir : Directory) (token : Token) (n : ℕ) → list_object_mode dir ≡ false → n ≢ root
-    → is_visible dir token n ≡ (grants_on_object (sd_at dir.objects (parent_at dir.objects n)) token (self_sid dir (parent_at dir.objects n)) 2 || false)
+    → is_visible dir token n ≡ (grants_on_object (sd_at dir.objects (parent_at dir.objects n)) token
+    (self_sid dir (parent_at dir.objects n)) 2 || false)
 unfolding is_visible
 by_parent dir token n off below =
     let parent = parent_at dir.objects n in
-    ap (λ (b : Bool). b || sees (list_object_mode dir) (sd_at dir.objects parent) (self_sid dir parent) (sd_at dir.objects n) (self_sid dir n) token) (ne_eqb n root below)
-    ∙ ap (λ (m : Bool). sees m (sd_at dir.objects parent) (self_sid dir parent) (sd_at dir.objects n) (self_sid dir n) token) off
+    ap (λ (b : Bool). b || sees (list_object_mode dir) (sd_at dir.objects parent) (self_sid dir parent)
+    (sd_at dir.objects n) (self_sid dir n) token) (ne_eqb n root below)
+    ∙ ap (λ (m : Bool). sees m (sd_at dir.objects parent) (self_sid dir parent) (sd_at dir.objects n) (self_sid dir n)
+    token) off
 
 -- what is seen of one object below a parent is seen of each
-pub kept_so : (dir : Directory) (token : Token) (n parent : ℕ) (shows : Bool) → list_object_mode dir ≡ false → n ≢ root → parent_at dir.objects n ≡ parent → is_visible dir token n ≡ shows
+pub kept_so : (dir : Directory) (token : Token) (n parent : ℕ) (shows : Bool) → list_object_mode dir ≡ false
+    → n ≢ root → parent_at dir.objects n ≡ parent → is_visible dir token n ≡ shows
     → (m : ℕ) → m ≢ root → parent_at dir.objects m ≡ parent → is_visible dir token m ≡ shows
 kept_so dir token n parent shows off below is_parent is m below_m is_parent_m =
     by_parent dir token m off below_m
-    ∙ ap (λ (p : ℕ). grants_on_object (sd_at dir.objects p) token (self_sid dir p) 2 || false) (is_parent_m ∙ sym is_parent)
+    ∙ ap (λ (p : ℕ). grants_on_object (sd_at dir.objects p) token (self_sid dir p) 2 || false)
+    (is_parent_m ∙ sym is_parent)
     ∙ sym (by_parent dir token n off below)
     ∙ is
 
 -- what is kept of the parent of an object holds of the object
-pub kept_holds : (dir : Directory) (token : Token) (n parent : ℕ) (one : Parent) (r : Option Bool) → IsKept dir token one → n ≢ root → parent_at dir.objects n ≡ parent
-    → IfSome r (λ (shows : Bool). one.is_known ≡ true) → IfSome r (λ (shows : Bool). parent ≡ one.number) → IfSome r (λ (shows : Bool). one.shows ≡ shows) → IfSome r (λ (shows : Bool). is_visible dir token n ≡ shows)
+pub kept_holds : (dir : Directory) (token : Token) (n parent : ℕ) (one : Parent) (r : Option Bool)
+    → IsKept dir token one → n ≢ root → parent_at dir.objects n ≡ parent
+    → IfSome r (λ (shows : Bool). one.is_known ≡ true) → IfSome r (λ (shows : Bool). parent ≡ one.number)
+    → IfSome r (λ (shows : Bool). one.shows ≡ shows) → IfSome r (λ (shows : Bool). is_visible dir token n ≡ shows)
 kept_holds dir token n parent one None kept below is_parent known number is = tt
-kept_holds dir token n parent one (Some shows) kept below is_parent known number is = kept known n below (is_parent ∙ number) ∙ is
+kept_holds dir token n parent one (Some shows) kept below is_parent known number is
+    = kept known n below (is_parent ∙ number) ∙ is

@@ -1,5 +1,6 @@
 -- Which objects a search tries to read: no others than those that its scope leads to.
-use Rattle.std.proofs.Common.{◌≡◌, ℕ, ◌<◌, ◌≤◌, Bool, true, false, ◌||◌, List, [], ◌∷◌, inl, inr, refl, sym, ap, ◌∙◌, arith}
+use Rattle.std.proofs.Common.{◌≡◌, ℕ, ◌<◌, ◌≤◌, Bool, true, false, ◌||◌, List, [], ◌∷◌, inl, inr, refl, sym, ap, ◌∙◌}
+use Rattle.std.proofs.Common.{arith}
 use Rattle.std.specs.Prelude.{nat_eq, ◌==◌, if◌then◌else◌, find, filter, Some, None}
 use Rattle.std.specs.List.{AllByRecursion, list_any}
 use Rattle.std.proofs.lemmas.Bool.{cases_Bool, eqb-true, eq-eqb, both_ways}
@@ -35,7 +36,8 @@ unfolding found_among
 only_numbers dir token search base test [] every live = refl
 only_numbers dir token search base test (m ∷ ms) every live = elim (cases_Bool (test m)) [
   | inl has_it ↦ elim (cases_Bool (Has dir token search base m)) [
-    | inl has ↦ rw (has_it, has) (ap (λ (ns : List ℕ). m ∷ ns) (only_numbers dir token search base test ms every live.1))
+    | inl has ↦ rw (has_it, has) (ap (λ (ns : List ℕ). m ∷ ns)
+        (only_numbers dir token search base test ms every live.1))
     | inr has_not ↦ rw (has_it, has_not) (only_numbers dir token search base test ms every live.1)
   ]
   | inr lacks ↦ elim (cases_Bool (Has dir token search base m)) [
@@ -59,19 +61,23 @@ none_later n k (o ∷ os) rise le =
       | inr is ↦ is
     ]
 
-one_there : (n k : ℕ) (os : List Object) → RiseAbove k os → list_any (λ (m : ℕ). m == n) (numbers os) ≡ true → filter (λ (m : ℕ). m == n) (numbers os) ≡ n ∷ []
+one_there : (n k : ℕ) (os : List Object) → RiseAbove k os → list_any (λ (m : ℕ). m == n) (numbers os) ≡ true
+    → filter (λ (m : ℕ). m == n) (numbers os) ≡ n ∷ []
 unfolding numbers
 one_there n k [] rise has = absurd (both_ways false refl has)
 one_there n k (o ∷ os) rise has = elim (cases_Bool (nat_eq o.number n)) [
   | inl here ↦
       let same : o.number ≡ n = eqb-true o.number n here in
       let below : n ≤ o.number = omega arith in
-      rw here (ap (λ (ns : List ℕ). o.number ∷ ns) (none_later n o.number os rise.1 below) ∙ ap (λ (m : ℕ). m ∷ []) same)
-  | inr other ↦ rw other (one_there n o.number os rise.1 (sym (ap (λ (b : Bool). b || list_any (λ (m : ℕ). m == n) (numbers os)) other) ∙ has))
+      rw here (ap (λ (ns : List ℕ). o.number ∷ ns) (none_later n o.number os rise.1 below)
+      ∙ ap (λ (m : ℕ). m ∷ []) same)
+  | inr other ↦ rw other (one_there n o.number os rise.1
+      (sym (ap (λ (b : Bool). b || list_any (λ (m : ℕ). m == n) (numbers os)) other) ∙ has))
 ]
 
 -- the numbers of the objects that pass a test
-filtered : (test : Object → Bool) (by : ℕ → Bool) (os : List Object) → AllByRecursion (λ (o : Object). by o.number ≡ test o) os → numbers (filter test os) ≡ filter by (numbers os)
+filtered : (test : Object → Bool) (by : ℕ → Bool) (os : List Object)
+    → AllByRecursion (λ (o : Object). by o.number ≡ test o) os → numbers (filter test os) ≡ filter by (numbers os)
 unfolding numbers
 filtered test by [] are = refl
 filtered test by (o ∷ os) are = elim (cases_Bool (test o)) [
@@ -81,34 +87,50 @@ filtered test by (o ∷ os) are = elim (cases_Bool (test o)) [
 
 -- ---- the scopes
 
-module _ (dir : Directory) (token : Token) (search : SearchValue) (base : Dn) (n : ℕ) (stands : Stands dir) (live : is_live dir.objects n ≡ true) (same : same_rdns (rdns_of dir n) base.rdns ≡ true) where
-  base_alone : search.scope ≡ 0 → found_among dir token search base (n ∷ []) ≡ found_among dir token search base (numbers dir.objects)
+module _ (dir : Directory) (token : Token) (search : SearchValue) (base : Dn) (n : ℕ) (stands : Stands dir)
+    (live : is_live dir.objects n ≡ true) (same : same_rdns (rdns_of dir n) base.rdns ≡ true) where
+  base_alone : search.scope ≡ 0 → found_among dir token search base (n ∷ []) ≡ found_among dir token search base
+      (numbers dir.objects)
   base_alone scope =
-      ap (found_among dir token search base) (sym (one_there n 0 dir.objects stands.rise (number_listed dir.objects n live)))
+      ap (found_among dir token search base)
+      (sym (one_there n 0 dir.objects stands.rise (number_listed dir.objects n live)))
       ∙ only_numbers dir token search base (λ (m : ℕ). m == n) (numbers dir.objects)
-      (λ m other has. eq-eqb m n (same_Some m n (sym (named_found dir m base.rdns stands other (at_base dir token search base m scope has)) ∙ named_found dir n base.rdns stands live same)))
+      (λ m other has. eq-eqb m n (same_Some m n
+      (sym (named_found dir m base.rdns stands other (at_base dir token search base m scope has))
+      ∙ named_found dir n base.rdns stands live same)))
       (numbers_live dir.objects)
 
-  level_alone : search.scope ≡ 1 → found_among dir token search base (children dir.objects n) ≡ found_among dir token search base (numbers dir.objects)
+  level_alone : search.scope ≡ 1 → found_among dir token search base (children dir.objects n)
+      ≡ found_among dir token search base (numbers dir.objects)
   unfolding numbers
   level_alone scope =
-      ap (found_among dir token search base) (filtered (λ (o : Object). o.parent == n) (λ (m : ℕ). parents dir m == n) dir.objects (at_numbers dir.objects (all_found 0 dir.objects stands.rise)))
+      ap (found_among dir token search base) (filtered (λ (o : Object). o.parent == n) (λ (m : ℕ). parents dir m == n)
+      dir.objects (at_numbers dir.objects (all_found 0 dir.objects stands.rise)))
       ∙ only_numbers dir token search base (λ (m : ℕ). parents dir m == n) (numbers dir.objects)
-      (λ m other has. eq-eqb (parents dir m) n (right_below dir base.rdns n m stands live same other (at_level dir token search base m scope has)))
+      (λ m other has. eq-eqb (parents dir m) n
+      (right_below dir base.rdns n m stands live same other (at_level dir token search base m scope has)))
       (numbers_live dir.objects)
     where
-      at_numbers : (os : List Object) → AllByRecursion (λ (o : Object). object_of dir.objects o.number ≡ Some o) os → AllByRecursion (λ (o : Object). (parents dir o.number == n) ≡ (o.parent == n)) os
+      at_numbers : (os : List Object) → AllByRecursion (λ (o : Object). object_of dir.objects o.number ≡ Some o) os
+          → AllByRecursion (λ (o : Object). (parents dir o.number == n) ≡ (o.parent == n)) os
       at_numbers [] are = tt
-      at_numbers (o ∷ os) are = (ap (λ (x : Object). x.parent == n) (at-of dir.objects o.number o are.0), at_numbers os are.1)
+      at_numbers (o ∷ os) are = (
+        ap (λ (x : Object). x.parent == n) (at-of dir.objects o.number o are.0),
+        at_numbers
+            os are.1,
+      )
 
-  subtree_alone : (search.scope == 0) ≡ false → (search.scope == 1) ≡ false → found_among dir token search base (subtree dir n) ≡ found_among dir token search base (numbers dir.objects)
+  subtree_alone : (search.scope == 0) ≡ false → (search.scope == 1) ≡ false → found_among dir token search base
+      (subtree dir n) ≡ found_among dir token search base (numbers dir.objects)
   unfolding subtree
   subtree_alone deeper whole =
       only_numbers dir token search base (goes_with dir n) (numbers dir.objects)
-      (λ m other has. sym (at_or_below dir base.rdns n stands live same m other) ∙ in_subtree dir token search base m deeper whole has)
+      (λ m other has. sym (at_or_below dir base.rdns n stands live same m other) ∙ in_subtree dir token search base m
+      deeper whole has)
       (numbers_live dir.objects)
 
-  enough : found_among dir token search base (objects_asked dir search.scope n) ≡ found_among dir token search base (numbers dir.objects)
+  enough : found_among dir token search base (objects_asked dir search.scope n) ≡ found_among dir token search base
+      (numbers dir.objects)
   unfolding objects_asked
   enough = elim (cases_Bool (nat_eq search.scope 0)) [
     | inl alone ↦ rw alone (base_alone (eqb-true search.scope 0 alone))
@@ -123,17 +145,24 @@ module _ (dir : Directory) (token : Token) (search : SearchValue) (base : Dn) (n
 
 -- ---- what the search tried
 
-pub read_of_base : (dir : Directory) (token : Token) (id : ℕ) (search : SearchValue) (flags : ℕ) (base : Dn) (n : ℕ) → Stands dir → is_live dir.objects n ≡ true
+pub read_of_base : (dir : Directory) (token : Token) (id : ℕ) (search : SearchValue) (flags : ℕ) (base : Dn) (n : ℕ)
+    → Stands dir → is_live dir.objects n ≡ true
     → Some (seen_of dir token n) ≡ find (is_named base.rdns) (view dir token)
-    → reads_behind dir token id search flags None' (found_among dir token search base (objects_asked dir search.scope n)) ≡ reads_at dir token id search flags (Some base)
+    → reads_behind dir token id search flags None'
+    (found_among dir token search base (objects_asked dir search.scope n)) ≡ reads_at dir token id search flags
+    (Some base)
 unfolding is_there seen_of view
 read_of_base dir token id search flags base n stands live is =
-    let same : same_rdns (rdns_of dir n) base.rdns ≡ true = passes (is_named base.rdns) (view dir token) (seen_of dir token n) is in
+    let same : same_rdns (rdns_of dir n) base.rdns ≡ true = passes (is_named base.rdns) (view dir token)
+    (seen_of dir token n) is in
     ap (reads_behind dir token id search flags None') (enough dir token search base n stands live same)
-    ∙ sym (ap (λ (b : Bool). if b then reads_in dir token id search flags base else []) (any_of_found (is_named base.rdns) (view dir token) (seen_of dir token n) is))
+    ∙ sym (ap (λ (b : Bool). if b then reads_in dir token id search flags base else [])
+    (any_of_found (is_named base.rdns) (view dir token) (seen_of dir token n) is))
 
-pub not_there : (dir : Directory) (token : Token) (id : ℕ) (search : SearchValue) (flags : ℕ) (base : Dn) → None ≡ find (is_named base.rdns) (view dir token)
+pub not_there : (dir : Directory) (token : Token) (id : ℕ) (search : SearchValue) (flags : ℕ) (base : Dn) → None
+    ≡ find (is_named base.rdns) (view dir token)
     → [] ≡ reads_at dir token id search flags (Some base)
 unfolding is_there
 not_there dir token id search flags base is =
-    sym (ap (λ (b : Bool). if b then reads_in dir token id search flags base else []) (none_of (is_named base.rdns) (view dir token) is))
+    sym (ap (λ (b : Bool). if b then reads_in dir token id search flags base else [])
+    (none_of (is_named base.rdns) (view dir token) is))

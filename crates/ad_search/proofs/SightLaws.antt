@@ -19,33 +19,43 @@ abbrev Is : Directory → Token → List Rdn → ℕ → Bool
 Is dir token rdns n = is_visible dir token n && is_named rdns (seen_of dir token n)
 
 -- whatever has the name is found by it
-leads : (dir : Directory) (token : Token) (rdns : List Rdn) → Stands dir → (n : ℕ) → is_live dir.objects n ≡ true → Is dir token rdns n ≡ true → found dir rdns ≡ Some n
+leads : (dir : Directory) (token : Token) (rdns : List Rdn) → Stands dir → (n : ℕ) → is_live dir.objects n ≡ true
+    → Is dir token rdns n ≡ true → found dir rdns ≡ Some n
 unfolding seen_of
-leads dir token rdns stands n live is = named_found dir n rdns stands live (and_parts (is_visible dir token n) (same_rdns (rdns_of dir n) rdns) is).1
+leads dir token rdns stands n live is = named_found dir n rdns stands live
+    (and_parts (is_visible dir token n) (same_rdns (rdns_of dir n) rdns) is).1
 
 -- where the walk finds none, none is seen
-pub none_seen : (dir : Directory) (token : Token) (rdns : List Rdn) → Stands dir → found dir rdns ≡ None → find (is_named rdns) (view dir token) ≡ None
+pub none_seen : (dir : Directory) (token : Token) (rdns : List Rdn) → Stands dir → found dir rdns ≡ None
+    → find (is_named rdns) (view dir token) ≡ None
 unfolding view
 none_seen dir token rdns stands none =
-    none_found dir token rdns (numbers dir.objects) (numbers_live dir.objects) (λ n live. elim (cases_Bool (Is dir token rdns n)) [
+    none_found dir token rdns (numbers dir.objects) (numbers_live dir.objects)
+    (λ n live. elim (cases_Bool (Is dir token rdns n)) [
       | inl is ↦ absurd (none-some n (sym none ∙ leads dir token rdns stands n live is))
       | inr not_so ↦ not_so
     ])
 
 -- where what it finds isn't live, or isn't seen by the name, none is
-pub other_seen : (dir : Directory) (token : Token) (rdns : List Rdn) (n : ℕ) → Stands dir → found dir rdns ≡ Some n → (is_live dir.objects n ≡ true → Is dir token rdns n ≡ false) → find (is_named rdns) (view dir token) ≡ None
+pub other_seen : (dir : Directory) (token : Token) (rdns : List Rdn) (n : ℕ) → Stands dir → found dir rdns ≡ Some n
+    → (is_live dir.objects n ≡ true → Is dir token rdns n ≡ false) → find (is_named rdns) (view dir token) ≡ None
 unfolding view
 other_seen dir token rdns n stands is not_it =
-    none_found dir token rdns (numbers dir.objects) (numbers_live dir.objects) (λ m live. elim (cases_Bool (Is dir token rdns m)) [
+    none_found dir token rdns (numbers dir.objects) (numbers_live dir.objects)
+    (λ m live. elim (cases_Bool (Is dir token rdns m)) [
       | inl named ↦
           let same : m ≡ n = same_Some m n (sym (leads dir token rdns stands m live named) ∙ is) in
-          absurd (both_ways (Is dir token rdns m) (subst (λ (k : ℕ). Is dir token rdns k ≡ false) (sym same) (not_it (subst (λ (k : ℕ). is_live dir.objects k ≡ true) same live))) named)
+          absurd (both_ways (Is dir token rdns m)
+          (subst (λ (k : ℕ). Is dir token rdns k ≡ false) (sym same)
+          (not_it (subst (λ (k : ℕ). is_live dir.objects k ≡ true) same live))) named)
       | inr not_so ↦ not_so
     ])
 
 -- and else it is what is seen
-pub it_is_seen : (dir : Directory) (token : Token) (rdns : List Rdn) (n : ℕ) → Stands dir → is_live dir.objects n ≡ true → Is dir token rdns n ≡ true → find (is_named rdns) (view dir token) ≡ Some (seen_of dir token n)
+pub it_is_seen : (dir : Directory) (token : Token) (rdns : List Rdn) (n : ℕ) → Stands dir → is_live dir.objects n
+    ≡ true → Is dir token rdns n ≡ true → find (is_named rdns) (view dir token) ≡ Some (seen_of dir token n)
 unfolding view
 it_is_seen dir token rdns n stands live is =
     one_found dir token rdns n (numbers dir.objects) (numbers_live dir.objects) (number_listed dir.objects n live) is
-    (λ m other named. same_Some m n (sym (leads dir token rdns stands m other named) ∙ leads dir token rdns stands n live is))
+    (λ m other named. same_Some m n (sym (leads dir token rdns stands m other named) ∙ leads dir token rdns stands n
+    live is))

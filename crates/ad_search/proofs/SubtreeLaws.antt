@@ -1,5 +1,6 @@
 -- What is gathered level by level is the subtree.
-use Rattle.std.proofs.Common.{◌≡◌, ℕ, zero, suc, ◌-◌, ◌<◌, ◌≤◌, Bool, true, false, ◌&&◌, ◌||◌, List, [], ◌∷◌, ◌++◌, map, Some, inl, inr, refl, sym, subst, ap, ◌∙◌, arith}
+use Rattle.std.proofs.Common.{◌≡◌, ℕ, zero, suc, ◌-◌, ◌<◌, ◌≤◌, Bool, true, false, ◌&&◌, ◌||◌, List, [], ◌∷◌, ◌++◌}
+use Rattle.std.proofs.Common.{map, Some, inl, inr, refl, sym, subst, ap, ◌∙◌, arith}
 use Rattle.std.specs.Prelude.{nat_eq, ◌==◌, filter, if◌then◌else◌}
 use Rattle.std.specs.List.{AllByRecursion, AllPairs}
 use Rattle.std.specs.List.Sorted.{IsStrictlyIncreasing}
@@ -27,7 +28,8 @@ and_true true = refl
 and_true false = refl
 
 -- one child or one of the others
-spread : (live is other rest : Bool) → (((live && is) && other) || ((live && other) && rest)) ≡ ((live && other) && (is || rest))
+spread : (live is other rest : Bool) → (((live && is) && other) || ((live && other) && rest))
+    ≡ ((live && other) && (is || rest))
 spread true true true rest = refl
 spread true true false rest = refl
 spread true false true rest = refl
@@ -47,7 +49,8 @@ in_filter test n (x ∷ xs) = elim (cases_Bool (nat_eq n x)) [
     | inl has_it ↦ rw (has_it, here) (sym (ap test (eqb-true n x here) ∙ has_it))
     | inr lacks ↦
         let not_it : test n ≡ false = ap test (eqb-true n x here) ∙ lacks in
-        rw (lacks, here) (in_filter test n xs ∙ ap (λ (b : Bool). is_in n xs && b) not_it ∙ and_false (is_in n xs) ∙ sym not_it)
+        rw (lacks, here) (in_filter test n xs ∙ ap (λ (b : Bool). is_in n xs && b) not_it ∙ and_false (is_in n xs)
+        ∙ sym not_it)
   ]
   | inr other ↦ elim (cases_Bool (test x)) [
     | inl has_it ↦ rw (has_it, other) (in_filter test n xs)
@@ -67,8 +70,10 @@ in_numbers n (o ∷ os) = elim (cases_Bool (nat_eq n o.number)) [
 ]
 
 -- of the objects that pass a test
-in_passing : (test : Object → Bool) (n : ℕ) (whole os : List Object) → AllByRecursion (λ (o : Object). object_of whole o.number ≡ Some o) os
-    → is_in n (map (λ (o : Object). o.number) (filter test os)) ≡ (is_in n (map (λ (o : Object). o.number) os) && test (object_at whole n))
+in_passing : (test : Object → Bool) (n : ℕ) (whole os : List Object)
+    → AllByRecursion (λ (o : Object). object_of whole o.number ≡ Some o) os
+    → is_in n (map (λ (o : Object). o.number) (filter test os))
+    ≡ (is_in n (map (λ (o : Object). o.number) os) && test (object_at whole n))
 in_passing test n whole [] are = refl
 in_passing test n whole (o ∷ os) are = elim (cases_Bool (nat_eq n o.number)) [
   | inl here ↦
@@ -77,7 +82,8 @@ in_passing test n whole (o ∷ os) are = elim (cases_Bool (nat_eq n o.number)) [
         | inl has_it ↦ rw (has_it, here) (sym (ap test is ∙ has_it))
         | inr lacks ↦
             let not_it : test (object_at whole n) ≡ false = ap test is ∙ lacks in
-            rw (lacks, here) (in_passing test n whole os are.1 ∙ ap (λ (b : Bool). is_in n (map (λ (x : Object). x.number) os) && b) not_it
+            rw (lacks, here) (in_passing test n whole os are.1
+            ∙ ap (λ (b : Bool). is_in n (map (λ (x : Object). x.number) os) && b) not_it
             ∙ and_false (is_in n (map (λ (x : Object). x.number) os)) ∙ sym not_it)
       ]
   | inr other ↦ elim (cases_Bool (test o)) [
@@ -86,7 +92,8 @@ in_passing test n whole (o ∷ os) are = elim (cases_Bool (nat_eq n o.number)) [
   ]
 ]
 
-in_children : (objects : List Object) (n parent : ℕ) → Rise objects → is_in n (children objects parent) ≡ (is_live objects n && (parent_at objects n == parent))
+in_children : (objects : List Object) (n parent : ℕ) → Rise objects → is_in n (children objects parent)
+    ≡ (is_live objects n && (parent_at objects n == parent))
 unfolding numbers
 in_children objects n parent rise =
     in_passing (λ (o : Object). o.parent == parent) n objects objects (all_found 0 objects rise)
@@ -99,17 +106,21 @@ abbrev hangs : List Object → ℕ → Bool
 hangs objects n = is_live objects n && is_other n
 
 module _ (objects : List Object) (rise : Rise objects) where
-  in_below : (n : ℕ) (level : List ℕ) → is_in n (below_each objects level) ≡ (hangs objects n && is_in (parent_at objects n) level)
+  in_below : (n : ℕ) (level : List ℕ) → is_in n (below_each objects level)
+      ≡ (hangs objects n && is_in (parent_at objects n) level)
   unfolding below_each
   in_below n [] = sym (and_false (hangs objects n))
   in_below n (p ∷ ps) =
       list_any-append (λ (m : ℕ). n == m) (filter is_other (children objects p)) (below_each objects ps)
-      ∙ ap (λ (b : Bool). b || is_in n (below_each objects ps)) (in_filter is_other n (children objects p) ∙ ap (λ (b : Bool). b && is_other n) (in_children objects n p rise))
+      ∙ ap (λ (b : Bool). b || is_in n (below_each objects ps))
+      (in_filter is_other n (children objects p) ∙ ap (λ (b : Bool). b && is_other n)
+      (in_children objects n p rise))
       ∙ ap (λ (b : Bool). ((is_live objects n && (parent_at objects n == p)) && is_other n) || b) (in_below n ps)
       ∙ spread (is_live objects n) (parent_at objects n == p) (is_other n) (is_in (parent_at objects n) ps)
 
   -- one level further down is what stands below
-  in_further : (n l : ℕ) (level : List ℕ) → is_in n (levels_from objects l (below_each objects level)) ≡ (hangs objects n && is_in (parent_at objects n) (levels_from objects l level))
+  in_further : (n l : ℕ) (level : List ℕ) → is_in n (levels_from objects l (below_each objects level))
+      ≡ (hangs objects n && is_in (parent_at objects n) (levels_from objects l level))
   unfolding levels_from
   in_further n zero level = sym (and_false (hangs objects n))
   in_further n (suc l) level =
@@ -117,17 +128,21 @@ module _ (objects : List Object) (rise : Rise objects) where
       list_any-append (λ (m : ℕ). n == m) below (levels_from objects l (below_each objects below))
       ∙ ap (λ (b : Bool). b || is_in n (levels_from objects l (below_each objects below))) (in_below n level)
       ∙ ap (λ (b : Bool). (hangs objects n && is_in (parent_at objects n) level) || b) (in_further n l below)
-      ∙ over (hangs objects n) (is_in (parent_at objects n) level) (is_in (parent_at objects n) (levels_from objects l below))
-      ∙ ap (λ (b : Bool). hangs objects n && b) (sym (list_any-append (λ (m : ℕ). parent_at objects n == m) level (levels_from objects l below)))
+      ∙ over (hangs objects n) (is_in (parent_at objects n) level)
+      (is_in (parent_at objects n) (levels_from objects l below))
+      ∙ ap (λ (b : Bool). hangs objects n && b)
+      (sym (list_any-append (λ (m : ℕ). parent_at objects n == m) level (levels_from objects l below)))
 
 -- the object is the base, or stands below it at most so many parents down
 abbrev at_or_under : List Object → ℕ → ℕ → ℕ → Bool
 at_or_under objects l base n = (n == base) || is_below_within (parent_at objects) l base n
 
-module _ (objects : List Object) (rise : Rise objects) (above : (n : ℕ) (o : Object) → object_of objects n ≡ Some o → (n ≡ root → ⊥) → is_live objects o.parent ≡ true)
+module _ (objects : List Object) (rise : Rise objects) (above : (n : ℕ) (o : Object) → object_of objects n ≡ Some o
+    → (n ≡ root → ⊥) → is_live objects o.parent ≡ true)
     (base : ℕ) (base_live : is_live objects base ≡ true) where
   base_only : (n : ℕ) → is_live objects n ≡ false → (n == base) ≡ false
-  base_only n dead = ne_eqb n base (λ (e : n ≡ base). both_ways (is_live objects n) dead (ap (is_live objects) e ∙ base_live))
+  base_only n dead = ne_eqb n base (λ (e : n ≡ base). both_ways (is_live objects n) dead
+      (ap (is_live objects) e ∙ base_live))
 
   at_base : (n : ℕ) → ((n == base) || false) ≡ (is_live objects n && ((n == base) || false))
   at_base n = elim (cases_Bool (is_live objects n)) [
@@ -135,7 +150,8 @@ module _ (objects : List Object) (rise : Rise objects) (above : (n : ℕ) (o : O
     | inr dead ↦ rw (dead, base_only n dead) refl
   ]
 
-  in_levels : (l n : ℕ) → is_in n (levels_from objects (suc l) (base ∷ [])) ≡ (is_live objects n && at_or_under objects l base n)
+  in_levels : (l n : ℕ) → is_in n (levels_from objects (suc l) (base ∷ []))
+      ≡ (is_live objects n && at_or_under objects l base n)
   unfolding levels_from is_below_within
   in_levels zero n = at_base n
   in_levels (suc l) n =
@@ -144,18 +160,22 @@ module _ (objects : List Object) (rise : Rise objects) (above : (n : ℕ) (o : O
       (in_further objects rise n (suc l) (base ∷ []) ∙ ap (λ (b : Bool). hangs objects n && b) (in_levels l parent))
       ∙ by_cases
     where
-      by_cases : ((n == base) || (hangs objects n && (is_live objects (parent_at objects n) && at_or_under objects l base (parent_at objects n))))
-          ≡ (is_live objects n && ((n == base) || (if n == root then false else at_or_under objects l base (parent_at objects n))))
+      by_cases : ((n == base) || (hangs objects n
+          && (is_live objects (parent_at objects n) && at_or_under objects l base (parent_at objects n))))
+          ≡ (is_live objects n && ((n == base)
+          || (if n == root then false else at_or_under objects l base (parent_at objects n))))
       by_cases = elim (cases_Bool (is_live objects n)) [
         | inl live ↦ elim (cases_Bool (nat_eq n root)) [
           | inl here ↦ rw (live, here) refl
-          | inr down ↦ rw (live, down, above n (object_at objects n) (of-live objects n live) (eqb-false n root down)) refl
+          | inr down ↦ rw (live, down, above n (object_at objects n) (of-live objects n live) (eqb-false n root down))
+              refl
         ]
         | inr dead ↦ rw (dead, base_only n dead) refl
       ]
 
 -- what is found so far, and the levels that are left
-pub level_more : (objects : List Object) (left : ℕ) (level below before after whole : List ℕ) → 0 < left → below ≡ below_each objects level → after ≡ before ++ level
+pub level_more : (objects : List Object) (left : ℕ) (level below before after whole : List ℕ) → 0 < left → below
+    ≡ below_each objects level → after ≡ before ++ level
     → before ++ levels_from objects left level ≡ whole → after ++ levels_from objects (left - 1) below ≡ whole
 unfolding levels_from
 level_more objects zero level below before after whole more next is so_far = absurd (omega (arith, more))
@@ -167,7 +187,8 @@ level_more objects (suc left) level below before after whole more next is so_far
     ∙ append_assoc before level (levels_from objects left (below_each objects level))
     ∙ so_far
 
-pub levels_end : (objects : List Object) (left : ℕ) (level found whole : List ℕ) → left ≤ 0 → found ++ levels_from objects left level ≡ whole → found ≡ whole
+pub levels_end : (objects : List Object) (left : ℕ) (level found whole : List ℕ) → left ≤ 0 → found
+    ++ levels_from objects left level ≡ whole → found ≡ whole
 unfolding levels_from
 levels_end objects zero level found whole none so_far = sym (append-nil found) ∙ so_far
 levels_end objects (suc left) level found whole none so_far = absurd (omega (arith, none))
@@ -187,7 +208,8 @@ pub kept_rising : (test : ℕ → Bool) (k : ℕ) (xs : List ℕ) → RisesAbove
 kept_rising test k [] rises = tt
 kept_rising test k (x ∷ xs) rises = elim (cases_Bool (test x)) [
   | inl has_it ↦ rw has_it (rises.0, kept_rising test x xs rises.1)
-  | inr lacks ↦ rw lacks (lower k x (filter test xs) (kept_rising test x xs rises.1) (let above : k < x = rises.0 in omega arith))
+  | inr lacks ↦ rw lacks (lower k x (filter test xs) (kept_rising test x xs rises.1)
+      (let above : k < x = rises.0 in omega arith))
 ]
 
 pub numbers_rise : (k : ℕ) (os : List Object) → RiseAbove k os → RisesAbove k (numbers os)
@@ -205,14 +227,17 @@ is_first : (x : ℕ) (xs : List ℕ) → is_in x (x ∷ xs) ≡ true
 is_first x xs = rw (eq-eqb x x refl) refl
 
 -- two lists of the same numbers that rise are one
-pub same_rising : (j k : ℕ) (xs ys : List ℕ) → RisesAbove j xs → RisesAbove k ys → ((n : ℕ) → is_in n xs ≡ is_in n ys) → xs ≡ ys
+pub same_rising : (j k : ℕ) (xs ys : List ℕ) → RisesAbove j xs → RisesAbove k ys → ((n : ℕ) → is_in n xs ≡ is_in n ys)
+    → xs ≡ ys
 same_rising j k [] [] rx ry same = refl
 same_rising j k [] (y ∷ ys) rx ry same = absurd (both_ways (is_in y (y ∷ ys)) (sym (same y)) (is_first y ys))
 same_rising j k (x ∷ xs) [] rx ry same = absurd (both_ways (is_in x (x ∷ xs)) (same x) (is_first x xs))
 same_rising j k (x ∷ xs) (y ∷ ys) rx ry same = elim (cases_lt x y) [
-  | inl less ↦ absurd (both_ways (is_in x (x ∷ xs)) (same x ∙ not_below x x (y ∷ ys) (less, ry.1) (omega arith)) (is_first x xs))
+  | inl less ↦ absurd (both_ways (is_in x (x ∷ xs)) (same x ∙ not_below x x (y ∷ ys) (less, ry.1) (omega arith))
+      (is_first x xs))
   | inr more ↦ elim (cases_lt y x) [
-    | inl less ↦ absurd (both_ways (is_in y (y ∷ ys)) (sym (same y) ∙ not_below y y (x ∷ xs) (less, rx.1) (omega arith)) (is_first y ys))
+    | inl less ↦ absurd (both_ways (is_in y (y ∷ ys))
+        (sym (same y) ∙ not_below y y (x ∷ xs) (less, rx.1) (omega arith)) (is_first y ys))
     | inr no_more ↦
         let one : x ≡ y = omega (arith, more, no_more) in
         ap (λ (n : ℕ). n ∷ xs) one ∙ ap (λ (ns : List ℕ). y ∷ ns) (same_rising x y xs ys rx.1 ry.1 (others one))
@@ -236,9 +261,14 @@ from_pairs x (y ∷ ys) all = (
   from_pairs y ys (λ i j d less within. all (suc i) (suc j) d (omega (arith, less)) (omega (arith, within))),
 )
 
-rising_from : (xs : List ℕ) → IsStrictlyIncreasing xs → (k : ℕ) → ((x : ℕ) → is_in x xs ≡ true → k < x) → RisesAbove k xs
+rising_from : (xs : List ℕ) → IsStrictlyIncreasing xs → (k : ℕ) → ((x : ℕ) → is_in x xs ≡ true → k < x)
+    → RisesAbove k xs
 rising_from [] rises k above = tt
-rising_from (x ∷ xs) rises k above = (above x (is_first x xs), from_pairs x xs (AllPairs-from_increasing (x ∷ xs) rises))
+rising_from (x ∷ xs) rises k above = (
+  above x (is_first x xs),
+  from_pairs x xs
+      (AllPairs-from_increasing (x ∷ xs) rises),
+)
 
 -- ---- the whole
 
@@ -248,14 +278,16 @@ above_zero dir rise n live = live_above 0 dir.objects n rise live
 -- Rising numbers that are those of all levels are the subtree.
 pub gathered : (dir : Directory) (base : ℕ) (found rising : List ℕ) → Rise dir.objects
     → ((n : ℕ) (o : Object) → object_of dir.objects n ≡ Some o → (n ≡ root → ⊥) → is_live dir.objects o.parent ≡ true)
-    → is_live dir.objects base ≡ true → found ≡ levels_from dir.objects 65 (base ∷ []) → IsStrictlyIncreasing rising → ((n : ℕ) → is_in n rising ≡ is_in n found)
+    → is_live dir.objects base ≡ true → found ≡ levels_from dir.objects 65 (base ∷ []) → IsStrictlyIncreasing rising
+    → ((n : ℕ) → is_in n rising ≡ is_in n found)
     → rising ≡ subtree dir base
 unfolding subtree goes_with is_below max_depth
 gathered dir base found rising rise above live is rises same =
     same_rising 0 0 rising (subtree dir base)
     (rising_from rising rises 0 (λ n there. above_zero dir rise n (live_if n (sym (levels n) ∙ there))))
     (kept_rising (goes_with dir base) 0 (numbers dir.objects) (numbers_rise 0 dir.objects rise))
-    (λ n. levels n ∙ sym (in_filter (goes_with dir base) n (numbers dir.objects) ∙ ap (λ (b : Bool). b && goes_with dir base n) (in_numbers n dir.objects)))
+    (λ n. levels n ∙ sym (in_filter (goes_with dir base) n (numbers dir.objects)
+    ∙ ap (λ (b : Bool). b && goes_with dir base n) (in_numbers n dir.objects)))
   where
     levels : (n : ℕ) → is_in n rising ≡ (is_live dir.objects n && goes_with dir base n)
     levels n = same n ∙ ap (is_in n) is ∙ in_levels dir.objects rise above base live 64 n

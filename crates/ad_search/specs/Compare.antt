@@ -1,5 +1,6 @@
 -- The answer to a compare, from what the token sees (RFC 4511 4.10).
-use Rattle.std.specs.Prelude.{ℕ, Bool, ◌&&◌, ◌==◌, if◌then◌else◌, Option, Some, None, find, List, [], length, Result, Ok, Err}
+use Rattle.std.specs.Prelude.{ℕ, Bool, ◌&&◌, ◌==◌, if◌then◌else◌, Option, Some, None, find, List, [], length, Result}
+use Rattle.std.specs.Prelude.{Ok, Err}
 use Rattle.std.specs.List.{list_any}
 use Rattle.ad_ids.specs.declared.token.Token.{Token}
 use Rattle.ad_dn.specs.declared.rdn.Rdn.{Rdn}
@@ -34,16 +35,19 @@ code_by readable (Err fault) = 21
 -- 16 for an attribute that is unknown, may not be read, or has no value
 abbrev pub code_of : List ℕ → Option Readable → ℕ
 code_of sent None = 16
-code_of sent (Some readable) = if length readable.values == 0 then 16 else code_by readable (normal_or_fault readable.syntax sent)
+code_of sent (Some readable) = if length readable.values == 0 then 16
+    else code_by readable (normal_or_fault readable.syntax sent)
 
 -- 32 for a name that no object has that is seen
 abbrev pub compared : List SchemaRecord → List Seen → ℕ → Compare → List Rdn → Option Seen → List ℕ
 compared schema seen id request rdns None = done id 32 (matched seen rdns)
-compared schema seen id request rdns (Some object) = done id (code_of request.value (reads schema object request.attr)) []
+compared schema seen id request rdns (Some object)
+    = done id (code_of request.value (reads schema object request.attr)) []
 
 abbrev pub compare_at : List SchemaRecord → List Seen → ℕ → Compare → Option Dn → List ℕ
 compare_at schema seen id request None = done id 34 []
-compare_at schema seen id request (Some name) = compared schema seen id request name.rdns (find (is_named name.rdns) seen)
+compare_at schema seen id request (Some name) = compared schema seen id request name.rdns
+    (find (is_named name.rdns) seen)
 
 -- 34 for a name that can't be read
 unfoldable pub compare_seen : List SchemaRecord → List Seen → ℕ → Compare → List ℕ

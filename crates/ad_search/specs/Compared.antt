@@ -19,7 +19,8 @@ unfoldable pub number_compared : Directory → Token → Compare → Option ℕ
 number_compared dir token request = option_and_then (λ dn. visible_of dir token dn.rdns) (dn_of request.dn)
 
 abbrev pub may_read : Directory → Token → ℕ → AttrId → Bool
-may_read dir token number attr = option_map_or (is_readable dir token number attr.0) (slice_get (attrs_of dir.schema) attr.0) false
+may_read dir token number attr = option_map_or (is_readable dir token number attr.0)
+    (slice_get (attrs_of dir.schema) attr.0) false
 
 -- The right to read is told, of a confidential attribute too, and a success where the attribute may be read.
 abbrev pub compared_on : Directory → Token → ℕ → AttrId → TriedValue
@@ -33,9 +34,10 @@ compared_on dir token number attr = record {
 abbrev pub compared_attr : Directory → Token → ℕ → Option AttrId → List TriedValue
 compared_attr dir token number attr = option_map_or (λ a. compared_on dir token number a ∷ []) attr []
 
--- What the compare tried: nothing where the name can't be read, where no object of the name is visible, or where the attribute is
--- unknown or the descriptor.
+-- What the compare tried: nothing where the name can't be read, where no object of the name is visible, or where the
+-- attribute is unknown or the descriptor.
 unfoldable pub compared_of : Directory → Token → Compare → List TriedValue
 compared_of dir token request =
     if same_name request.attr (codes "nTSecurityDescriptor") then []
-    else option_map_or (λ number. compared_attr dir token number (attr_named dir.schema request.attr)) (number_compared dir token request) []
+    else option_map_or (λ number. compared_attr dir token number (attr_named dir.schema request.attr))
+    (number_compared dir token request) []

@@ -1,5 +1,6 @@
 -- An entry of a search: which attributes it has, and its message (RFC 4511 4.5.2).
-use Rattle.std.specs.Prelude.{ℕ, Bool, true, false, not, ◌&&◌, ◌||◌, ◌==◌, if◌then◌else◌, codes, List, [], ◌∷◌, ◌++◌, length, map}
+use Rattle.std.specs.Prelude.{ℕ, Bool, true, false, not, ◌&&◌, ◌||◌, ◌==◌, if◌then◌else◌, codes, List, [], ◌∷◌, ◌++◌}
+use Rattle.std.specs.Prelude.{length, map}
 use Rattle.std.specs.Prelude.{Option, Some, None, is_some, option_to_list, Result, Ok, Err}
 use Rattle.std.specs.List.{list_any}
 use Rattle.std.specs.Str.{bytes_eq}
@@ -36,8 +37,8 @@ asks_for name sent = bytes_eq sent (codes "*") || same_name name sent
 unfoldable pub is_asked : List (List ℕ) → List ℕ → Bool
 is_asked sent name = (length sent == 0) || list_any (asks_for name) sent
 
--- An attribute is given where it is asked for, may be read, and has a value: its name as the schema spells it, and its values in
--- their order.
+-- An attribute is given where it is asked for, may be read, and has a value: its name as the schema spells it, and
+-- its values in their order.
 abbrev pub attr_given : SearchValue → AttrInfo → Option (List Value) → Option Given
 attr_given search info None = None
 attr_given search info (Some values) =
@@ -49,7 +50,8 @@ attr_given search info (Some values) =
 unfoldable pub attrs_given : SearchValue → List AttrInfo → List (Option (List Value)) → List Given
 attrs_given search [] values = []
 attrs_given search (info ∷ infos) [] = []
-attrs_given search (info ∷ infos) (values ∷ others) = option_to_list (attr_given search info values) ++ attrs_given search infos others
+attrs_given search (info ∷ infos) (values ∷ others) = option_to_list (attr_given search info values)
+    ++ attrs_given search infos others
 
 -- ---- what the token may change
 
@@ -69,7 +71,8 @@ is_sent sent name = list_any (same_name name) sent
 -- It is given where it is asked for, which is by its name alone, and has a value.
 abbrev pub changing_attr : SearchValue → List ℕ → List (List ℕ) → List Given
 changing_attr search name values =
-    if is_sent search.attrs name && not (length values == 0) then (name, values_if search.types_only values) ∷ [] else []
+    if is_sent search.attrs name && not (length values == 0) then (name, values_if search.types_only values) ∷ []
+    else []
 
 -- the three in their order
 unfoldable pub changing_attrs : SearchValue → Changing → List Given
@@ -108,7 +111,8 @@ parts_asked parts flags = record {
   sacl = only_if (says flags 8) parts.sacl;
 }
 
--- The descriptor's bytes, where it is asked for and each part that is asked for may be read; or that a list of it is too long.
+-- The descriptor's bytes, where it is asked for and each part that is asked for may be read; or that a list of it is
+-- too long.
 unfoldable pub descriptor_given : SearchValue → ℕ → SdParts → Option (Result (List ℕ) AclWriteFault)
 descriptor_given search flags parts =
     if is_descriptor_asked search.attrs && are_read parts flags then Some (written (parts_asked parts flags)) else None
@@ -136,6 +140,7 @@ entry_of schema id search flags seen =
     let descriptor = descriptor_given search flags seen.parts in
     record {
       message = reply_bytes (reply.Entry id (rdns_text seen.name)
-          ((attrs_given search (attrs_of schema) seen.values ++ changing_attrs search seen.changing) ++ descriptor_attr search descriptor));
+          ((attrs_given search (attrs_of schema) seen.values ++ changing_attrs search seen.changing)
+          ++ descriptor_attr search descriptor));
       is_short = is_left_out descriptor;
     }

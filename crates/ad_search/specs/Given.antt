@@ -19,7 +19,8 @@ given_values types_only name values = if length values == 0 then None else Some 
 
 -- an attribute that is asked for and may be read is given where it has a value
 abbrev pub given_if : Bool → List ℕ → List Value → Option Given
-given_if types_only name values = if length values == 0 then None else Some (name, values_if types_only (map (λ value. value.shown) values))
+given_if types_only name values = if length values == 0 then None
+    else Some (name, values_if types_only (map (λ value. value.shown) values))
 
 abbrev pub made_seen : Made → Entry
 made_seen made = record { message = made.message.items; is_short = made.is_short }

@@ -45,7 +45,8 @@ AreSought schema filter soughts = AllByRecursion (IsSought schema filter) sought
 
 -- whoever asks, the filter isn't true of the object
 abbrev pub IsNever : Directory → FilterValue → ℕ → Type 0
-IsNever dir filter number = (token : Token) → is_true (truth (reads dir.schema (seen_of dir token number)) filter) ≡ false
+IsNever dir filter number = (token : Token) → is_true (truth (reads dir.schema (seen_of dir token number)) filter)
+    ≡ false
 
 -- the number is before this one, where there is one
 abbrev pub IsBefore : ℕ → Option ℕ → Type 0
@@ -55,13 +56,15 @@ IsBefore number (Some next) = number < next
 -- A number above this one, such that no live object between them shows a value of the attribute with the key.
 pub record IsNextShown (dir : Directory) (sought : Sought) (above : ℕ) (result : Option ℕ) : Type 0 where
   pub is_above : IfSome result (λ next. above < next)
-  pub none : (number : ℕ) → is_live dir.objects number ≡ true → above < number → IsBefore number result → IsPlain dir.schema sought.attr.0
+  pub none : (number : ℕ) → is_live dir.objects number ≡ true → above < number → IsBefore number result
+      → IsPlain dir.schema sought.attr.0
       → IsNamedBy dir.schema sought.attr.0 sought.by_name → has_key sought.key (shown dir number sought.attr.0) ≡ false
 
 -- A number above this one, such that the filter is true of no live object between them.
 pub record IsNextFor (dir : Directory) (filter : FilterValue) (above : ℕ) (result : Option ℕ) : Type 0 where
   pub is_above : IfSome result (λ next. above < next)
-  pub none : (number : ℕ) → is_live dir.objects number ≡ true → above < number → IsBefore number result → IsNever dir filter number
+  pub none : (number : ℕ) → is_live dir.objects number ≡ true → above < number → IsBefore number result
+      → IsNever dir filter number
 
 -- These have the entries of all objects, and are live.
 pub record IsLeftOfAll (dir : Directory) (search : SearchValue) (left : List ℕ) : Type 0 where

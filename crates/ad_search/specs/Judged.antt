@@ -1,5 +1,6 @@
 -- What is judged once in a search: which attributes the entries have of the objects of one descriptor.
-use Rattle.std.specs.Prelude.{◌≡◌, ℕ, suc, Bool, false, ◌&&◌, if◌then◌else◌, Option, Some, None, slice_get, option_to_list, List, [], ◌∷◌, ◌++◌}
+use Rattle.std.specs.Prelude.{◌≡◌, ℕ, suc, Bool, false, ◌&&◌, if◌then◌else◌, Option, Some, None, slice_get}
+use Rattle.std.specs.Prelude.{option_to_list, List, [], ◌∷◌, ◌++◌}
 use Rattle.std.specs.List.{AllByRecursion}
 use Rattle.ad_ids.specs.SidValue.{SidValue}
 use Rattle.ad_ids.specs.declared.token.Token.{Token}
@@ -32,7 +33,8 @@ is_given_of dir token number search place None = false
 is_given_of dir token number search place (Some info) = is_given dir token number search place info
 
 unfoldable pub is_given_at : Directory → Token → ℕ → SearchValue → ℕ → Bool
-is_given_at dir token number search place = is_given_of dir token number search place (slice_get (attrs_of dir.schema) place)
+is_given_at dir token number search place = is_given_of dir token number search place
+    (slice_get (attrs_of dir.schema) place)
 
 abbrev pub place_if : Bool → ℕ → List ℕ
 place_if so place = if so then place ∷ [] else []
@@ -41,7 +43,8 @@ place_if so place = if so then place ∷ [] else []
 unfoldable pub places_from : Directory → Token → ℕ → SearchValue → ℕ → List AttrInfo → List ℕ
 places_from dir token number search place [] = []
 places_from dir token number search place (info ∷ infos) =
-    place_if (is_given dir token number search place info) place ++ places_from dir token number search (suc place) infos
+    place_if (is_given dir token number search place info) place ++ places_from dir token number search (suc place)
+    infos
 
 abbrev pub places_given : Directory → Token → ℕ → SearchValue → List ℕ
 places_given dir token number search = places_from dir token number search 0 (attrs_of dir.schema)
@@ -56,12 +59,13 @@ shown_at dir number types_only place = shown_of dir number types_only place (sli
 
 unfoldable pub shown_at_each : Directory → ℕ → Bool → List ℕ → List Given
 shown_at_each dir number types_only [] = []
-shown_at_each dir number types_only (place ∷ places) = option_to_list (shown_at dir number types_only place) ++ shown_at_each dir number types_only places
+shown_at_each dir number types_only (place ∷ places) = option_to_list (shown_at dir number types_only place)
+    ++ shown_at_each dir number types_only places
 
 -- ---- what is judged
 
--- How the holders of a token answer to the identifier that an object has of its own: whether the first holds it, whether it denies
--- by it, and whether the second holds it.
+-- How the holders of a token answer to the identifier that an object has of its own: whether the first holds it,
+-- whether it denies by it, and whether the second holds it.
 pub record AnswersSo (token : Token) (self : Option SidValue) (own : Own) : Type 0 where
   pub holds : own.holds ≡ answers_to_self Allow (first_holder token) self
   pub denies : own.denies ≡ answers_to_self Deny (first_holder token) self
@@ -73,14 +77,16 @@ pub record IsOf (dir : Directory) (token : Token) (bytes : List ℕ) (class : �
   pub class_is : (object_at dir.objects number).class ≡ class
   pub answers : AnswersSo token (self_sid dir number) own
 
--- Each object of the kind gives these attributes, and has these that tell what the token may change. Nothing says that one of the
--- kind is there.
-pub record GivesSo (dir : Directory) (token : Token) (search : SearchValue) (judged : Judged) (number : ℕ) : Type 0 where
-  pub places : judged.places.items ≡ places_given dir token number search
-  pub changing : judged.changing ≡ changing_attrs search (changing_of dir token number)
+-- Each object of the kind gives these attributes, and has these that tell what the token may change. Nothing says
+-- that one of the kind is there.
+pub record GivesSo (dir : Directory) (token : Token) (search : SearchValue) (judged : Judged) (number : ℕ) : Type 0
+  where
+    pub places : judged.places.items ≡ places_given dir token number search
+    pub changing : judged.changing ≡ changing_attrs search (changing_of dir token number)
 
 abbrev pub IsJudged : Directory → Token → SearchValue → Judged → Type 0
-IsJudged dir token search judged = (number : ℕ) → IsOf dir token judged.bytes.items judged.class judged.own number → GivesSo dir token search judged number
+IsJudged dir token search judged = (number : ℕ) → IsOf dir token judged.bytes.items judged.class judged.own number
+    → GivesSo dir token search judged number
 
 abbrev pub AreJudged : Directory → Token → SearchValue → List Judged → Type 0
 AreJudged dir token search judged = AllByRecursion (IsJudged dir token search) judged

@@ -32,7 +32,8 @@ pub record IsPlain (schema : List SchemaRecord) (attr : ℕ) : Type 0 where
 
 -- Of the object a value of this attribute with this key is read.
 abbrev pub IsRead : Seen → Needle → Type 0
-IsRead seen needle = (values : List Value) × (values_at seen needle.attr.0 ≡ Some values) × (has_key needle.value.key values ≡ true)
+IsRead seen needle = (values : List Value) × (values_at seen needle.attr.0 ≡ Some values)
+    × (has_key needle.value.key values ≡ true)
 
 -- The filter is true only of objects of which that is read.
 pub record IsNeedle (schema : List SchemaRecord) (filter : FilterValue) (needle : Needle) : Type 0 where
@@ -53,4 +54,5 @@ AreNeedles schema filter needles = AllByRecursion (IsNeedle schema filter) needl
 -- The entries of these objects are those of the others, whoever asks.
 abbrev pub HaveSameEntries : Directory → SearchValue → List ℕ → List ℕ → Type 0
 HaveSameEntries dir search some all =
-    (token : Token) (id flags : ℕ) (base : Dn) → entries_among dir token id search flags base some ≡ entries_among dir token id search flags base all
+    (token : Token) (id flags : ℕ) (base : Dn) → entries_among dir token id search flags base some
+    ≡ entries_among dir token id search flags base all

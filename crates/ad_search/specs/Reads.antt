@@ -1,5 +1,6 @@
 -- What a search tried: of each of its entries the rights by which it has what it has.
-use Rattle.std.specs.Prelude.{◌≡◌, ℕ, suc, ◌+◌, Bool, not, ◌&&◌, ◌||◌, ◌==◌, if◌then◌else◌, is_some, Option, Some, None, List, [], ◌∷◌, ◌++◌, length, filter}
+use Rattle.std.specs.Prelude.{◌≡◌, ℕ, suc, ◌+◌, Bool, not, ◌&&◌, ◌||◌, ◌==◌, if◌then◌else◌, is_some, Option, Some}
+use Rattle.std.specs.Prelude.{None, List, [], ◌∷◌, ◌++◌, length, filter}
 use Rattle.std.specs.List.{flat_map}
 use Rattle.ad_ids.specs.declared.token.Token.{Token}
 use Rattle.ad_acl.specs.Entry.{says}
@@ -24,12 +25,14 @@ use Rattle.ad_search.specs.Search.{done, stop_code, is_found}
 -- the right to read the attribute at a place of an object
 abbrev pub read_on : Directory → ℕ → ℕ → TriedValue
 read_on dir number place =
-    success_on number 0x10 (path_of dir.schema (record { 0 = (object_at dir.objects number).class }) (record { 0 = place }))
+    success_on number 0x10 (path_of dir.schema (record { 0 = (object_at dir.objects number).class })
+    (record { 0 = place }))
 
 -- the entry has the attribute: it is asked for, may be read and has a value
 abbrev pub has_attr : Directory → Token → ℕ → SearchValue → ℕ → AttrInfo → Bool
 has_attr dir token number search place info =
-    is_asked search.attrs info.name && is_readable dir token number place info && not (length (shown dir number place) == 0)
+    is_asked search.attrs info.name && is_readable dir token number place info
+    && not (length (shown dir number place) == 0)
 
 -- of each attribute that the entry has the right to read it, be it confidential or not, in the order of the schema
 unfoldable pub attr_reads : Directory → Token → ℕ → SearchValue → ℕ → List AttrInfo → List TriedValue
@@ -51,7 +54,8 @@ has_descriptor dir token number search flags =
     is_some descriptor && not (is_left_out descriptor)
 
 unfoldable pub descriptor_reads : Directory → Token → ℕ → SearchValue → ℕ → List TriedValue
-descriptor_reads dir token number search flags = if has_descriptor dir token number search flags then part_reads number flags else []
+descriptor_reads dir token number search flags = if has_descriptor dir token number search flags
+    then part_reads number flags else []
 
 unfoldable pub entry_reads : Directory → Token → SearchValue → ℕ → ℕ → List TriedValue
 entry_reads dir token search flags number =
@@ -72,8 +76,8 @@ abbrev pub unless_stops : Option ℕ → List ℕ → List ℕ
 unless_stops None numbers = numbers
 unless_stops (Some code) numbers = []
 
--- Those of the objects that have an entry in the answer, where so many were given before with so many bytes: all before the one with
--- which the search ends.
+-- Those of the objects that have an entry in the answer, where so many were given before with so many bytes: all
+-- before the one with which the search ends.
 unfoldable pub given_from : Directory → Token → ℕ → SearchValue → ℕ → ℕ → ℕ → List ℕ → List ℕ
 given_from dir token id search flags given joined [] = []
 given_from dir token id search flags given joined (number ∷ others) =
@@ -82,22 +86,27 @@ given_from dir token id search flags given joined (number ∷ others) =
 
 -- the objects that have an entry in the answer
 abbrev pub numbers_given : Directory → Token → ℕ → SearchValue → ℕ → Dn → List ℕ
-numbers_given dir token id search flags base = given_from dir token id search flags 0 0 (found_among dir token search base (numbers dir.objects))
+numbers_given dir token id search flags base = given_from dir token id search flags 0 0
+    (found_among dir token search base (numbers dir.objects))
 
 -- of each entry in turn
 abbrev pub reads_in : Directory → Token → ℕ → SearchValue → ℕ → Dn → List TriedValue
-reads_in dir token id search flags base = flat_map (entry_reads dir token search flags) (numbers_given dir token id search flags base)
+reads_in dir token id search flags base = flat_map (entry_reads dir token search flags)
+    (numbers_given dir token id search flags base)
 
 -- nothing where the base can't be read or no object has its name that is seen
 abbrev pub reads_at : Directory → Token → ℕ → SearchValue → ℕ → Option Dn → List TriedValue
 reads_at dir token id search flags None = []
-reads_at dir token id search flags (Some base) = if is_there (view dir token) base.rdns then reads_in dir token id search flags base else []
+reads_at dir token id search flags (Some base) = if is_there (view dir token) base.rdns then reads_in dir token id
+    search flags base else []
 
 -- What the search tried.
 unfoldable pub reads_of : Directory → Token → ℕ → SearchValue → ℕ → List TriedValue
 reads_of dir token id search flags = reads_at dir token id search flags (dn_of search.base)
 
 -- The answer is the messages of the entries of these objects in their order, and the one at the end.
-pub record HasEntries (dir : Directory) (token : Token) (id : ℕ) (search : SearchValue) (flags : ℕ) (objects : List ℕ) (answer : List ℕ) : Type 0 where
+pub record HasEntries (dir : Directory) (token : Token) (id : ℕ) (search : SearchValue) (flags : ℕ) (objects : List ℕ)
+    (answer : List ℕ) : Type 0 where
   pub code : ℕ
-  pub is : answer ≡ flat_map (λ number. (entry_of dir.schema id search flags (seen_of dir token number)).message) objects ++ done id code []
+  pub is : answer ≡ flat_map (λ number. (entry_of dir.schema id search flags (seen_of dir token number)).message)
+      objects ++ done id code []

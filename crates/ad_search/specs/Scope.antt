@@ -39,8 +39,8 @@ is_named rdns seen = same_rdns seen.name rdns
 unfoldable pub is_there : List Seen → List Rdn → Bool
 is_there view rdns = list_any (is_named rdns) view
 
--- the text of the nearest of a name and the names above it that an object has which is seen, as it was sent; nothing where there is
--- none
+-- the text of the nearest of a name and the names above it that an object has which is seen, as it was sent; nothing
+-- where there is none
 unfoldable pub nearest : List Seen → List Rdn → List ℕ
 nearest view [] = []
 nearest view (rdn ∷ rdns) = if is_there view (rdn ∷ rdns) then rdns_text (rdn ∷ rdns) else nearest view rdns

@@ -1,5 +1,6 @@
 -- The answer to a search, from what the token sees (RFC 4511 4.5.2).
-use Rattle.std.specs.Prelude.{ℕ, suc, ◌+◌, nat_lt, nat_le, Bool, false, not, ◌&&◌, ◌||◌, ◌==◌, if◌then◌else◌, Option, Some, None}
+use Rattle.std.specs.Prelude.{ℕ, suc, ◌+◌, nat_lt, nat_le, Bool, false, not, ◌&&◌, ◌||◌, ◌==◌, if◌then◌else◌, Option}
+use Rattle.std.specs.Prelude.{Some, None}
 use Rattle.std.specs.Prelude.{List, [], ◌∷◌, ◌++◌, length, map, filter}
 use Rattle.ad_ids.specs.declared.token.Token.{Token}
 use Rattle.ad_dn.specs.declared.rdn.Dn.{Dn}
@@ -25,8 +26,8 @@ done id code name = reply_bytes (reply.Done id 101 code name [])
 
 -- ---- the entries
 
--- The code with which a search ends before its next entry: 4 where as many as the size limit were given, and 11 where its message
--- would bring all of them above the limit.
+-- The code with which a search ends before its next entry: 4 where as many as the size limit were given, and 11 where
+-- its message would bring all of them above the limit.
 unfoldable pub stop_code : ℕ → ℕ → ℕ → ℕ → Option ℕ
 stop_code size given joined next =
     if not (size == 0) && nat_le size given then Some 4
@@ -42,8 +43,8 @@ abbrev pub entry_or_end : ℕ → Option ℕ → List ℕ → List ℕ → List 
 entry_or_end id (Some code) message others = done id code []
 entry_or_end id None message others = message ++ others
 
--- The messages of these entries and the one at the end, where so many were given before with so many bytes, and a descriptor of them
--- was left out or none.
+-- The messages of these entries and the one at the end, where so many were given before with so many bytes, and a
+-- descriptor of them was left out or none.
 unfoldable pub entries_from : ℕ → ℕ → ℕ → ℕ → Bool → List Entry → List ℕ
 entries_from id size given joined is_short [] = done id (end_code is_short) []
 entries_from id size given joined is_short (entry ∷ entries) =
@@ -54,11 +55,13 @@ entries_from id size given joined is_short (entry ∷ entries) =
 
 -- the object is in scope, and the filter is true of it
 unfoldable pub is_found : List SchemaRecord → SearchValue → Dn → Seen → Bool
-is_found schema search base seen = in_scope search.scope base.rdns seen.name && is_true (truth (reads schema seen) search.filter)
+is_found schema search base seen = in_scope search.scope base.rdns seen.name
+    && is_true (truth (reads schema seen) search.filter)
 
 -- the entries of these objects
 unfoldable pub entries_of : List SchemaRecord → ℕ → SearchValue → ℕ → Dn → List Seen → List Entry
-entries_of schema id search flags base seen = map (entry_of schema id search flags) (filter (is_found schema search base) seen)
+entries_of schema id search flags base seen = map (entry_of schema id search flags)
+    (filter (is_found schema search base) seen)
 
 abbrev pub answer_at : List SchemaRecord → List Seen → ℕ → SearchValue → ℕ → Option Dn → List ℕ
 answer_at schema seen id search flags None = done id 34 []

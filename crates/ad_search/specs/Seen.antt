@@ -1,6 +1,8 @@
--- What a token sees of a directory: the visible objects, and of each its name, the values of the attributes that may be read, the
--- parts of the descriptor that may be read, and what the token may change there ([MS-ADTS] 3.1.1.4.4, 5.1.3).
-use Rattle.std.specs.Prelude.{ℕ, suc, Bool, not, ◌&&◌, ◌||◌, if◌then◌else◌, codes, List, [], ◌∷◌, map, filter, slice_get}
+-- What a token sees of a directory: the visible objects, and of each its name, the values of the attributes that may
+-- be read, the parts of the descriptor that may be read, and what the token may change there ([MS-ADTS] 3.1.1.4.4,
+-- 5.1.3).
+use Rattle.std.specs.Prelude.{ℕ, suc, Bool, not, ◌&&◌, ◌||◌, if◌then◌else◌, codes, List, [], ◌∷◌, map, filter}
+use Rattle.std.specs.Prelude.{slice_get}
 use Rattle.std.specs.Prelude.{Option, Some, None, unwrap_or, option_map, option_and_then}
 use Rattle.ad_ids.specs.declared.token.Token.{Token}
 use Rattle.ad_acl.specs.Mask.{read_property, control_access, read_control, access_system_security}
@@ -24,8 +26,8 @@ use Rattle.ad_constructed_dir.specs.Changing.{Changing, changing_of}
 
 -- ---- attributes
 
--- Attributes of these names are read by nobody: the password; the descriptor, which is no ordinary attribute; and the three that
--- tell what a token may change.
+-- Attributes of these names are read by nobody: the password; the descriptor, which is no ordinary attribute; and the
+-- three that tell what a token may change.
 unfoldable pub is_never_read : List ℕ → Bool
 is_never_read name =
     same_name name (codes "unicodePwd") || same_name name (codes "nTSecurityDescriptor")
@@ -35,7 +37,8 @@ is_never_read name =
 -- the right is granted on the path of the attribute at this place
 abbrev pub is_granted_on : Directory → Token → ℕ → ℕ → ℕ → Bool
 is_granted_on dir token number attr bit =
-    is_granted dir token number (path_of dir.schema (record { 0 = (object_at dir.objects number).class }) (record { 0 = attr })) bit
+    is_granted dir token number (path_of dir.schema (record { 0 = (object_at dir.objects number).class })
+    (record { 0 = attr })) bit
 
 -- An attribute is read with the right to read it, and a confidential one with control access on it too.
 unfoldable pub is_readable : Directory → Token → ℕ → ℕ → AttrInfo → Bool
@@ -45,12 +48,14 @@ is_readable dir token number attr info =
 
 -- what the object shows of the attribute, where it may be read
 unfoldable pub read_of : Directory → Token → ℕ → ℕ → AttrInfo → Option (List Value)
-read_of dir token number attr info = if is_readable dir token number attr info then Some (shown dir number attr) else None
+read_of dir token number attr info = if is_readable dir token number attr info then Some (shown dir number attr)
+    else None
 
 -- of each of these attributes, the first of which has this place
 unfoldable pub reads_from : Directory → Token → ℕ → ℕ → List AttrInfo → List (Option (List Value))
 reads_from dir token number place [] = []
-reads_from dir token number place (info ∷ infos) = read_of dir token number place info ∷ reads_from dir token number (suc place) infos
+reads_from dir token number place (info ∷ infos) = read_of dir token number place info ∷ reads_from dir token number
+    (suc place) infos
 
 -- ---- the descriptor
 
@@ -68,8 +73,8 @@ parts_read dir token number =
 
 -- ---- objects
 
--- An object as a token sees it: its name, of each attribute of the schema in its order what the object shows of it, where that may
--- be read, the parts of the descriptor that may be read, and what the token may change there.
+-- An object as a token sees it: its name, of each attribute of the schema in its order what the object shows of it,
+-- where that may be read, the parts of the descriptor that may be read, and what the token may change there.
 pub record Seen : Type 0 where
   pub name : List Rdn
   pub values : List (Option (List Value))
@@ -102,7 +107,8 @@ abbrev pub readable_at : AttrInfo → Option (List Value) → Option Readable
 readable_at info values = option_map (λ values. record { syntax = info.syntax; values = values }) values
 
 abbrev pub readable_of : List SchemaRecord → Seen → AttrId → Option Readable
-readable_of schema seen id = option_and_then (λ info. readable_at info (values_at seen id.0)) (slice_get (attrs_of schema) id.0)
+readable_of schema seen id = option_and_then (λ info. readable_at info (values_at seen id.0))
+    (slice_get (attrs_of schema) id.0)
 
 -- what may be read of the object by the names of attributes: none of an unknown one and of one that may not be read
 unfoldable pub reads : List SchemaRecord → Seen → List ℕ → Option Readable

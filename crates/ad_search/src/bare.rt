@@ -24,7 +24,8 @@ fn set(flags: &mut Vec<bool>, attr: AttrId)
 
 // The attribute that a name leads to, if it leads to one.
 fn set_named(flags: &mut Vec<bool>, schema: &Schema, name: &[u8])
-    ensures { SetsUnless flags.old.items flags.new.items (λ attr. is_named schema.now name.now attr ≡ false) }
+    ensures { SetsUnless flags.old.items flags.new.items
+        (λ attr. is_named schema.now name.now attr ≡ false) }
 {
     if let Some(attr) = schema.attr(name) {
         set(flags, attr);
@@ -34,7 +35,8 @@ fn set_named(flags: &mut Vec<bool>, schema: &Schema, name: &[u8])
 // The attributes that show the naming value of objects of a class.
 fn set_naming(flags: &mut Vec<bool>, schema: &Schema, class: ClassId)
     requires { class.0 < length (classes_of schema.now) }
-    ensures { SetsUnless flags.old.items flags.new.items (λ attr. is_naming schema.now class.0 attr ≡ false) }
+    ensures { SetsUnless flags.old.items flags.new.items
+        (λ attr. is_naming schema.now class.0 attr ≡ false) }
 {
     set_named(flags, schema, b"name");
     set(flags, schema.class_info(class).naming);
@@ -42,7 +44,8 @@ fn set_naming(flags: &mut Vec<bool>, schema: &Schema, class: ClassId)
 
 // The attributes of which there are values.
 fn set_held(flags: &mut Vec<bool>, values: &[(AttrId, Few<Stored>)])
-    ensures { SetsUnless flags.old.items flags.new.items (λ attr. HoldsNone attr (map held_seen values.now)) }
+    ensures { SetsUnless flags.old.items flags.new.items
+        (λ attr. HoldsNone attr (map held_seen values.now)) }
 {
     'each: for held in values {
         set(flags, held.0);

@@ -6,7 +6,8 @@ ghost use Rattle.ad_ldap.specs.MessageValue.{search_seen};
 ghost use Rattle.ad_dir_model.specs.Objects.{is_live};
 ghost use Rattle.ad_constructed_dir.specs.Changing.{changing_of};
 ghost use Rattle.ad_search.specs.Given.{given_values};
-ghost use Rattle.ad_search.specs.Entry.{values_if, attributes_name, children_name, parts_name, is_sent, changing_attr, changing_attrs};
+ghost use Rattle.ad_search.specs.Entry.{values_if, attributes_name, children_name, parts_name, is_sent};
+ghost use Rattle.ad_search.specs.Entry.{changing_attr, changing_attrs};
 
 use crate::entry::push_if;
 use ad_bytes::{Bytes, List};
@@ -70,7 +71,8 @@ fn given_values(
     name: &[u8],
     values: Vec<Vec<u8>>,
 ) -> Result<Option<(Bytes, List<Bytes>)>, AllocError>
-    ensures { IfOk result (λ given. given ≡ given_values types_only name.now (all_items values.items)) }
+    ensures { IfOk result (λ given. given ≡ given_values types_only name.now
+        (all_items values.items)) }
 {
     if values.is_empty() {
         return Ok(None);
@@ -101,7 +103,8 @@ fn attributes_given(
 ) -> Result<Option<(Bytes, List<Bytes>)>, AllocError>
     requires { is_live dir.now.objects number ≡ true }
     ensures { IfOk result (λ given. option_to_list given
-        ≡ changing_attr (search_seen search.now) attributes_name (changing_of dir.now token.now number).attributes) }
+        ≡ changing_attr (search_seen search.now) attributes_name
+        (changing_of dir.now token.now number).attributes) }
 {
     if !is_sent(search.attrs.as_slice(), ATTRIBUTES) {
         return Ok(None);
@@ -119,7 +122,8 @@ fn children_given(
 ) -> Result<Option<(Bytes, List<Bytes>)>, AllocError>
     requires { is_live dir.now.objects number ≡ true }
     ensures { IfOk result (λ given. option_to_list given
-        ≡ changing_attr (search_seen search.now) children_name (changing_of dir.now token.now number).children) }
+        ≡ changing_attr (search_seen search.now) children_name
+        (changing_of dir.now token.now number).children) }
 {
     if !is_sent(search.attrs.as_slice(), CHILDREN) {
         return Ok(None);
@@ -137,7 +141,8 @@ fn parts_given(
     search: &Search,
 ) -> Result<Option<(Bytes, List<Bytes>)>, AllocError>
     requires { is_live dir.now.objects number ≡ true }
-    ensures { IfOk result (λ given. option_to_list given ≡ changing_attr (search_seen search.now) parts_name (changing_of dir.now token.now number).parts) }
+    ensures { IfOk result (λ given. option_to_list given ≡ changing_attr (search_seen search.now)
+        parts_name (changing_of dir.now token.now number).parts) }
 {
     if !is_sent(search.attrs.as_slice(), PARTS) {
         return Ok(None);
@@ -156,7 +161,8 @@ pub(crate) fn changing_attrs(
     search: &Search,
 ) -> Result<List<(Bytes, List<Bytes>)>, AllocError>
     requires { is_live dir.now.objects number ≡ true }
-    ensures { IfOk result (λ attrs. attrs ≡ changing_attrs (search_seen search.now) (changing_of dir.now token.now number)) }
+    ensures { IfOk result (λ attrs. attrs ≡ changing_attrs (search_seen search.now)
+        (changing_of dir.now token.now number)) }
 {
     let mut attrs = List::new(alloc);
     let attributes = attributes_given(alloc, dir, token, number, search)?;

@@ -41,7 +41,8 @@ fn equal_code(
     values: &[Value],
     sent: &Value,
 ) -> Result<u8, AllocError>
-    ensures { IfOk result (λ code. code ≡ code_by (record { syntax = syntax; values = values.now }) (Ok sent.now)) }
+    ensures { IfOk result (λ code. code ≡ code_by (record { syntax = syntax; values = values.now })
+        (Ok sent.now)) }
 {
     if has_equal(alloc, syntax, sent, values)? {
         return Ok(6);
@@ -51,7 +52,8 @@ fn equal_code(
 
 // The code for an attribute that may be read.
 fn code_by(alloc: Global, syntax: Syntax, values: &[Value], sent: &[u8]) -> Result<u8, AllocError>
-    ensures { IfOk result (λ code. code ≡ code_by (record { syntax = syntax; values = values.now }) (normal_or_fault syntax sent.now)) }
+    ensures { IfOk result (λ code. code ≡ code_by (record { syntax = syntax; values = values.now })
+        (normal_or_fault syntax sent.now)) }
 {
     match normal(alloc, syntax, sent) {
         Ok(value) => equal_code(alloc, syntax, values, &value),
@@ -67,7 +69,8 @@ fn code_of_values(
     values: &[Value],
     sent: &[u8],
 ) -> Result<u8, AllocError>
-    ensures { IfOk result (λ code. code ≡ code_of sent.now (Some (record { syntax = syntax; values = values.now }))) }
+    ensures { IfOk result (λ code. code
+        ≡ code_of sent.now (Some (record { syntax = syntax; values = values.now }))) }
 {
     if values.is_empty() {
         return Ok(16);
@@ -84,7 +87,8 @@ fn code_of(
     request: &Compare,
 ) -> Result<u8, AllocError>
     requires { is_live dir.now.objects number ≡ true }
-    ensures { IfOk result (λ code. code ≡ code_of request.now.value (reads dir.now.schema (seen_of dir.now token.now number) request.now.attr)) }
+    ensures { IfOk result (λ code. code ≡ code_of request.now.value
+        (reads dir.now.schema (seen_of dir.now token.now number) request.now.attr)) }
 {
     match values_named(alloc, dir, token, number, request.attr.as_slice())? {
         Some((syntax, values)) => {
@@ -103,7 +107,8 @@ fn compare_at(
     request: &Compare,
     name: &Dn,
 ) -> Result<Vec<u8>, AllocError>
-    ensures { IfOk result (λ bytes. bytes.items ≡ compare_at dir.now.schema (view dir.now token.now) id request.now (Some name.now)) }
+    ensures { IfOk result (λ bytes. bytes.items ≡ compare_at dir.now.schema (view dir.now token.now)
+        id request.now (Some name.now)) }
 {
     match seen_named(alloc, dir, token, name)? {
         Some(number) => {
@@ -138,9 +143,9 @@ fn compare_read(
 
 /// The answer to a compare, one message (RFC 4511 4.10). `id` is the request's message number.
 ///
-/// Its code is 34 where the name can't be read, 32 where no object of the name is visible, 16 where the attribute is unknown, may
-/// not be read, has no value or is nTSecurityDescriptor, 21 where the value isn't one of the attribute's syntax, 6 where a value
-/// of the object is equal, and else 5.
+/// Its code is 34 where the name can't be read, 32 where no object of the name is visible, 16 where the attribute is
+/// unknown, may not be read, has no value or is nTSecurityDescriptor, 21 where the value isn't one of the attribute's
+/// syntax, 6 where a value of the object is equal, and else 5.
 ///
 /// # Errors
 ///
@@ -153,9 +158,11 @@ pub fn compare(
     request: &Compare,
 ) -> Result<Vec<u8>, AllocError>
     // The answer is that of the rules.
-    ensures answer { IfOk result (λ bytes. bytes.items ≡ compare_answer dir.now token.now id request.now) }
+    ensures answer { IfOk result (λ bytes. bytes.items ≡ compare_answer dir.now token.now id
+        request.now) }
     // It is the answer in every directory of this schema of which the token sees the same.
-    ensures two_worlds { IfOk result (λ bytes. (other : Directory) → other.schema ≡ dir.now.schema → view other token.now ≡ view dir.now token.now
+    ensures two_worlds { IfOk result (λ bytes. (other : Directory) → other.schema ≡ dir.now.schema
+        → view other token.now ≡ view dir.now token.now
         → bytes.items ≡ compare_answer other token.now id request.now) }
 {
     compare_read(alloc, dir, token, id, request)

@@ -82,7 +82,8 @@ fn reads_system_list(dir: &Dir, token: &Token, number: u32) -> bool
 // Whether these flags ask for nothing that may not be read.
 fn may_have(flags: u8, control: bool, security: bool) -> bool
     ensures { result
-        ≡ ((not (says flags 1) || control) && (not (says flags 2) || control) && (not (says flags 4) || control) && (not (says flags 8) || security)) }
+        ≡ ((not (says flags 1) || control) && (not (says flags 2) || control)
+        && (not (says flags 4) || control) && (not (says flags 8) || security)) }
 {
     (flags & 1 == 0 || control)
         && (flags & 2 == 0 || control)
@@ -104,7 +105,8 @@ fn are_read(dir: &Dir, token: &Token, number: u32, flags: u8) -> bool
 // The parts that are asked for, of a descriptor of which they may be read.
 fn written(alloc: Global, dir: &Dir, number: u32, flags: u8) -> Result<Descriptor, AllocError>
     requires { is_live dir.now.objects number ≡ true }
-    ensures { IfOk result (λ d. descriptor_seen d ≡ Some (written (parts_shown (sd_at dir.now.objects number) flags))) }
+    ensures { IfOk result (λ d. descriptor_seen d
+        ≡ Some (written (parts_shown (sd_at dir.now.objects number) flags))) }
 {
     match dir.sd(number) {
         Some(view) => match write_view(alloc, view, flags) {
@@ -127,7 +129,8 @@ pub(crate) fn descriptor_given(
     flags: u8,
 ) -> Result<Descriptor, AllocError>
     requires { is_live dir.now.objects number ≡ true }
-    ensures { IfOk result (λ d. descriptor_seen d ≡ descriptor_given (search_seen search.now) flags (parts_read dir.now token.now number)) }
+    ensures { IfOk result (λ d. descriptor_seen d ≡ descriptor_given (search_seen search.now) flags
+        (parts_read dir.now token.now number)) }
 {
     if !is_descriptor_asked(search.attrs.as_slice()) {
         return Ok(Descriptor::Absent);

@@ -8,7 +8,8 @@ ghost use Rattle.ad_dir_model.specs.Objects.{is_live};
 ghost use Rattle.ad_dir_model.specs.Names.{rdns_of};
 ghost use Rattle.ad_search.specs.Seen.{reads_from, seen_of};
 ghost use Rattle.ad_constructed_dir.specs.Changing.{changing_of};
-ghost use Rattle.ad_search.specs.Entry.{values_if, asks_for, is_asked, attrs_given, changing_attrs, descriptor_attr, entry_of};
+ghost use Rattle.ad_search.specs.Entry.{values_if, asks_for, is_asked, attrs_given, changing_attrs, descriptor_attr};
+ghost use Rattle.ad_search.specs.Entry.{entry_of};
 ghost use Rattle.ad_search.specs.Bare.{IsBareElse};
 ghost use Rattle.ad_search.specs.Given.{descriptor_seen, given_if, made_seen};
 ghost use Rattle.ad_search.specs.Judged.{shown_at, shown_at_each, places_given};
@@ -53,7 +54,8 @@ fn all_shown(alloc: Global, values: Vec<Value>) -> Result<List<Bytes>, AllocErro
 
 // The values, or none where they are left out.
 fn values_if(alloc: Global, types_only: bool, values: Vec<Value>) -> Result<List<Bytes>, AllocError>
-    ensures { IfOk result (λ bytes. bytes ≡ values_if types_only (map (λ value. value.shown) values.items)) }
+    ensures { IfOk result (λ bytes. bytes
+        ≡ values_if types_only (map (λ value. value.shown) values.items)) }
 {
     if types_only {
         return Ok(List::new(alloc));
@@ -225,7 +227,8 @@ fn attrs_given(
     requires live { is_live dir.now.objects number ≡ true }
     requires places { places.now ≡ places_given dir.now token.now number (search_seen search.now) }
     ensures { IfOk result (λ attrs. attrs
-        ≡ attrs_given (search_seen search.now) (attrs_of dir.now.schema) (reads_from dir.now token.now number 0 (attrs_of dir.now.schema))) }
+        ≡ attrs_given (search_seen search.now) (attrs_of dir.now.schema)
+        (reads_from dir.now token.now number 0 (attrs_of dir.now.schema))) }
 {
     let _ = token;
     attrs_shown(alloc, dir, number, search.types_only, places)
@@ -250,7 +253,8 @@ fn descriptor_attr(
     search: &Search,
     descriptor: Descriptor,
 ) -> Result<Option<(Bytes, List<Bytes>)>, AllocError>
-    ensures { IfOk result (λ given. option_to_list given ≡ descriptor_attr (search_seen search.now) (descriptor_seen descriptor)) }
+    ensures { IfOk result (λ given. option_to_list given ≡ descriptor_attr (search_seen search.now)
+        (descriptor_seen descriptor)) }
 {
     match descriptor {
         Descriptor::Written(bytes) => {
@@ -265,8 +269,8 @@ fn descriptor_attr(
 
 // ---- the entry
 
-/// The entry of an object of this name, of which the attributes at these places are asked for and may be read, and of which so much
-/// is asked of what the token may change.
+/// The entry of an object of this name, of which the attributes at these places are asked for and may be read, and of
+/// which so much is asked of what the token may change.
 #[tactic(auto, unfolding(crate::specs::Entry::entry_of, crate::specs::Seen::seen_of))]
 pub(crate) fn entry_of(
     alloc: Global,
@@ -283,8 +287,10 @@ pub(crate) fn entry_of(
     requires live { is_live dir.now.objects number ≡ true }
     requires name { name.now.rdns ≡ rdns_of dir.now number }
     requires places { places.now ≡ places_given dir.now token.now number (search_seen search.now) }
-    requires changing { changing.now ≡ changing_attrs (search_seen search.now) (changing_of dir.now token.now number) }
-    ensures { IfOk result (λ made. made_seen made ≡ entry_of dir.now.schema id (search_seen search.now) flags (seen_of dir.now token.now number)) }
+    requires changing { changing.now ≡ changing_attrs (search_seen search.now)
+        (changing_of dir.now token.now number) }
+    ensures { IfOk result (λ made. made_seen made ≡ entry_of dir.now.schema id
+        (search_seen search.now) flags (seen_of dir.now token.now number)) }
 {
     let name = name.text(alloc)?;
     let mut attrs = attrs_given(alloc, dir, token, number, search, places)?;

@@ -1,6 +1,7 @@
 //! The object of a name, where a token sees it.
 
-ghost use Rattle.std.specs.Prelude.{◌≡◌, ◌≤◌, ◌&&◌, if◌then◌else◌, true, Some, find, option_map, length, drop, IfOk, IfSome};
+ghost use Rattle.std.specs.Prelude.{◌≡◌, ◌≤◌, ◌&&◌, if◌then◌else◌, true, Some, find, option_map, length, drop, IfOk};
+ghost use Rattle.std.specs.Prelude.{IfSome};
 ghost use Rattle.ad_dn.specs.Value.{AreRdns};
 ghost use Rattle.ad_dn.specs.Text.{rdns_text};
 ghost use Rattle.ad_dir_model.specs.Objects.{is_live};
@@ -27,7 +28,9 @@ fn is_seen_as(
 ) -> Result<bool, AllocError>
     requires live { is_live dir.now.objects number ≡ true }
     requires rdns { AreRdns rdns.now }
-    ensures { IfOk result (λ is. is ≡ (is_visible dir.now token.now number && is_named rdns.now (seen_of dir.now token.now number))) }
+    ensures { IfOk result (λ is. is
+        ≡ (is_visible dir.now token.now number
+        && is_named rdns.now (seen_of dir.now token.now number))) }
 {
     let list_mode = dir.list_mode();
     if !is_visible(dir, token, list_mode, number) {
@@ -44,8 +47,10 @@ pub(crate) fn seen_named(
     token: &Token,
     dn: &Dn,
 ) -> Result<Option<u32>, AllocError>
-    ensures found { IfOk result (λ found. option_map (seen_of dir.now token.now) found ≡ find (is_named dn.now.rdns) (view dir.now token.now)) }
-    ensures live { IfOk result (λ found. IfSome found (λ number. is_live dir.now.objects number ≡ true)) }
+    ensures found { IfOk result (λ found. option_map (seen_of dir.now token.now) found
+        ≡ find (is_named dn.now.rdns) (view dir.now token.now)) }
+    ensures live { IfOk result (λ found.
+        IfSome found (λ number. is_live dir.now.objects number ≡ true)) }
 {
     dir.stands();
     let Some(number) = dir.find(alloc, dn)? else {
@@ -85,12 +90,13 @@ fn nearer(seen: bool, levels: usize, nearest: usize) -> usize
     if seen { levels } else { nearest }
 }
 
-// How many levels above the name the nearest one stands of which an object is seen: all of its parts where there is none. The
-// root's name is the first that is tried, and below a name that leads nowhere none is, so no more are than objects stand below
-// one another.
+// How many levels above the name the nearest one stands of which an object is seen: all of its parts where there is
+// none. The root's name is the first that is tried, and below a name that leads nowhere none is, so no more are than
+// objects stand below one another.
 fn levels_to_seen(alloc: Global, dir: &Dir, token: &Token, dn: &Dn) -> Result<usize, AllocError>
     ensures within { IfOk result (λ levels. levels ≤ length dn.now.rdns) }
-    ensures nearest { IfOk result (λ levels. rdns_text (drop levels dn.now.rdns) ≡ matched (view dir.now token.now) dn.now.rdns) }
+    ensures nearest { IfOk result (λ levels. rdns_text (drop levels dn.now.rdns)
+        ≡ matched (view dir.now token.now) dn.now.rdns) }
 {
     dir.stands();
     let parts = dn.rdns.len();

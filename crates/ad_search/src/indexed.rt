@@ -1,7 +1,8 @@
-//! The objects of which the filter of a search may be true, from the indexes of what they store and how they are named: so that
-//! the others aren't looked at.
+//! The objects of which the filter of a search may be true, from the indexes of what they store and how they are
+//! named: so that the others aren't looked at.
 
-ghost use Rattle.std.specs.Prelude.{◌≡◌, ◌<◌, ◌≤◌, ◌++◌, ℕ, true, false, nat_lt, if◌then◌else◌, length, option_to_list, IfOk, IfSome, OnOk, IsTrue, IsFalse};
+ghost use Rattle.std.specs.Prelude.{◌≡◌, ◌<◌, ◌≤◌, ◌++◌, ℕ, true, false, nat_lt, if◌then◌else◌, length};
+ghost use Rattle.std.specs.Prelude.{option_to_list, IfOk, IfSome, OnOk, IsTrue, IsFalse};
 ghost use Rattle.std.specs.List.{AllByRecursion};
 ghost use Rattle.ad_value.specs.declared.syntax.Syntax.TheVariants as syntax;
 ghost use Rattle.ad_ldap.specs.FilterValue.{FilterValue};
@@ -9,7 +10,8 @@ ghost use Rattle.ad_ldap.specs.MessageValue.{search_seen};
 ghost use Rattle.ad_dir_model.specs.Objects.{is_live};
 ghost use Rattle.ad_dir_model.specs.Attributes.{syntax_at};
 ghost use Rattle.ad_search.specs.Needles.{AreNeedles};
-ghost use Rattle.ad_search.specs.Indexed.{names_one, IsSoughtFor, AreSought, IsNever, IsBefore, IsNextShown, IsNextFor, IsLeftOfAll};
+ghost use Rattle.ad_search.specs.Indexed.{names_one, IsSoughtFor, AreSought, IsNever, IsBefore, IsNextShown};
+ghost use Rattle.ad_search.specs.Indexed.{IsNextFor, IsLeftOfAll};
 
 use crate::needles::{Needle, may_be_found, needles_of, push_number};
 use crate::subtree::ROOT;
@@ -78,7 +80,8 @@ fn push_sought(soughts: &mut Vec<Sought>, sought: Option<Sought>) -> Result<(), 
 }
 
 fn soughts_of(alloc: Global, dir: &Dir, needles: &[Needle]) -> Result<Vec<Sought>, AllocError>
-    ensures { IfOk result (λ soughts. (filter : FilterValue) → AreNeedles dir.now.schema filter needles.now
+    ensures { IfOk result (λ soughts. (filter : FilterValue) → AreNeedles dir.now.schema filter
+        needles.now
         → AreSought dir.now.schema filter soughts.items) }
 {
     let mut soughts = Vec::new(alloc);
@@ -93,7 +96,8 @@ fn soughts_of(alloc: Global, dir: &Dir, needles: &[Needle]) -> Result<Vec<Sought
 
 // The lesser of two numbers, where there are any.
 fn lesser(a: Option<u32>, b: Option<u32>) -> Option<u32>
-    ensures above { (above : ℕ) → IfSome a (λ n. above < n) → IfSome b (λ n. above < n) → IfSome result (λ n. above < n) }
+    ensures above { (above : ℕ) → IfSome a (λ n. above < n) → IfSome b (λ n. above < n)
+        → IfSome result (λ n. above < n) }
     ensures first { (number : ℕ) → IsBefore number result → IsBefore number a }
     ensures second { (number : ℕ) → IsBefore number result → IsBefore number b }
 {
@@ -125,7 +129,8 @@ fn greater(a: u32, b: u32) -> u32
 // The next object above a number that may show all that is sought.
 fn next_of_all(dir: &Dir, soughts: &[Sought], above: u32) -> Option<u32>
     requires { 0 < length soughts.now }
-    ensures { (filter : FilterValue) → AreSought dir.now.schema filter soughts.now → IsNextFor dir.now filter above result }
+    ensures { (filter : FilterValue) → AreSought dir.now.schema filter soughts.now
+        → IsNextFor dir.now filter above result }
 {
     let mut next = above;
     'each: for sought in soughts {
@@ -163,7 +168,8 @@ fn found_by(
     requires some { 0 < length soughts.now }
     requires needles { AreNeedles dir.now.schema (search_seen search.now).filter needles.now }
     requires soughts { AreSought dir.now.schema (search_seen search.now).filter soughts.now }
-    ensures { IfOk result (λ found. IfSome found (λ left. IsLeftOfAll dir.now (search_seen search.now) left.items)) }
+    ensures { IfOk result (λ found.
+        IfSome found (λ left. IsLeftOfAll dir.now (search_seen search.now) left.items)) }
 {
     dir.stands();
     let mut left = Vec::new(alloc);
@@ -192,14 +198,16 @@ fn most_of(dir: &Dir, scope: u8, base: u32) -> usize {
     if base == ROOT { dir.len() } else { MOST }
 }
 
-/// The objects that may have an entry of which the filter may be true, where they are found without a look at the others.
+/// The objects that may have an entry of which the filter may be true, where they are found without a look at the
+/// others.
 pub(crate) fn indexed_of(
     alloc: Global,
     dir: &Dir,
     search: &Search,
     base: u32,
 ) -> Result<Option<Vec<u32>>, AllocError>
-    ensures { IfOk result (λ found. IfSome found (λ left. IsLeftOfAll dir.now (search_seen search.now) left.items)) }
+    ensures { IfOk result (λ found.
+        IfSome found (λ left. IsLeftOfAll dir.now (search_seen search.now) left.items)) }
 {
     let most = most_of(dir, search.scope, base);
     if most == 0 {

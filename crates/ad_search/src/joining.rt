@@ -80,7 +80,8 @@ pub(crate) fn stop_code(size: u32, given: usize, joined: usize, next: usize) -> 
 
 /// Joins one more entry, or gives the code with which the search ends before it.
 pub(crate) fn join(joined: &mut Joined, size: u32, made: &Made) -> Result<Option<u8>, AllocError>
-    ensures { IfOk result (λ code. (id : ℕ) → Steps id size joined.old (made_seen made.now ∷ []) joined.new code) }
+    ensures { IfOk result (λ code. (id : ℕ) → Steps id size joined.old (made_seen made.now ∷ [])
+        joined.new code) }
 {
     if let Some(code) = stop_code(
         size,

@@ -1,5 +1,5 @@
-//! What is judged once in a search: which attributes the entries have of the objects of one descriptor, and what of those that tell
-//! what a token may change.
+//! What is judged once in a search: which attributes the entries have of the objects of one descriptor, and what of
+//! those that tell what a token may change.
 
 ghost use Rattle.std.specs.Prelude.{◌≡◌, ◌<◌, ◌++◌, true, length, IfOk, IfSome, OnOk, IsTrue};
 ghost use Rattle.std.specs.Option.{option_copied};
@@ -28,8 +28,8 @@ use ad_ldap::Search;
 use ad_schema::AttrId;
 use std::alloc::{AllocError, Global};
 
-// The most kinds of objects of which something is kept, so that to look for one costs no more where each object has a descriptor of
-// its own.
+// The most kinds of objects of which something is kept, so that to look for one costs no more where each object has a
+// descriptor of its own.
 const MOST_KINDS: usize = 128;
 
 /// How the holders of a token answer to the identifier that an object has of its own.
@@ -43,8 +43,8 @@ pub(crate) struct Own {
     pub restricted: bool,
 }
 
-/// Which attributes the entries have of the objects of one descriptor and class, to whose own identifier the holders answer alike, and
-/// what of those that tell what the token may change.
+/// Which attributes the entries have of the objects of one descriptor and class, to whose own identifier the holders
+/// answer alike, and what of those that tell what the token may change.
 #[derive(Drop)]
 pub(crate) struct Judged {
     /// The normal bytes of the descriptor.
@@ -107,7 +107,8 @@ fn bytes_of(dir: &Dir, number: u32) -> &[u8]
 }
 
 fn same_own(a: Own, b: Own) -> bool
-    ensures { IsTrue result → (a.holds ≡ b.holds) × (a.denies ≡ b.denies) × (a.restricted ≡ b.restricted) }
+    ensures { IsTrue result → (a.holds ≡ b.holds) × (a.denies ≡ b.denies)
+        × (a.restricted ≡ b.restricted) }
 {
     a.holds == b.holds && a.denies == b.denies && a.restricted == b.restricted
 }
@@ -122,7 +123,8 @@ fn same_bytes(a: &[u8], b: &[u8]) -> bool
 fn is_of(judged: &Judged, bytes: &[u8], class: u32, own: Own) -> bool
     ensures bytes { IsTrue result → judged.now.bytes.items ≡ bytes.now }
     ensures class { IsTrue result → judged.now.class ≡ class }
-    ensures own { IsTrue result → (judged.now.own.holds ≡ own.holds) × (judged.now.own.denies ≡ own.denies) × (judged.now.own.restricted ≡ own.restricted) }
+    ensures own { IsTrue result → (judged.now.own.holds ≡ own.holds)
+        × (judged.now.own.denies ≡ own.denies) × (judged.now.own.restricted ≡ own.restricted) }
 {
     judged.class == class && same_own(judged.own, own) && same_bytes(judged.bytes.as_slice(), bytes)
 }
@@ -160,7 +162,8 @@ pub(crate) fn judge(
     search: &Search,
 ) -> Result<Vec<u32>, AllocError>
     requires { is_live dir.now.objects number ≡ true }
-    ensures { IfOk result (λ places. places.items ≡ places_given dir.now token.now number (search_seen search.now)) }
+    ensures { IfOk result (λ places. places.items ≡ places_given dir.now token.now number
+        (search_seen search.now)) }
 {
     let mut places = Vec::new(alloc);
     'each: for i in 0..attr_count(dir) {
@@ -183,8 +186,11 @@ fn known<'a>(
 ) -> Option<&'a Judged>
     requires judged { AreJudged dir.now token.now (search_seen search.now) judged.now }
     requires kind { IsOf dir.now token.now bytes.now class own number }
-    ensures places { IfSome result (λ one. one.now.places.items ≡ places_given dir.now token.now number (search_seen search.now)) }
-    ensures changing { IfSome result (λ one. one.now.changing ≡ changing_attrs (search_seen search.now) (changing_of dir.now token.now number)) }
+    ensures places { IfSome result (λ one. one.now.places.items ≡ places_given dir.now token.now
+        number (search_seen search.now)) }
+    ensures changing { IfSome result
+        (λ one. one.now.changing ≡ changing_attrs (search_seen search.now)
+        (changing_of dir.now token.now number)) }
 {
     for one in judged {
         if is_of(one, bytes, class, own) {
@@ -204,7 +210,8 @@ pub(crate) fn known_places<'a>(
 ) -> Option<&'a [u32]>
     requires live { is_live dir.now.objects number ≡ true }
     requires judged { AreJudged dir.now token.now (search_seen search.now) judged.now }
-    ensures { IfSome result (λ places. places.now ≡ places_given dir.now token.now number (search_seen search.now)) }
+    ensures { IfSome result (λ places. places.now ≡ places_given dir.now token.now number
+        (search_seen search.now)) }
 {
     let class = live_object(dir, number).class.0;
     let bytes = bytes_of(dir, number);
@@ -231,8 +238,10 @@ fn keep(
 ) -> Result<(), AllocError>
     requires judged { AreJudged dir.now token.now (search_seen search.now) judged.old.items }
     requires kind { IsOf dir.now token.now bytes.now class own number }
-    requires places { places.items ≡ places_given dir.now token.now number (search_seen search.now) }
-    requires changing { changing ≡ changing_attrs (search_seen search.now) (changing_of dir.now token.now number) }
+    requires places { places.items ≡ places_given dir.now token.now number
+        (search_seen search.now) }
+    requires changing { changing ≡ changing_attrs (search_seen search.now)
+        (changing_of dir.now token.now number) }
     ensures { OnOk result (AreJudged dir.now token.now (search_seen search.now) judged.new.items) }
 {
     let _ = dir;
@@ -272,8 +281,10 @@ fn entry_new(
     requires name { name.now.rdns ≡ rdns_of dir.now number }
     requires judged { AreJudged dir.now token.now (search_seen search.now) judged.old.items }
     requires kind { IsOf dir.now token.now bytes.now class own number }
-    ensures made { IfOk result (λ made. made_seen made ≡ entry_of dir.now.schema id (search_seen search.now) flags (seen_of dir.now token.now number)) }
-    ensures judged { OnOk result (AreJudged dir.now token.now (search_seen search.now) judged.new.items) }
+    ensures made { IfOk result (λ made. made_seen made ≡ entry_of dir.now.schema id
+        (search_seen search.now) flags (seen_of dir.now token.now number)) }
+    ensures judged { OnOk result (AreJudged dir.now token.now (search_seen search.now)
+        judged.new.items) }
 {
     let places = judge(alloc, dir, token, number, search)?;
     let changing = changing_attrs(alloc, dir, token, number, search)?;
@@ -295,7 +306,8 @@ fn entry_new(
     Ok(made)
 }
 
-/// The entry of an object of this name. What its descriptor says of the attributes is judged at the first object of its kind.
+/// The entry of an object of this name. What its descriptor says of the attributes is judged at the first object of
+/// its kind.
 pub(crate) fn entry_judged(
     alloc: Global,
     dir: &Dir,
@@ -310,8 +322,10 @@ pub(crate) fn entry_judged(
     requires live { is_live dir.now.objects number ≡ true }
     requires name { name.now.rdns ≡ rdns_of dir.now number }
     requires judged { AreJudged dir.now token.now (search_seen search.now) judged.old.items }
-    ensures made { IfOk result (λ made. made_seen made ≡ entry_of dir.now.schema id (search_seen search.now) flags (seen_of dir.now token.now number)) }
-    ensures judged { OnOk result (AreJudged dir.now token.now (search_seen search.now) judged.new.items) }
+    ensures made { IfOk result (λ made. made_seen made ≡ entry_of dir.now.schema id
+        (search_seen search.now) flags (seen_of dir.now token.now number)) }
+    ensures judged { OnOk result (AreJudged dir.now token.now (search_seen search.now)
+        judged.new.items) }
 {
     let class = live_object(dir, number).class.0;
     let bytes = bytes_of(dir, number);

@@ -1,7 +1,8 @@
-//! What an object has to store for the filter of a search to be true of it, so that most objects need no more than a look at what
-//! they store.
+//! What an object has to store for the filter of a search to be true of it, so that most objects need no more than a
+//! look at what they store.
 
-ghost use Rattle.std.specs.Prelude.{◌≡◌, ◌<◌, ◌++◌, false, true, length, map, option_to_list, IfOk, IfSome, OnOk, IsFalse};
+ghost use Rattle.std.specs.Prelude.{◌≡◌, ◌<◌, ◌++◌, false, true, length, map, option_to_list, IfOk, IfSome, OnOk};
+ghost use Rattle.std.specs.Prelude.{IsFalse};
 ghost use Rattle.std.specs.List.{AllByRecursion, list_any};
 ghost use Rattle.std.specs.Result.{result_ok};
 ghost use Rattle.ad_value.specs.ValueOf.{normal_or_fault};
@@ -94,7 +95,8 @@ fn needle_of(
     name: &[u8],
     sent: &[u8],
 ) -> Result<Option<Needle>, AllocError>
-    ensures { IfOk result (λ needle. IfSome needle (IsNeedle schema.now (value.Equal name.now sent.now))) }
+    ensures { IfOk result (λ needle.
+        IfSome needle (IsNeedle schema.now (value.Equal name.now sent.now))) }
 {
     if is_descriptor(name) {
         return Ok(None);
@@ -130,7 +132,9 @@ fn needles_of_all(
     schema: &Schema,
     filters: &[Filter],
 ) -> Result<Vec<Needle>, AllocError>
-    ensures { IfOk result (λ needles. AreNeedles schema.now (value.And (filters_of (map filter_seen filters.now))) needles.items) }
+    ensures { IfOk result (λ needles.
+        AreNeedles schema.now (value.And (filters_of (map filter_seen filters.now)))
+        needles.items) }
 {
     let mut needles = Vec::new(alloc);
     'each: for filter in filters {
@@ -141,7 +145,8 @@ fn needles_of_all(
 }
 
 fn one_needle(alloc: Global, schema: &Schema, filter: &Filter) -> Result<Vec<Needle>, AllocError>
-    ensures { IfOk result (λ needles. AreNeedles schema.now (filter_seen filter.now) needles.items) }
+    ensures { IfOk result (λ needles. AreNeedles schema.now (filter_seen filter.now)
+        needles.items) }
 {
     let mut needles = Vec::new(alloc);
     let needle = needle_in(alloc, schema, filter)?;
@@ -155,7 +160,8 @@ pub(crate) fn needles_of(
     schema: &Schema,
     filter: &Filter,
 ) -> Result<Vec<Needle>, AllocError>
-    ensures { IfOk result (λ needles. AreNeedles schema.now (filter_seen filter.now) needles.items) }
+    ensures { IfOk result (λ needles. AreNeedles schema.now (filter_seen filter.now)
+        needles.items) }
 {
     what_is_seen_of_filters();
     match filter {
@@ -184,7 +190,8 @@ fn any_may(stored: &[Stored], value: &Value) -> bool
 // Whether an object may show what is needed: by what it stores, unless the attribute shows its naming value.
 fn may_show(dir: &Dir, number: u32, needle: &Needle) -> bool
     requires live { is_live dir.now.objects number ≡ true }
-    ensures { IsFalse result → IsPlain dir.now.schema needle.now.attr.0 → has_key needle.now.value.key (shown dir.now number needle.now.attr.0) ≡ false }
+    ensures { IsFalse result → IsPlain dir.now.schema needle.now.attr.0
+        → has_key needle.now.value.key (shown dir.now number needle.now.attr.0) ≡ false }
 {
     dir.stands();
     let object = live_object(dir, number);
@@ -200,7 +207,8 @@ fn may_show(dir: &Dir, number: u32, needle: &Needle) -> bool
 // Whether it may show all of it.
 pub(crate) fn may_be_found(dir: &Dir, number: u32, needles: &[Needle]) -> bool
     requires live { is_live dir.now.objects number ≡ true }
-    ensures { IsFalse result → (filter : FilterValue) (token : Token) → AreNeedles dir.now.schema filter needles.now
+    ensures { IsFalse result → (filter : FilterValue) (token : Token) → AreNeedles dir.now.schema
+        filter needles.now
         → is_true (truth (reads dir.now.schema (seen_of dir.now token number)) filter) ≡ false }
 {
     for needle in needles {
@@ -231,8 +239,10 @@ fn those_left(
 ) -> Result<Vec<u32>, AllocError>
     requires live { AllByRecursion (λ number. is_live dir.now.objects number ≡ true) numbers.now }
     requires needles { AreNeedles dir.now.schema (search_seen search.now).filter needles.now }
-    ensures same { IfOk result (λ left. HaveSameEntries dir.now (search_seen search.now) left.items numbers.now) }
-    ensures live { IfOk result (λ left. AllByRecursion (λ number. is_live dir.now.objects number ≡ true) left.items) }
+    ensures same { IfOk result (λ left. HaveSameEntries dir.now (search_seen search.now) left.items
+        numbers.now) }
+    ensures live { IfOk result (λ left.
+        AllByRecursion (λ number. is_live dir.now.objects number ≡ true) left.items) }
 {
     let mut left = Vec::new(alloc);
     'each: for number in numbers {
@@ -250,8 +260,10 @@ pub(crate) fn left_of(
     numbers: Vec<u32>,
 ) -> Result<Vec<u32>, AllocError>
     requires { AllByRecursion (λ number. is_live dir.now.objects number ≡ true) numbers.items }
-    ensures same { IfOk result (λ left. HaveSameEntries dir.now (search_seen search.now) left.items numbers.items) }
-    ensures live { IfOk result (λ left. AllByRecursion (λ number. is_live dir.now.objects number ≡ true) left.items) }
+    ensures same { IfOk result (λ left. HaveSameEntries dir.now (search_seen search.now) left.items
+        numbers.items) }
+    ensures live { IfOk result (λ left.
+        AllByRecursion (λ number. is_live dir.now.objects number ≡ true) left.items) }
 {
     let needles = needles_of(alloc, dir.schema(), &search.filter)?;
     if needles.is_empty() {

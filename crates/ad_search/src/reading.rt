@@ -40,15 +40,18 @@ fn reads_plain(dir: &Dir, token: &Token, number: u32, path: &Path) -> bool
 // The two rights, asked for together.
 fn read_rights(dir: &Dir, token: &Token, number: u32, path: &Path) -> u32
     requires { is_live dir.now.objects number ≡ true }
-    ensures plain { not (nat_eq (bit_and result 16) 0) ≡ is_granted dir.now token.now number (guids_of path.now) 4 }
-    ensures control { not (nat_eq (bit_and result 256) 0) ≡ is_granted dir.now token.now number (guids_of path.now) 8 }
+    ensures plain { not (nat_eq (bit_and result 16) 0) ≡ is_granted dir.now token.now number
+        (guids_of path.now) 4 }
+    ensures control { not (nat_eq (bit_and result 256) 0) ≡ is_granted dir.now token.now number
+        (guids_of path.now) 8 }
 {
     granted(dir, token, number, path, READ_PROPERTY | CONTROL_ACCESS)
 }
 
 fn reads_confidential(dir: &Dir, token: &Token, number: u32, path: &Path) -> bool
     requires { is_live dir.now.objects number ≡ true }
-    ensures { result ≡ (is_granted dir.now token.now number (guids_of path.now) 4 && is_granted dir.now token.now number (guids_of path.now) 8) }
+    ensures { result ≡ (is_granted dir.now token.now number (guids_of path.now) 4
+        && is_granted dir.now token.now number (guids_of path.now) 8) }
 {
     let rights = read_rights(dir, token, number, path);
     rights & READ_PROPERTY != 0 && rights & CONTROL_ACCESS != 0
@@ -102,7 +105,8 @@ fn values_at(
 ) -> Result<Option<(Syntax, Vec<Value>)>, AllocError>
     requires live { is_live dir.now.objects number ≡ true }
     requires attr { attr.0 < length (attrs_of dir.now.schema) }
-    ensures { IfOk result (λ found. option_map readable_seen found ≡ readable_of dir.now.schema (seen_of dir.now token.now number) attr) }
+    ensures { IfOk result (λ found. option_map readable_seen found ≡ readable_of dir.now.schema
+        (seen_of dir.now token.now number) attr) }
 {
     let info = dir.schema().attr_info(attr);
     if !is_readable(dir, token, number, attr, info) {
@@ -122,7 +126,8 @@ pub(crate) fn values_named(
     name: &[u8],
 ) -> Result<Option<(Syntax, Vec<Value>)>, AllocError>
     requires { is_live dir.now.objects number ≡ true }
-    ensures { IfOk result (λ found. option_map readable_seen found ≡ reads dir.now.schema (seen_of dir.now token.now number) name.now) }
+    ensures { IfOk result (λ found. option_map readable_seen found
+        ≡ reads dir.now.schema (seen_of dir.now token.now number) name.now) }
 {
     match dir.schema().attr(name) {
         Some(attr) => values_at(alloc, dir, token, number, attr),
@@ -150,7 +155,8 @@ impl<'a> Readable for Sight<'a> {
 
     ghost named = { λ sight. attr_named sight.dir.now.schema };
 
-    ghost shown = { λ sight. readable_of sight.dir.now.schema (seen_of sight.dir.now sight.token.now sight.number) };
+    ghost shown = { λ sight. readable_of sight.dir.now.schema
+        (seen_of sight.dir.now sight.token.now sight.number) };
 
     fn attr(&self, name: &[u8]) -> Option<AttrId> {
         self.dir.schema().attr(name)

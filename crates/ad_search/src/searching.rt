@@ -1,6 +1,7 @@
 //! Searches.
 
-ghost use Rattle.std.specs.Prelude.{◌≡◌, ◌&&◌, ◌==◌, ◌∷◌, if◌then◌else◌, [], true, false, Some, is_some, IfOk, IfSome, OnOk};
+ghost use Rattle.std.specs.Prelude.{◌≡◌, ◌&&◌, ◌==◌, ◌∷◌, if◌then◌else◌, [], true, false, Some, is_some, IfOk};
+ghost use Rattle.std.specs.Prelude.{IfSome, OnOk};
 ghost use Rattle.std.specs.List.{AllByRecursion};
 ghost use Rattle.ad_dir_model.specs.Objects.{is_live, numbers};
 ghost use Rattle.ad_dir_model.specs.Tree.{root};
@@ -43,7 +44,9 @@ fn is_true_of(
     number: u32,
     search: &Search,
 ) -> Result<bool, AllocError>
-    ensures { IfOk result (λ is. is ≡ is_true (truth (reads dir.now.schema (seen_of dir.now token.now number)) (search_seen search.now).filter)) }
+    ensures { IfOk result (λ is. is
+        ≡ is_true (truth (reads dir.now.schema (seen_of dir.now token.now number))
+        (search_seen search.now).filter)) }
 {
     let sight = Sight { dir, token, number };
     match truth(alloc, &search.filter, &sight)? {
@@ -69,7 +72,8 @@ pub(crate) fn found_name(
     requires mode { list_mode ≡ list_object_mode dir.now }
     requires kept { IsKept dir.now token.now last.old }
     ensures found { IfOk result (λ name. is_some name
-        ≡ (is_visible dir.now token.now number && is_found dir.now.schema (search_seen search.now) base.now (seen_of dir.now token.now number))) }
+        ≡ (is_visible dir.now token.now number && is_found dir.now.schema (search_seen search.now)
+        base.now (seen_of dir.now token.now number))) }
     ensures name { IfOk result (λ name. IfSome name (λ dn. dn.rdns ≡ rdns_of dir.now number)) }
     ensures kept { IsKept dir.now token.now last.new }
 {
@@ -106,9 +110,11 @@ fn step(
     requires kept { IsKept dir.now token.now last.old }
     requires judged { AreJudged dir.now token.now (search_seen search.now) judged.old.items }
     ensures kept { IsKept dir.now token.now last.new }
-    ensures judged { OnOk result (AreJudged dir.now token.now (search_seen search.now) judged.new.items) }
+    ensures judged { OnOk result (AreJudged dir.now token.now (search_seen search.now)
+        judged.new.items) }
     ensures steps { IfOk result (λ code. Steps id search.now.size joined.old
-        (entries_among dir.now token.now id (search_seen search.now) flags base.now (number ∷ [])) joined.new code) }
+        (entries_among dir.now token.now id (search_seen search.now) flags base.now (number ∷ []))
+        joined.new code) }
 {
     let Some(name) = found_name(alloc, dir, token, list_mode, number, search, base, last)? else {
         return Ok(None);
@@ -130,7 +136,9 @@ fn entries(
 ) -> Result<Vec<u8>, AllocError>
     requires { AllByRecursion (λ number. is_live dir.now.objects number ≡ true) numbers.now }
     ensures { IfOk result (λ bytes. bytes.items
-        ≡ entries_from id search.now.size 0 0 false (entries_among dir.now token.now id (search_seen search.now) flags base.now numbers.now)) }
+        ≡ entries_from id search.now.size 0 0 false
+        (entries_among dir.now token.now id (search_seen search.now) flags base.now
+        numbers.now)) }
 {
     let list_mode = dir.list_mode();
     let mut last = no_parent(dir, token);
@@ -168,7 +176,8 @@ fn copied(alloc: Global, numbers: &[u32]) -> Result<Vec<u32>, AllocError>
 // The objects of a subtree, which are all where its base is the root.
 fn whole_asked(alloc: Global, dir: &Dir, base: u32) -> Result<Vec<u32>, AllocError>
     requires { is_live dir.now.objects base ≡ true }
-    ensures { IfOk result (λ asked. asked.items ≡ (if base == root then numbers dir.now.objects else subtree dir.now base)) }
+    ensures { IfOk result (λ asked. asked.items
+        ≡ (if base == root then numbers dir.now.objects else subtree dir.now base)) }
 {
     if base == ROOT {
         return dir.numbers(alloc);
@@ -176,8 +185,8 @@ fn whole_asked(alloc: Global, dir: &Dir, base: u32) -> Result<Vec<u32>, AllocErr
     subtree(alloc, dir, base)
 }
 
-/// The objects that may have an entry: where the base alone is asked for that one, where those right below it its children, and
-/// else those of its subtree.
+/// The objects that may have an entry: where the base alone is asked for that one, where those right below it its
+/// children, and else those of its subtree.
 #[tactic(auto, unfolding(crate::specs::Steps::objects_asked))]
 pub(crate) fn objects_asked(
     alloc: Global,
@@ -187,7 +196,8 @@ pub(crate) fn objects_asked(
 ) -> Result<Vec<u32>, AllocError>
     requires { is_live dir.now.objects base ≡ true }
     ensures asked { IfOk result (λ numbers. numbers.items ≡ objects_asked dir.now scope base) }
-    ensures live { IfOk result (λ numbers. AllByRecursion (λ number. is_live dir.now.objects number ≡ true) numbers.items) }
+    ensures live { IfOk result (λ numbers.
+        AllByRecursion (λ number. is_live dir.now.objects number ≡ true) numbers.items) }
 {
     if scope == 0 {
         let mut numbers = Vec::new(alloc);
@@ -210,7 +220,8 @@ fn answer_at(
     flags: u8,
     base: &Dn,
 ) -> Result<Vec<u8>, AllocError>
-    ensures { IfOk result (λ bytes. bytes.items ≡ answer_at dir.now.schema (view dir.now token.now) id (search_seen search.now) flags (Some base.now)) }
+    ensures { IfOk result (λ bytes. bytes.items ≡ answer_at dir.now.schema (view dir.now token.now)
+        id (search_seen search.now) flags (Some base.now)) }
 {
     dir.stands();
     match seen_named(alloc, dir, token, base)? {
@@ -248,7 +259,8 @@ fn answer_read(
     search: &Search,
     flags: u8,
 ) -> Result<Vec<u8>, AllocError>
-    ensures { IfOk result (λ bytes. bytes.items ≡ search_answer dir.now token.now id (search_seen search.now) flags) }
+    ensures { IfOk result (λ bytes. bytes.items ≡ search_answer dir.now token.now id
+        (search_seen search.now) flags) }
 {
     let base = match ad_dn::read(alloc, search.base.as_slice()) {
         Ok(dn) => dn,
@@ -258,14 +270,14 @@ fn answer_read(
     answer_at(alloc, dir, token, id, search, flags, &base)
 }
 
-/// The answer to a search: the messages of the entries by rising number of their objects, and the message at the end, joined
-/// (RFC 4511 4.5.2). `id` is the request's message number, and the four low bits of `flags` are the parts of a descriptor that
-/// are asked for: 1 the owner, 2 the group, 4 the discretionary list, 8 the system list. A scope above 1 is the base and all below
-/// it.
+/// The answer to a search: the messages of the entries by rising number of their objects, and the message at the end,
+/// joined (RFC 4511 4.5.2). `id` is the request's message number, and the four low bits of `flags` are the parts of a
+/// descriptor that are asked for: 1 the owner, 2 the group, 4 the discretionary list, 8 the system list. A scope
+/// above 1 is the base and all below it.
 ///
-/// The code at the end is 34 where the base can't be read, 32 where no object of its name is visible, 4 where the size limit ends
-/// the search, 11 where an entry would bring the joined entries above 16,777,216 bytes or a descriptor with a list above 65,535
-/// bytes was left out, and else 0.
+/// The code at the end is 34 where the base can't be read, 32 where no object of its name is visible, 4 where the
+/// size limit ends the search, 11 where an entry would bring the joined entries above 16,777,216 bytes or a
+/// descriptor with a list above 65,535 bytes was left out, and else 0.
 ///
 /// # Errors
 ///
@@ -279,9 +291,11 @@ pub fn answer(
     flags: u8,
 ) -> Result<Vec<u8>, AllocError>
     // The answer is that of the rules.
-    ensures answer { IfOk result (λ bytes. bytes.items ≡ search_answer dir.now token.now id (search_seen search.now) flags) }
+    ensures answer { IfOk result (λ bytes. bytes.items ≡ search_answer dir.now token.now id
+        (search_seen search.now) flags) }
     // It is the answer in every directory of this schema of which the token sees the same.
-    ensures two_worlds { IfOk result (λ bytes. (other : Directory) → other.schema ≡ dir.now.schema → view other token.now ≡ view dir.now token.now
+    ensures two_worlds { IfOk result (λ bytes. (other : Directory) → other.schema ≡ dir.now.schema
+        → view other token.now ≡ view dir.now token.now
         → bytes.items ≡ search_answer other token.now id (search_seen search.now) flags) }
 {
     answer_read(alloc, dir, token, id, search, flags)

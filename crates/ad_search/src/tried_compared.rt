@@ -26,7 +26,8 @@ fn number_compared(
     request: &Compare,
 ) -> Result<Option<u32>, AllocError>
     ensures found { IfOk result (λ found. found ≡ number_compared dir.now token.now request.now) }
-    ensures live { IfOk result (λ found. IfSome found (λ number. is_live dir.now.objects number ≡ true)) }
+    ensures live { IfOk result (λ found.
+        IfSome found (λ number. is_live dir.now.objects number ≡ true)) }
 {
     match read_name(alloc, request.dn.as_slice())? {
         Some(dn) => visible(alloc, dir, token, &dn),
@@ -57,8 +58,9 @@ fn compared_on(dir: &Dir, token: &Token, number: u32, attr: AttrId) -> Tried
     }
 }
 
-/// What a compare tried: the right to read its attribute, which is a success where the attribute may be read. It is nothing where
-/// the name can't be read, where no object of the name is visible, or where the attribute is unknown or nTSecurityDescriptor.
+/// What a compare tried: the right to read its attribute, which is a success where the attribute may be read. It is
+/// nothing where the name can't be read, where no object of the name is visible, or where the attribute is unknown or
+/// nTSecurityDescriptor.
 ///
 /// # Errors
 ///
@@ -70,7 +72,8 @@ pub fn compared(
     token: &Token,
     request: &Compare,
 ) -> Result<Vec<Tried>, AllocError>
-    ensures { IfOk result (λ tried. tried_values tried.items ≡ compared_of dir.now token.now request.now) }
+    ensures { IfOk result (λ tried. tried_values tried.items ≡ compared_of dir.now token.now
+        request.now) }
 {
     let mut tried = Vec::new(alloc);
     if is_descriptor(request.attr.as_slice()) {

@@ -1,6 +1,7 @@
 //! What a search tried.
 
-ghost use Rattle.std.specs.Prelude.{◌≡◌, ◌==◌, ◌+◌, ◌∷◌, ◌++◌, ◌<◌, [], not, true, Some, if◌then◌else◌, length, IfOk, OnOk};
+ghost use Rattle.std.specs.Prelude.{◌≡◌, ◌==◌, ◌+◌, ◌∷◌, ◌++◌, ◌<◌, [], not, true, Some, if◌then◌else◌, length, IfOk};
+ghost use Rattle.std.specs.Prelude.{OnOk};
 ghost use Rattle.std.specs.List.{AllByRecursion};
 ghost use Rattle.ad_schema.specs.Attributes.{attrs_of};
 ghost use Rattle.ad_ldap.specs.MessageValue.{search_seen};
@@ -10,7 +11,8 @@ ghost use Rattle.ad_dir_model.specs.Shown.{shown};
 ghost use Rattle.ad_tried.specs.Tried.{tried_value, tried_values};
 ghost use Rattle.ad_search.specs.Judged.{places_given, AreJudged};
 ghost use Rattle.ad_search.specs.Parents.{IsKept};
-ghost use Rattle.ad_search.specs.Reads.{read_on, part_reads, descriptor_reads, entry_reads, found_among, reads_at, reads_of};
+ghost use Rattle.ad_search.specs.Reads.{read_on, part_reads, descriptor_reads, entry_reads, found_among, reads_at};
+ghost use Rattle.ad_search.specs.Reads.{reads_of};
 ghost use Rattle.ad_search.specs.ReadSteps.{read_at, reads_at_each, Counts, reads_behind, ReadsOne};
 
 use crate::descriptor::{Descriptor, descriptor_given};
@@ -54,7 +56,8 @@ fn has_value(alloc: Global, dir: &Dir, number: u32, attr: AttrId) -> Result<bool
 }
 
 fn push_if(into: &mut Vec<Tried>, so: bool, tried: Tried) -> Result<(), AllocError>
-    ensures { OnOk result (tried_values into.new.items ≡ tried_values into.old.items ++ (if so then tried_value tried ∷ [] else [])) }
+    ensures { OnOk result (tried_values into.new.items ≡ tried_values into.old.items
+        ++ (if so then tried_value tried ∷ [] else [])) }
 {
     if so {
         into.push(tried)?;
@@ -72,7 +75,8 @@ fn push_read(
     into: &mut Vec<Tried>,
 ) -> Result<(), AllocError>
     requires { is_live dir.now.objects number ≡ true }
-    ensures { OnOk result (tried_values into.new.items ≡ tried_values into.old.items ++ read_at dir.now number place) }
+    ensures { OnOk result (tried_values into.new.items ≡ tried_values into.old.items
+        ++ read_at dir.now number place) }
 {
     if (place as usize) >= dir.schema().attrs().len() {
         return Ok(());
@@ -90,7 +94,8 @@ fn push_reads(
     into: &mut Vec<Tried>,
 ) -> Result<(), AllocError>
     requires { is_live dir.now.objects number ≡ true }
-    ensures { OnOk result (tried_values into.new.items ≡ tried_values into.old.items ++ reads_at_each dir.now number places.now) }
+    ensures { OnOk result (tried_values into.new.items ≡ tried_values into.old.items
+        ++ reads_at_each dir.now number places.now) }
 {
     'each: for place in places {
         push_read(alloc, dir, number, *place, into)?;
@@ -101,7 +106,8 @@ fn push_reads(
 // The rights for the parts of the descriptor that are asked for.
 #[tactic(auto, unfolding(crate::specs::Reads::part_reads))]
 fn push_parts(number: u32, flags: u8, into: &mut Vec<Tried>) -> Result<(), AllocError>
-    ensures { OnOk result (tried_values into.new.items ≡ tried_values into.old.items ++ part_reads number flags) }
+    ensures { OnOk result (tried_values into.new.items ≡ tried_values into.old.items
+        ++ part_reads number flags) }
 {
     let control = flags & 1 != 0 || (flags & 2 != 0 || flags & 4 != 0);
     let security = flags & 8 != 0;
@@ -130,7 +136,8 @@ fn push_descriptor(
 ) -> Result<(), AllocError>
     requires { is_live dir.now.objects number ≡ true }
     ensures { OnOk result (tried_values into.new.items
-        ≡ tried_values into.old.items ++ descriptor_reads dir.now token.now number (search_seen search.now) flags) }
+        ≡ tried_values into.old.items ++ descriptor_reads dir.now token.now number
+        (search_seen search.now) flags) }
 {
     match descriptor_given(alloc, dir, token, number, search, flags)? {
         Descriptor::Written(_) => push_parts(number, flags, into),
@@ -154,7 +161,8 @@ fn push_entry(
     requires live { is_live dir.now.objects number ≡ true }
     requires places { places.now ≡ places_given dir.now token.now number (search_seen search.now) }
     ensures { OnOk result (tried_values into.new.items
-        ≡ tried_values into.old.items ++ entry_reads dir.now token.now (search_seen search.now) flags number) }
+        ≡ tried_values into.old.items ++ entry_reads dir.now token.now (search_seen search.now)
+        flags number) }
 {
     push_reads(alloc, dir, number, places, into)?;
     push_descriptor(alloc, dir, token, number, search, flags, into)
@@ -205,7 +213,8 @@ fn push_judged(
     requires live { is_live dir.now.objects number ≡ true }
     requires judged { AreJudged dir.now token.now (search_seen search.now) judged.now }
     ensures { OnOk result (tried_values into.new.items
-        ≡ tried_values into.old.items ++ entry_reads dir.now token.now (search_seen search.now) flags number) }
+        ≡ tried_values into.old.items ++ entry_reads dir.now token.now (search_seen search.now)
+        flags number) }
 {
     match known_places(judged, dir, token, number, search) {
         Some(places) => push_entry(alloc, dir, token, number, search, flags, places, into),
@@ -246,8 +255,10 @@ fn read_one(
     requires kept { IsKept dir.now token.now last.old }
     requires judged { AreJudged dir.now token.now (search_seen search.now) judged.old.items }
     ensures kept { IsKept dir.now token.now last.new }
-    ensures judged { OnOk result (AreJudged dir.now token.now (search_seen search.now) judged.new.items) }
-    ensures one { IfOk result (λ goes. ReadsOne dir.now token.now id (search_seen search.now) flags base.now number
+    ensures judged { OnOk result (AreJudged dir.now token.now (search_seen search.now)
+        judged.new.items) }
+    ensures one { IfOk result (λ goes. ReadsOne dir.now token.now id (search_seen search.now) flags
+        base.now number
         count.old into.old.items count.new into.new.items goes) }
 {
     let Some(name) = found_name(alloc, dir, token, list_mode, number, search, base, last)? else {
@@ -282,8 +293,10 @@ fn reads_among(
     base: &Dn,
 ) -> Result<Vec<Tried>, AllocError>
     requires { AllByRecursion (λ number. is_live dir.now.objects number ≡ true) numbers.now }
-    ensures { IfOk result (λ tried. tried_values tried.items ≡ reads_behind dir.now token.now id (search_seen search.now) flags
-        (record { given = 0; joined = 0 }) (found_among dir.now token.now (search_seen search.now) base.now numbers.now)) }
+    ensures { IfOk result (λ tried. tried_values tried.items ≡ reads_behind dir.now token.now id
+        (search_seen search.now) flags
+        (record { given = 0; joined = 0 })
+        (found_among dir.now token.now (search_seen search.now) base.now numbers.now)) }
 {
     let list_mode = dir.list_mode();
     let mut last = no_parent(dir, token);
@@ -348,9 +361,10 @@ fn reads_at(
     }
 }
 
-/// What a search tried, entry by entry in the order of its answer: the right to read each attribute that the entry has, and where
-/// it has the descriptor the rights for the parts that were asked for. All of it was granted. `id` and `flags` are as in `answer`.
-/// It takes about as long as the answer: what a descriptor says of attributes is judged once for each kind of object.
+/// What a search tried, entry by entry in the order of its answer: the right to read each attribute that the entry
+/// has, and where it has the descriptor the rights for the parts that were asked for. All of it was granted. `id` and
+/// `flags` are as in `answer`. It takes about as long as the answer: what a descriptor says of attributes is judged
+/// once for each kind of object.
 ///
 /// # Errors
 ///
@@ -364,7 +378,8 @@ pub fn reads(
     search: &Search,
     flags: u8,
 ) -> Result<Vec<Tried>, AllocError>
-    ensures { IfOk result (λ tried. tried_values tried.items ≡ reads_of dir.now token.now id (search_seen search.now) flags) }
+    ensures { IfOk result (λ tried. tried_values tried.items ≡ reads_of dir.now token.now id
+        (search_seen search.now) flags) }
 {
     let base = match ad_dn::read(alloc, search.base.as_slice()) {
         Ok(dn) => dn,

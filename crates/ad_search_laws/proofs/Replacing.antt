@@ -1,5 +1,6 @@
 -- What is told to be writable is what the checks of a replacement grant.
-use Rattle.std.proofs.Common.{◌≡◌, ℕ, Bool, true, false, not, cond, ◌&&◌, ◌||◌, List, [], ◌∷◌, ◌++◌, Option, Some, None, refl, sym, ap, ◌∙◌}
+use Rattle.std.proofs.Common.{◌≡◌, ℕ, Bool, true, false, not, cond, ◌&&◌, ◌||◌, List, [], ◌∷◌, ◌++◌, Option, Some}
+use Rattle.std.proofs.Common.{None, refl, sym, ap, ◌∙◌}
 use Rattle.std.specs.Prelude.{codes, nat_eq, is_some, unwrap_or}
 use Rattle.std.specs.List.{flat_map}
 use Rattle.std.specs.Option.{option_map, option_map_or}
@@ -29,12 +30,16 @@ use Rattle.ad_dir_model.specs.Directory.{Directory}
 use Rattle.ad_access_dir.specs.Sight.{is_granted}
 use Rattle.ad_needs_rules.specs.declared.outcome.Verdict.{Verdict}
 use Rattle.ad_needs_rules.specs.declared.outcome.Verdict.TheVariants.{Granted}
-use Rattle.ad_needs_rules.specs.Checks.{Check, Refusal, code, hidden, missing, first_failing, by_checks, or_code, all_met}
+use Rattle.ad_needs_rules.specs.Checks.{Check, Refusal, code, hidden, missing, first_failing, by_checks, or_code}
+use Rattle.ad_needs_rules.specs.Checks.{all_met}
 use Rattle.ad_needs_rules.specs.Needs.{Alternative, needs, is_met}
 use Rattle.ad_needs_rules.specs.Requests.{is_name, number_named, or_hidden, is_password, has_place, class_at, attr_path}
 use Rattle.ad_needs_rules.specs.Validated.{validated_write}
 use Rattle.ad_needs_rules.proofs.FirstFailing.{head_holds, both_hold, head_passes, all_pass}
-use Rattle.ad_needs.specs.Modifying.{items_of, is_forced, is_changed, force_change, change, is_unwritable, descriptor_checks, ordinary_checks, item_checks, written_sd, descriptor_needs, password_needs, or_validated, ordinary_needs, needs_behind, modify_needs, modify_checks, modify_act}
+use Rattle.ad_needs.specs.Modifying.{items_of, is_forced, is_changed, force_change, change, is_unwritable}
+use Rattle.ad_needs.specs.Modifying.{descriptor_checks, ordinary_checks, item_checks, written_sd, descriptor_needs}
+use Rattle.ad_needs.specs.Modifying.{password_needs, or_validated, ordinary_needs, needs_behind, modify_needs}
+use Rattle.ad_needs.specs.Modifying.{modify_checks, modify_act}
 use Rattle.ad_needs.specs.Verdicts.{verdict_of}
 use Rattle.ad_search_laws.specs.Told.{replacement, IsSeenAs, IsOrdinary, IsTold, IsGrantedAny}
 
@@ -56,16 +61,19 @@ forced name value = ap is_forced (one_item name value)
 -- the checks by truth values
 checks_by : Bool → Bool → Bool → Bool → Bool → List Check
 checks_by known class_ naming unwritable formed =
-    or_code known 17 ∷ or_code (not class_) 69 ∷ or_code (not naming) 67 ∷ or_code (not unwritable) 53 ∷ or_code formed 53 ∷ []
+    or_code known 17 ∷ or_code (not class_) 69 ∷ or_code (not naming) 67 ∷ or_code (not unwritable) 53
+    ∷ or_code formed 53 ∷ []
 
-hold_from : (class_ naming unwritable : Bool) → (not class_ && (not naming && not unwritable)) ≡ true → first_failing (checks_by true class_ naming unwritable true) ≡ None
+hold_from : (class_ naming unwritable : Bool) → (not class_ && (not naming && not unwritable)) ≡ true
+    → first_failing (checks_by true class_ naming unwritable true) ≡ None
 unfolding checks_by first_failing
 hold_from true naming unwritable is = absurd (false≢true is)
 hold_from false true unwritable is = absurd (false≢true is)
 hold_from false false true is = absurd (false≢true is)
 hold_from false false false is = refl
 
-hold_to : (class_ naming unwritable : Bool) → first_failing (checks_by true class_ naming unwritable true) ≡ None → (not class_ && (not naming && not unwritable)) ≡ true
+hold_to : (class_ naming unwritable : Bool) → first_failing (checks_by true class_ naming unwritable true) ≡ None
+    → (not class_ && (not naming && not unwritable)) ≡ true
 unfolding checks_by first_failing
 hold_to true naming unwritable is = absurd (none-some _ (sym is))
 hold_to false true unwritable is = absurd (none-some _ (sym is))
@@ -73,7 +81,8 @@ hold_to false false true is = absurd (none-some _ (sym is))
 hold_to false false false is = refl
 
 -- the two rules are one, of a name that isn't the descriptor's
-one_rule : (class_ dn name naming sid back : Bool) → (((not (((class_ || dn) || name) || false) && not naming) && not sid) && not back)
+one_rule : (class_ dn name naming sid back : Bool)
+    → (((not (((class_ || dn) || name) || false) && not naming) && not sid) && not back)
     ≡ (not class_ && (not naming && not (dn || (name || (sid || back)))))
 one_rule true dn name naming sid back = refl
 one_rule false true name true sid back = refl
@@ -90,14 +99,16 @@ or_forced true changed = refl
 or_forced false changed = refl
 
 -- the place of a rule's attribute, in two spellings
-same_place : (found : Option AttrId) (place : ℕ) → option_map_or (λ (n : ℕ). nat_eq n place) (option_map (λ (id : AttrId). id.0) found) false
+same_place : (found : Option AttrId) (place : ℕ) → option_map_or (λ (n : ℕ). nat_eq n place)
+    (option_map (λ (id : AttrId). id.0) found) false
     ≡ option_map_or (λ (id : AttrId). nat_eq id.0 place) found false
 same_place None place = refl
 same_place (Some id) place = refl
 
 -- ---- an object and an attribute
 
-module _ (dir : Directory) (token : Token) (number place : ℕ) (dn : List ℕ) (info : AttrInfo) (seen : IsSeenAs dir token number dn) (attr : IsOrdinary dir place info)
+module _ (dir : Directory) (token : Token) (number place : ℕ) (dn : List ℕ) (info : AttrInfo)
+    (seen : IsSeenAs dir token number dn) (attr : IsOrdinary dir place info)
     (value : List ℕ) where
   items : List Item
   items = only info.name value ∷ []
@@ -108,9 +119,11 @@ module _ (dir : Directory) (token : Token) (number place : ℕ) (dn : List ℕ) 
   at_place : (test : ℕ → Bool) → has_place dir.schema test info.name ≡ test place
   at_place test = ap (λ (found : Option ℕ). option_map_or test found false) attr.named
 
-  sid_place : has_place dir.schema (λ (a : ℕ). option_map_or (λ (sid : ℕ). nat_eq sid a) (object_sid dir.schema) false) info.name ≡ is_object_sid dir.schema place
+  sid_place : has_place dir.schema (λ (a : ℕ). option_map_or (λ (sid : ℕ). nat_eq sid a) (object_sid dir.schema)
+      false) info.name ≡ is_object_sid dir.schema place
   unfolding rule_place
-  sid_place = at_place (λ (a : ℕ). option_map_or (λ (sid : ℕ). nat_eq sid a) (object_sid dir.schema) false) ∙ same_place (attr_of_rule dir.schema rule.ObjectSid) place
+  sid_place = at_place (λ (a : ℕ). option_map_or (λ (sid : ℕ). nat_eq sid a) (object_sid dir.schema) false)
+      ∙ same_place (attr_of_rule dir.schema rule.ObjectSid) place
 
   unwritable : Bool
   unwritable = same_name info.name (codes "distinguishedName") || (same_name info.name (codes "name")
@@ -118,36 +131,57 @@ module _ (dir : Directory) (token : Token) (number place : ℕ) (dn : List ℕ) 
 
   -- what the list asks is what the checks ask
   replaceable : is_replaceable dir.schema class_here place info
-      ≡ (not (same_name info.name (codes "objectClass")) && (not (nat_eq (naming_of dir.schema class_here) place) && not unwritable))
+      ≡ (not (same_name info.name (codes "objectClass"))
+      && (not (nat_eq (naming_of dir.schema class_here) place) && not unwritable))
   unfolding is_replaceable is_computed unwritable
   replaceable =
-      ap (λ (b : Bool). ((not (((same_name info.name (codes "objectClass") || same_name info.name (codes "distinguishedName")) || same_name info.name (codes "name")) || b)
-      && not (nat_eq (naming_of dir.schema class_here) place)) && not (is_object_sid dir.schema place)) && not (attr_is_back_link dir.schema place)) attr.ordinary
-      ∙ one_rule (same_name info.name (codes "objectClass")) (same_name info.name (codes "distinguishedName")) (same_name info.name (codes "name"))
-      (nat_eq (naming_of dir.schema class_here) place) (is_object_sid dir.schema place) (attr_is_back_link dir.schema place)
+      ap (λ (b : Bool). ((not (((same_name info.name (codes "objectClass")
+      || same_name info.name (codes "distinguishedName")) || same_name info.name (codes "name")) || b)
+      && not (nat_eq (naming_of dir.schema class_here) place)) && not (is_object_sid dir.schema place))
+      && not (attr_is_back_link dir.schema place)) attr.ordinary
+      ∙ one_rule (same_name info.name (codes "objectClass")) (same_name info.name (codes "distinguishedName"))
+      (same_name info.name (codes "name"))
+      (nat_eq (naming_of dir.schema class_here) place) (is_object_sid dir.schema place)
+      (attr_is_back_link dir.schema place)
 
   own_checks : List Check
-  own_checks = checks_by true (same_name info.name (codes "objectClass")) (nat_eq (naming_of dir.schema class_here) place) unwritable true
+  own_checks = checks_by true (same_name info.name (codes "objectClass"))
+      (nat_eq (naming_of dir.schema class_here) place) unwritable true
 
   -- the checks of the one item, by truth values
   checks_are : (flags : ℕ) → item_checks dir number flags items (only info.name value) ≡ own_checks
   unfolding own_checks only checks_by items unwritable class_here
   checks_are flags =
-      ap (λ (b : Bool). cond b (descriptor_checks flags items (only info.name value)) (ordinary_checks dir number items (only info.name value))) attr.ordinary
-      ∙ ap (λ (b : Bool). checks_by b (same_name info.name (codes "objectClass")) (has_place dir.schema (λ (a : ℕ). nat_eq (naming_of dir.schema class_here) a) info.name)
-      (is_unwritable dir.schema info.name) (not (is_password info.name) || (is_forced (items_of items info.name) || is_changed (items_of items info.name)))) (ap is_some attr.named)
+      ap (λ (b : Bool). cond b (descriptor_checks flags items (only info.name value))
+      (ordinary_checks dir number items (only info.name value))) attr.ordinary
+      ∙ ap (λ (b : Bool). checks_by b (same_name info.name (codes "objectClass"))
+      (has_place dir.schema (λ (a : ℕ). nat_eq (naming_of dir.schema class_here) a) info.name)
+      (is_unwritable dir.schema info.name)
+      (not (is_password info.name) || (is_forced (items_of items info.name)
+      || is_changed (items_of items info.name)))) (ap is_some attr.named)
       ∙ ap (λ (b : Bool). checks_by true (same_name info.name (codes "objectClass")) b
-      (is_unwritable dir.schema info.name) (not (is_password info.name) || (is_forced (items_of items info.name) || is_changed (items_of items info.name))))
+      (is_unwritable dir.schema info.name)
+      (not (is_password info.name) || (is_forced (items_of items info.name)
+      || is_changed (items_of items info.name))))
       (at_place (λ (a : ℕ). nat_eq (naming_of dir.schema class_here) a))
-      ∙ ap (λ (b : Bool). checks_by true (same_name info.name (codes "objectClass")) (nat_eq (naming_of dir.schema class_here) place)
-      (same_name info.name (codes "distinguishedName") || (same_name info.name (codes "name") || (b || has_place dir.schema (attr_is_back_link dir.schema) info.name)))
-      (not (is_password info.name) || (is_forced (items_of items info.name) || is_changed (items_of items info.name)))) sid_place
-      ∙ ap (λ (b : Bool). checks_by true (same_name info.name (codes "objectClass")) (nat_eq (naming_of dir.schema class_here) place)
-      (same_name info.name (codes "distinguishedName") || (same_name info.name (codes "name") || (is_object_sid dir.schema place || b)))
-      (not (is_password info.name) || (is_forced (items_of items info.name) || is_changed (items_of items info.name)))) (at_place (attr_is_back_link dir.schema))
-      ∙ ap (λ (b : Bool). checks_by true (same_name info.name (codes "objectClass")) (nat_eq (naming_of dir.schema class_here) place) unwritable
+      ∙ ap (λ (b : Bool). checks_by true (same_name info.name (codes "objectClass"))
+      (nat_eq (naming_of dir.schema class_here) place)
+      (same_name info.name (codes "distinguishedName")
+      || (same_name info.name (codes "name")
+      || (b || has_place dir.schema (attr_is_back_link dir.schema) info.name)))
+      (not (is_password info.name) || (is_forced (items_of items info.name)
+      || is_changed (items_of items info.name)))) sid_place
+      ∙ ap (λ (b : Bool). checks_by true (same_name info.name (codes "objectClass"))
+      (nat_eq (naming_of dir.schema class_here) place)
+      (same_name info.name (codes "distinguishedName")
+      || (same_name info.name (codes "name") || (is_object_sid dir.schema place || b)))
+      (not (is_password info.name) || (is_forced (items_of items info.name)
+      || is_changed (items_of items info.name)))) (at_place (attr_is_back_link dir.schema))
+      ∙ ap (λ (b : Bool). checks_by true (same_name info.name (codes "objectClass"))
+      (nat_eq (naming_of dir.schema class_here) place) unwritable
       (not (is_password info.name) || (b || is_changed (items_of items info.name)))) (forced info.name value)
-      ∙ ap (checks_by true (same_name info.name (codes "objectClass")) (nat_eq (naming_of dir.schema class_here) place) unwritable)
+      ∙ ap (checks_by true (same_name info.name (codes "objectClass"))
+      (nat_eq (naming_of dir.schema class_here) place) unwritable)
       (or_forced (is_password info.name) (is_changed (items_of items info.name)))
 
   -- ---- the requirements
@@ -159,28 +193,39 @@ module _ (dir : Directory) (token : Token) (number place : ℕ) (dn : List ℕ) 
 
   writer : may_write dir token number place ≡ true → is_writer dir token number place info ≡ true
   unfolding may_write
-  writer may = ap (λ (found : Option AttrInfo). option_map_or (is_writer dir token number place) found false) (sym attr.info_is) ∙ may
+  writer may = ap (λ (found : Option AttrInfo). option_map_or (is_writer dir token number place) found false)
+      (sym attr.info_is) ∙ may
 
-  all_required : (flags : ℕ) → may_write dir token number place ≡ true → first_failing (all_met dir token (modify_needs dir token number flags items)) ≡ None
+  all_required : (flags : ℕ) → may_write dir token number place ≡ true
+      → first_failing (all_met dir token (modify_needs dir token number flags items)) ≡ None
   unfolding needs_behind items only class_here object_at
   all_required flags may =
-      ap (λ (b : Bool). first_failing (all_met dir token (cond b (descriptor_needs number (written_sd items flags)) (by_name (is_password info.name)) ++ []))) attr.ordinary
+      ap (λ (b : Bool). first_failing (all_met dir token
+      (cond b (descriptor_needs number (written_sd items flags)) (by_name (is_password info.name)) ++ [])))
+      attr.ordinary
       ∙ by_password (is_password info.name) refl
     where
       by_name : Bool → List (List Alternative)
-      by_name b = cond b (password_needs number (items_of items info.name)) (ordinary_needs dir token number (items_of items info.name) (attr_place dir.schema info.name))
+      by_name b = cond b (password_needs number (items_of items info.name))
+          (ordinary_needs dir token number (items_of items info.name) (attr_place dir.schema info.name))
 
       by_password : (b : Bool) → is_password info.name ≡ b → first_failing (all_met dir token (by_name b ++ [])) ≡ None
       by_password true is =
-          ap (λ (b : Bool). first_failing (all_met dir token (((needs number control_access (cond b force_change change ∷ []) ∷ []) ∷ []) ++ []))) (forced info.name value)
+          ap (λ (b : Bool). first_failing
+          (all_met dir token (((needs number control_access (cond b force_change change ∷ []) ∷ []) ∷ []) ++ [])))
+          (forced info.name value)
           ∙ met control_access (force_change ∷ []) []
           (ap (λ (b : Bool). cond b (is_granted dir token number (force_change ∷ []) control_access)
-          (is_granted dir token number (path_of dir.schema (record { 0 = class_here }) (record { 0 = place })) write_property)) (sym is) ∙ writer may)
+          (is_granted dir token number (path_of dir.schema (record { 0 = class_here }) (record { 0 = place }))
+          write_property)) (sym is) ∙ writer may)
       by_password false is =
-          ap (λ (found : Option ℕ). first_failing (all_met dir token (ordinary_needs dir token number (items_of items info.name) found ++ []))) attr.named
-          ∙ met write_property (attr_path dir.schema (class_at dir number) place) (or_validated number (validated_write dir token number place (items_of items info.name)))
+          ap (λ (found : Option ℕ). first_failing
+          (all_met dir token (ordinary_needs dir token number (items_of items info.name) found ++ []))) attr.named
+          ∙ met write_property (attr_path dir.schema (class_at dir number) place)
+          (or_validated number (validated_write dir token number place (items_of items info.name)))
           (ap (λ (b : Bool). cond b (is_granted dir token number (force_change ∷ []) control_access)
-          (is_granted dir token number (path_of dir.schema (record { 0 = class_here }) (record { 0 = place })) write_property)) (sym is) ∙ writer may)
+          (is_granted dir token number (path_of dir.schema (record { 0 = class_here }) (record { 0 = place }))
+          write_property)) (sym is) ∙ writer may)
 
   -- ---- all checks
 
@@ -191,34 +236,47 @@ module _ (dir : Directory) (token : Token) (number place : ℕ) (dn : List ℕ) 
   number_is = ap (λ (found : Option ℕ). unwrap_or found 0) seen.named
 
   behind_name : ℕ → ℕ → List Check
-  behind_name flags n = flat_map (item_checks dir n flags items) items ++ all_met dir token (modify_needs dir token n flags items)
+  behind_name flags n = flat_map (item_checks dir n flags items) items
+      ++ all_met dir token (modify_needs dir token n flags items)
 
-  checks_begin : (flags : ℕ) → modify_checks dir token request flags ≡ or_code (is_name dn) 34 ∷ or_hidden dir token dn ∷ behind_name flags (number_named dir token dn)
+  checks_begin : (flags : ℕ) → modify_checks dir token request flags ≡ or_code (is_name dn) 34
+      ∷ or_hidden dir token dn ∷ behind_name flags (number_named dir token dn)
   unfolding modify_checks request items only behind_name
   checks_begin flags = refl
 
-  all_granted : (flags : ℕ) → is_replaceable dir.schema class_here place info ≡ true → may_write dir token number place ≡ true → first_failing (modify_checks dir token request flags) ≡ None
+  all_granted : (flags : ℕ) → is_replaceable dir.schema class_here place info ≡ true → may_write dir token number
+      place ≡ true → first_failing (modify_checks dir token request flags) ≡ None
   unfolding behind_name items own_checks first_failing
   all_granted flags may_replace may =
       let own : first_failing (item_checks dir number flags items (only info.name value)) ≡ None
-      = ap first_failing (checks_are flags) ∙ hold_from (same_name info.name (codes "objectClass")) (nat_eq (naming_of dir.schema class_here) place) unwritable (sym replaceable ∙ may_replace) in
+      = ap first_failing (checks_are flags) ∙ hold_from (same_name info.name (codes "objectClass"))
+      (nat_eq (naming_of dir.schema class_here) place) unwritable (sym replaceable ∙ may_replace) in
       ap first_failing (checks_begin flags)
-      ∙ head_passes (or_code (is_name dn) 34) (or_hidden dir token dn ∷ behind_name flags (number_named dir token dn)) seen.reads
+      ∙ head_passes (or_code (is_name dn) 34) (or_hidden dir token dn ∷ behind_name flags (number_named dir token dn))
+      seen.reads
       ∙ head_passes (or_hidden dir token dn) (behind_name flags (number_named dir token dn)) (ap is_some seen.named)
       ∙ ap (λ (n : ℕ). first_failing (behind_name flags n)) number_is
-      ∙ all_pass (item_checks dir number flags items (only info.name value) ++ []) (all_met dir token (modify_needs dir token number flags items))
+      ∙ all_pass (item_checks dir number flags items (only info.name value) ++ [])
+      (all_met dir token (modify_needs dir token number flags items))
       (all_pass (item_checks dir number flags items (only info.name value)) [] own)
       ∙ all_required flags may
 
-  was_replaceable : (flags : ℕ) → first_failing (modify_checks dir token request flags) ≡ None → is_replaceable dir.schema class_here place info ≡ true
+  was_replaceable : (flags : ℕ) → first_failing (modify_checks dir token request flags) ≡ None
+      → is_replaceable dir.schema class_here place info ≡ true
   unfolding behind_name items own_checks first_failing only
   was_replaceable flags none =
-      let first = head_holds (or_code (is_name dn) 34) (or_hidden dir token dn ∷ behind_name flags (number_named dir token dn)) (sym (ap first_failing (checks_begin flags)) ∙ none) in
+      let first = head_holds (or_code (is_name dn) 34)
+      (or_hidden dir token dn ∷ behind_name flags (number_named dir token dn))
+      (sym (ap first_failing (checks_begin flags)) ∙ none) in
       let second = head_holds (or_hidden dir token dn) (behind_name flags (number_named dir token dn)) first.1 in
-      let further : first_failing (behind_name flags number) ≡ None = sym (ap (λ (n : ℕ). first_failing (behind_name flags n)) number_is) ∙ second.1 in
-      let of_items = (both_hold (item_checks dir number flags items (only info.name value) ++ []) (all_met dir token (modify_needs dir token number flags items)) further).0 in
+      let further : first_failing (behind_name flags number) ≡ None
+      = sym (ap (λ (n : ℕ). first_failing (behind_name flags n)) number_is) ∙ second.1 in
+      let of_items = (both_hold (item_checks dir number flags items (only info.name value) ++ [])
+      (all_met dir token (modify_needs dir token number flags items)) further).0 in
       let own = (both_hold (item_checks dir number flags items (only info.name value)) [] of_items).0 in
-      replaceable ∙ hold_to (same_name info.name (codes "objectClass")) (nat_eq (naming_of dir.schema class_here) place) unwritable (sym (ap first_failing (checks_are flags)) ∙ own)
+      replaceable ∙ hold_to (same_name info.name (codes "objectClass"))
+      (nat_eq (naming_of dir.schema class_here) place) unwritable
+      (sym (ap first_failing (checks_are flags)) ∙ own)
 
 -- ---- verdicts
 
@@ -233,23 +291,33 @@ none_failed (Some (code n)) asked act is = absurd (false≢true (ap is_granted_o
 none_failed (Some (hidden rdns)) asked act is = absurd (false≢true (ap is_granted_one is))
 none_failed (Some (missing need)) asked act is = absurd (false≢true (ap is_granted_one is))
 
-pub told_granted : (dir : Directory) (token : Token) (number place : ℕ) (dn : List ℕ) (info : AttrInfo) → IsSeenAs dir token number dn → IsOrdinary dir place info
+pub told_granted : (dir : Directory) (token : Token) (number place : ℕ) (dn : List ℕ) (info : AttrInfo)
+    → IsSeenAs dir token number dn → IsOrdinary dir place info
     → IsTold dir token number place info → IsGrantedAny dir token dn info.name
 unfolding verdict_of class_here request
 told_granted dir token number place dn info seen attr told = λ value settings.
     let class : ℕ = (object_at dir.objects number).class in
-    let parts = and_parts (is_allowed dir.schema class place && is_replaceable dir.schema class place info) (may_write dir token number place) told in
-    let may_replace = (and_parts (is_allowed dir.schema class place) (is_replaceable dir.schema class place info) parts.0).1 in
-    ap (λ (found : Option Refusal). by_checks found (modify_act dir token (replacement dn info.name value) settings.sd_flags))
+    let parts = and_parts (is_allowed dir.schema class place && is_replaceable dir.schema class place info)
+    (may_write dir token number place) told in
+    let may_replace = (and_parts (is_allowed dir.schema class place) (is_replaceable dir.schema class place info)
+    parts.0).1 in
+    ap (λ (found : Option Refusal). by_checks found
+    (modify_act dir token (replacement dn info.name value) settings.sd_flags))
     (all_granted dir token number place dn info seen attr value settings.sd_flags may_replace parts.1)
 
-pub granted_told : (dir : Directory) (token : Token) (number place : ℕ) (dn value : List ℕ) (info : AttrInfo) (settings : Settings) (act : Act)
-    → IsSeenAs dir token number dn → IsOrdinary dir place info → verdict_of dir token (ModifyOf (replacement dn info.name value)) settings ≡ Granted act
-    → is_allowed dir.schema (object_at dir.objects number).class place ≡ true → may_write dir token number place ≡ true → IsTold dir token number place info
+pub granted_told : (dir : Directory) (token : Token) (number place : ℕ) (dn value : List ℕ) (info : AttrInfo)
+    (settings : Settings) (act : Act)
+    → IsSeenAs dir token number dn → IsOrdinary dir place info
+    → verdict_of dir token (ModifyOf (replacement dn info.name value)) settings ≡ Granted act
+    → is_allowed dir.schema (object_at dir.objects number).class place ≡ true → may_write dir token number place
+    ≡ true → IsTold dir token number place info
 unfolding verdict_of class_here request
 granted_told dir token number place dn value info settings act seen attr granted allowed may =
     let class : ℕ = (object_at dir.objects number).class in
-    let none = none_failed (first_failing (modify_checks dir token (replacement dn info.name value) settings.sd_flags)) (modify_act dir token (replacement dn info.name value) settings.sd_flags) act granted in
-    and_from (is_allowed dir.schema class place && is_replaceable dir.schema class place info) (may_write dir token number place)
+    let none = none_failed (first_failing
+    (modify_checks dir token (replacement dn info.name value) settings.sd_flags))
+    (modify_act dir token (replacement dn info.name value) settings.sd_flags) act granted in
+    and_from (is_allowed dir.schema class place && is_replaceable dir.schema class place info)
+    (may_write dir token number place)
     (and_from (is_allowed dir.schema class place) (is_replaceable dir.schema class place info) allowed
     (was_replaceable dir token number place dn info seen attr value settings.sd_flags none)) may

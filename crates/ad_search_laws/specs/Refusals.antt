@@ -17,7 +17,8 @@ pub record HasUnseenSuperior (dir : Directory) (token : Token) (r : Rename) : Ty
   pub named : r.superior ≡ Some superior
   pub unseen : IsUnseen dir token superior
 
--- The request is about an object that isn't seen: its target, the parent of an addition, or the new superior of a move.
+-- The request is about an object that isn't seen: its target, the parent of an addition, or the new superior of a
+-- move.
 abbrev pub IsAboutUnseen : Directory → Token → OpValue → Type 0
 IsAboutUnseen dir token (ModifyOf m) = IsUnseen dir token m.dn
 IsAboutUnseen dir token (DeleteOf dn) = IsUnseen dir token dn

@@ -25,7 +25,8 @@ pub record IsSeenAs (dir : Directory) (token : Token) (number : ℕ) (dn : List 
   pub reads : is_name dn ≡ true
   pub named : object_named dir token dn ≡ Some number
 
--- An ordinary attribute of the schema, by its place and as its name finds it. The descriptor is none, whether the schema names it or not.
+-- An ordinary attribute of the schema, by its place and as its name finds it. The descriptor is none, whether the
+-- schema names it or not.
 pub record IsOrdinary (dir : Directory) (place : ℕ) (info : AttrInfo) : Type 0 where
   pub info_is : slice_get (attrs_of dir.schema) place ≡ Some info
   pub named : attr_place dir.schema info.name ≡ Some place
@@ -33,9 +34,11 @@ pub record IsOrdinary (dir : Directory) (place : ℕ) (info : AttrInfo) : Type 0
 
 -- its name is among those that are told to be writable
 abbrev pub IsTold : Directory → Token → ℕ → ℕ → AttrInfo → Type 0
-IsTold dir token number place info = is_listed dir.schema (object_at dir.objects number).class (rights_at dir token number) place info ≡ true
+IsTold dir token number place info = is_listed dir.schema (object_at dir.objects number).class
+    (rights_at dir token number) place info ≡ true
 
 -- whatever the value, the checks up to what is required grant its replacement by it
 abbrev pub IsGrantedAny : Directory → Token → List ℕ → List ℕ → Type 0
 IsGrantedAny dir token dn name = (value : List ℕ) (settings : Settings)
-    → verdict_of dir token (ModifyOf (replacement dn name value)) settings ≡ Granted (modify_act dir token (replacement dn name value) settings.sd_flags)
+    → verdict_of dir token (ModifyOf (replacement dn name value)) settings
+    ≡ Granted (modify_act dir token (replacement dn name value) settings.sd_flags)

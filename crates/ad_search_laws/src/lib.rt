@@ -1,10 +1,10 @@
-//! What a token can't tell apart: two directories that differ in what it doesn't see are one view to it, and so it gets the
-//! same answers from both. Laws alone, no code.
+//! What a token can't tell apart: two directories that differ in what it doesn't see are one view to it, and so it
+//! gets the same answers from both. Laws alone, no code.
 //!
-//! A search and a compare answer from the view (`ad_search`): that is a law of its own. The laws here say when the view of
-//! two directories is one: an object that isn't seen may be there or not; a value that may not be read may be any; and a
-//! descriptor may represent another one that grants the token the same. And what is told of the rights to change an object is
-//! what a request to change it is granted.
+//! A search and a compare answer from the view (`ad_search`): that is a law of its own. The laws here say when the
+//! view of two directories is one: an object that isn't seen may be there or not; a value that may not be read may be
+//! any; and a descriptor may represent another one that grants the token the same. And what is told of the rights to
+//! change an object is what a request to change it is granted.
 //!
 //! # Example
 //!

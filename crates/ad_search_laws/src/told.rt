@@ -16,16 +16,20 @@ ghost use Rattle.ad_search_laws.specs.Told.{replacement, IsSeenAs, IsOrdinary, I
 
 /// An attribute that is told to be writable: the request that replaces it by a value, whichever, is granted.
 pub fn what_is_told_to_be_writable_is_granted()
-    ensures { (dir : Directory) (token : Token) (number place : ℕ) (dn : List ℕ) (info : AttrInfo) → IsSeenAs dir token number dn
-        → IsOrdinary dir place info → IsTold dir token number place info → IsGrantedAny dir token dn info.name }
+    ensures { (dir : Directory) (token : Token) (number place : ℕ) (dn : List ℕ) (info : AttrInfo)
+        → IsSeenAs dir token number dn
+        → IsOrdinary dir place info → IsTold dir token number place info → IsGrantedAny dir token dn
+        info.name }
 {}
 
-/// And the other way: an attribute that the class may have, and of which such a request is granted by the right to write it (not
-/// by a validated write, which asks for the value), is told to be writable.
+/// And the other way: an attribute that the class may have, and of which such a request is granted by the right to
+/// write it (not by a validated write, which asks for the value), is told to be writable.
 pub fn what_is_granted_is_told_to_be_writable()
-    ensures { (dir : Directory) (token : Token) (number place : ℕ) (dn value : List ℕ) (info : AttrInfo) (settings : Settings) (act : Act)
+    ensures { (dir : Directory) (token : Token) (number place : ℕ) (dn value : List ℕ)
+        (info : AttrInfo) (settings : Settings) (act : Act)
         → IsSeenAs dir token number dn → IsOrdinary dir place info
         → verdict_of dir token (ModifyOf (replacement dn info.name value)) settings ≡ Granted act
-        → is_allowed dir.schema (object_at dir.objects number).class place ≡ true → may_write dir token number place ≡ true
+        → is_allowed dir.schema (object_at dir.objects number).class place ≡ true
+        → may_write dir token number place ≡ true
         → IsTold dir token number place info }
 {}

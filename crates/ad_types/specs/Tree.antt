@@ -20,12 +20,13 @@ are_below place (node ∷ others) = is_above node.above place && are_below (plac
 abbrev pub is_tree : List Node → Bool
 is_tree nodes = not (length nodes == 0) && are_below 0 nodes
 
--- The GUIDs from the root down to the node at a place, with no more than so many nodes on the way. Nothing leads to no
--- place.
+-- The GUIDs from the root down to the node at a place, with no more than so many nodes on the way. Nothing leads to
+-- no place.
 unfoldable pub path_down : ℕ → List Node → Option ℕ → List Guid
 path_down zero nodes place = []
 path_down (suc levels) nodes None = []
-path_down (suc levels) nodes (Some place) = option_map_or (λ (node : Node). path_down levels nodes node.above ++ node.guid ∷ []) (slice_get nodes place) []
+path_down (suc levels) nodes (Some place)
+    = option_map_or (λ (node : Node). path_down levels nodes node.above ++ node.guid ∷ []) (slice_get nodes place) []
 
 -- the GUIDs from the root down to the node at a place
 abbrev pub path_at : List Node → ℕ → List Guid
@@ -39,7 +40,8 @@ names (Some above) place = above == place
 -- the places from this one on of the nodes that stand directly below a place
 unfoldable pub children_from : ℕ → List Node → ℕ → List ℕ
 children_from at [] place = []
-children_from at (node ∷ others) place = if names node.above place then at ∷ children_from (at + 1) others place else children_from (at + 1) others place
+children_from at (node ∷ others) place = if names node.above place then at ∷ children_from (at + 1) others place
+    else children_from (at + 1) others place
 
 -- the places of the node's children, in order
 abbrev pub children : List Node → ℕ → List ℕ
@@ -60,5 +62,7 @@ path_above nodes (Some above) = path_at nodes above
 -- later nodes that name it; and it is a leaf where no node does.
 pub record IsPlaced (nodes : List Node) (place : ℕ) (node : Node) : Type 0 where
   pub path : path_at nodes place ≡ path_above nodes node.above ++ node.guid ∷ []
-  pub child : (at : ℕ) (other : Node) → slice_get nodes at ≡ Some other → list_any (λ x. x == at) (children nodes place) ≡ names other.above place
-  pub leaf : ((at : ℕ) (other : Node) → slice_get nodes at ≡ Some other → names other.above place ≡ false) → is_leaf nodes place ≡ true
+  pub child : (at : ℕ) (other : Node) → slice_get nodes at ≡ Some other → list_any (λ x. x == at)
+      (children nodes place) ≡ names other.above place
+  pub leaf : ((at : ℕ) (other : Node) → slice_get nodes at ≡ Some other → names other.above place ≡ false)
+      → is_leaf nodes place ≡ true

@@ -1,5 +1,6 @@
 -- The path of an attribute, and the tree of attributes, in a schema.
-use Rattle.std.specs.Prelude.{◌≡◌, ℕ, suc, ◌+◌, ◌<◌, true, length, List, [], ◌∷◌, ◌++◌, Option, None, Some, map, filter_map, position, slice_get, if◌then◌else◌}
+use Rattle.std.specs.Prelude.{◌≡◌, ℕ, suc, ◌+◌, ◌<◌, true, length, List, [], ◌∷◌, ◌++◌, Option, None, Some, map}
+use Rattle.std.specs.Prelude.{filter_map, position, slice_get, if◌then◌else◌}
 use Rattle.std.specs.List.{list_any}
 use Rattle.std.specs.Option.{option_map_or, option_and_then, option_to_list}
 use Rattle.ad_ids.specs.declared.guid.Guid.{Guid}
@@ -22,7 +23,8 @@ attr_path class info = class ∷ option_to_list info.set ++ info.guid ∷ []
 -- what the class and the attribute of these ids give
 abbrev pub path_of : List SchemaRecord → ClassId → AttrId → List Guid
 path_of records class attr =
-    option_map_or (λ c. option_map_or (λ info. attr_path c.guid info) (slice_get (attrs_of records) attr.0) []) (slice_get (classes_of records) class.0) []
+    option_map_or (λ c. option_map_or (λ info. attr_path c.guid info) (slice_get (attrs_of records) attr.0) [])
+    (slice_get (classes_of records) class.0) []
 
 -- ---- trees
 
@@ -49,7 +51,8 @@ abbrev pub set_node : Guid → Node
 set_node set = record { guid = set; above = Some 0 }
 
 unfoldable pub above_attr : List Guid → Option Guid → ℕ
-above_attr sets set = option_map_or (λ place. suc place) (option_and_then (λ own. position (λ other. same_guid other own) sets) set) 0
+above_attr sets set = option_map_or (λ place. suc place)
+    (option_and_then (λ own. position (λ other. same_guid other own) sets) set) 0
 
 abbrev pub attr_node : List Guid → AttrInfo → Node
 attr_node sets info = record { guid = info.guid; above = Some (above_attr sets info.set) }
@@ -60,7 +63,8 @@ nodes_of class sets infos = (class_node class ∷ map set_node sets) ++ map (att
 -- The tree of attributes of a class: the class, then the sets by first use, then the attributes in order.
 abbrev pub tree_of : List SchemaRecord → ClassId → List AttrId → List Node
 tree_of records class ids =
-    option_map_or (λ c. nodes_of c.guid (sets_behind [] (infos_at records ids)) (infos_at records ids)) (slice_get (classes_of records) class.0) []
+    option_map_or (λ c. nodes_of c.guid (sets_behind [] (infos_at records ids)) (infos_at records ids))
+    (slice_get (classes_of records) class.0) []
 
 -- the sets of the attributes of these ids, by first use
 abbrev pub sets_of : List SchemaRecord → List AttrId → List Guid
@@ -70,6 +74,7 @@ sets_of records ids = sets_behind [] (infos_at records ids)
 -- is the attribute's.
 pub record HasLeaves (records : List SchemaRecord) (class : ClassId) (ids : List AttrId) : Type 0 where
   pub long : length (tree_of records class ids) ≡ 1 + length (sets_of records ids) + length ids
-  pub leaf : (i : ℕ) → i < length ids → is_leaf (tree_of records class ids) (1 + length (sets_of records ids) + i) ≡ true
+  pub leaf : (i : ℕ) → i < length ids → is_leaf (tree_of records class ids) (1 + length (sets_of records ids) + i)
+      ≡ true
   pub path : (i : ℕ) (id : AttrId) → slice_get ids i ≡ Some id
       → path_at (tree_of records class ids) (1 + length (sets_of records ids) + i) ≡ path_of records class id

@@ -40,8 +40,18 @@ total = record { antisymm = antisymm; trans = trans; congr = congr }
 -- ---- keys that are one
 
 pub same_key_decides : (a b : Key) → (same_key a b ≡ true) ↔ (a ≡ b)
-same_key_decides (key.Bytes a) (key.Bytes b) = (λ e. ap (λ (t : List ℕ). key.Bytes t) ((bytes_eq-Decides a b).0 e), λ e. let same : a ≡ b = cc in (bytes_eq-Decides a b).1 same)
-same_key_decides (key.Number a) (key.Number b) = (λ e. ap (λ (n : ℤ). key.Number n) ((signed_Decides a b).0 e), λ e. let same : a ≡ b = cc in (signed_Decides a b).1 same)
+same_key_decides (key.Bytes a) (key.Bytes b)
+    = (
+      λ e. ap (λ (t : List ℕ). key.Bytes t) ((bytes_eq-Decides a b).0 e),
+      λ e. let same : a ≡ b = cc
+          in (bytes_eq-Decides a b).1 same,
+    )
+same_key_decides (key.Number a) (key.Number b)
+    = (
+      λ e. ap (λ (n : ℤ). key.Number n) ((signed_Decides a b).0 e),
+      λ e. let same : a ≡ b = cc
+          in (signed_Decides a b).1 same,
+    )
 same_key_decides (key.Bytes a) (key.Number b) = (λ e. absurd cc, λ e. absurd cc)
 same_key_decides (key.Number a) (key.Bytes b) = (λ e. absurd cc, λ e. absurd cc)
 

@@ -1,5 +1,6 @@
 -- When a text has the pieces that it is searched for.
-use Rattle.std.specs.Prelude.{◌≡◌, ℕ, ◌-◌, Bool, true, false, ◌&&◌, ◌||◌, List, [], ◌∷◌, ◌++◌, length, take, drop, unwrap_or}
+use Rattle.std.specs.Prelude.{◌≡◌, ℕ, ◌-◌, Bool, true, false, ◌&&◌, ◌||◌, List, [], ◌∷◌, ◌++◌, length, take, drop}
+use Rattle.std.specs.Prelude.{unwrap_or}
 use Rattle.std.specs.Str.{bytes_eq}
 use Rattle.ad_value.specs.declared.value.Key.{Key}
 use Rattle.ad_value.specs.declared.value.Key.TheVariants as key
@@ -17,8 +18,8 @@ abbrev pub Stand : List (List ℕ) → List ℕ → Type 0
 Stand [] text = Unit {0}
 Stand (piece ∷ pieces) text = StandsBefore piece (Stand pieces) text
 
--- The text is the first piece, a text in which the middle pieces stand, and the last piece. A first or last piece that
--- isn't given is empty.
+-- The text is the first piece, a text in which the middle pieces stand, and the last piece. A first or last piece
+-- that isn't given is empty.
 pub record FitsText (parts : Pattern) (text : List ℕ) : Type 0 where
   pub middle : List ℕ
   pub parts_are : text ≡ unwrap_or parts.first [] ++ (middle ++ unwrap_or parts.last [])
@@ -46,10 +47,12 @@ stands_in (piece ∷ pieces) text = some_end (begins_before piece (stands_in pie
 
 -- the text ends with the piece, and what is before it passes the test
 abbrev pub ends_after : List ℕ → (List ℕ → Bool) → List ℕ → Bool
-ends_after piece test text = bytes_eq (drop (length text - length piece) text) piece && test (take (length text - length piece) text)
+ends_after piece test text = bytes_eq (drop (length text - length piece) text) piece
+    && test (take (length text - length piece) text)
 
 unfoldable pub fits_text : Pattern → List ℕ → Bool
-fits_text parts text = begins_before (unwrap_or parts.first []) (ends_after (unwrap_or parts.last []) (stands_in parts.middle)) text
+fits_text parts text = begins_before (unwrap_or parts.first [])
+    (ends_after (unwrap_or parts.last []) (stands_in parts.middle)) text
 
 abbrev pub fits_key : Pattern → Key → Bool
 fits_key parts (key.Bytes text) = fits_text parts text

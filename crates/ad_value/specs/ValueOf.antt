@@ -40,7 +40,8 @@ abbrev pub is_ascii : ℕ → Bool
 is_ascii b = nat_lt b 128
 
 abbrev pub ascii_value : List ℕ → Option Value
-ascii_value bytes = if list_all is_ascii bytes then Some (value bytes (key.Bytes (str_to_ascii_lowercase bytes))) else None
+ascii_value bytes = if list_all is_ascii bytes then Some (value bytes (key.Bytes (str_to_ascii_lowercase bytes)))
+    else None
 
 -- whether it is the word, in either case
 abbrev pub is_word : List ℕ → List ℕ → Bool
@@ -84,7 +85,8 @@ normal_of syntax.Other bytes = Some (as_shown bytes)
 
 -- or the fault
 abbrev pub normal_or_fault : Syntax → List ℕ → Result Value ValueFault
-normal_or_fault s bytes = if nat_lt 1048576 (length bytes) then Err fault.TooLong else ok_or (normal_of s bytes) fault.Syntax
+normal_or_fault s bytes = if nat_lt 1048576 (length bytes) then Err fault.TooLong else ok_or (normal_of s bytes)
+    fault.Syntax
 
 -- the one fault that no bytes have
 abbrev pub is_memory : ValueFault → Bool

@@ -84,7 +84,8 @@ fn unicode(alloc: Global, bytes: &[u8]) -> Result<Value, ValueFault>
 fn sid_in_bytes(bytes: &[u8]) -> Option<Sid>
     ensures { MatchOption result
         ((sid : SidValue) → SpellsSid sid bytes.now → ⊥)
-        (λ sid. SpellsSid sid bytes.now × ((other : SidValue) → SpellsSid other bytes.now → other ≡ sid)) }
+        (λ sid. SpellsSid sid bytes.now
+        × ((other : SidValue) → SpellsSid other bytes.now → other ≡ sid)) }
 {
     match Sid::from_bytes(bytes) {
         Ok(found) => {
@@ -102,7 +103,8 @@ fn sid_in_bytes(bytes: &[u8]) -> Option<Sid>
 fn sid_of(bytes: &[u8]) -> Option<Sid>
     ensures { MatchOption result
         ((sid : SidValue) → IsSpelled sid bytes.now → ⊥)
-        (λ sid. IsSpelled sid bytes.now × ((other : SidValue) → IsSpelled other bytes.now → other ≡ sid)) }
+        (λ sid. IsSpelled sid bytes.now
+        × ((other : SidValue) → IsSpelled other bytes.now → other ≡ sid)) }
 {
     match sid_in_bytes(bytes) {
         Some(sid) => Some(sid),
@@ -137,7 +139,8 @@ pub fn normal(alloc: Global, syntax: Syntax, bytes: &[u8]) -> Result<Value, Valu
     // The value that is read is that of the bytes.
     ensures found { IfOk result (λ v. IsNormal syntax bytes.now v) }
     // Whatever is a value, and not too long, is read.
-    ensures only { (v : Value) → IsNormal syntax bytes.now v → length bytes.now ≤ 1048576 → IsReadAs v result }
+    ensures only { (v : Value) → IsNormal syntax bytes.now v → length bytes.now ≤ 1048576
+        → IsReadAs v result }
     // Each fault exactly where it is due.
     ensures long { (result ≡ Err ValueFault.TooLong) ↔ (1048576 < length bytes.now) }
     ensures fault { result ≡ Err ValueFault.Syntax → (v : Value) → IsNormal syntax bytes.now v → ⊥ }

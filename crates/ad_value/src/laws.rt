@@ -18,7 +18,8 @@ use ad_ids::{
 /// The value that bytes are in a syntax, as a function: it gives that value where there is one, and nothing where
 /// there is none.
 pub fn what_bytes_are()
-    ensures { (s : SyntaxValue) (bytes : List ℕ) (v : ValueValue) → IsBytes bytes → (normal_of s bytes ≡ Some v) ↔ IsNormal s bytes v }
+    ensures { (s : SyntaxValue) (bytes : List ℕ) (v : ValueValue) → IsBytes bytes
+        → (normal_of s bytes ≡ Some v) ↔ IsNormal s bytes v }
 {
     what_a_text_spells();
     what_a_sid_s_text_spells();
@@ -27,7 +28,8 @@ pub fn what_bytes_are()
 
 /// Bytes are one value of a syntax at most.
 pub fn a_value_is_normal_in_one_way()
-    ensures { (s : SyntaxValue) (bytes : List ℕ) (v w : ValueValue) → IsNormal s bytes v → IsNormal s bytes w → v ≡ w }
+    ensures { (s : SyntaxValue) (bytes : List ℕ) (v w : ValueValue) → IsNormal s bytes v
+        → IsNormal s bytes w → v ≡ w }
 {
     what_a_text_spells();
     what_a_sid_s_text_spells();
@@ -36,9 +38,11 @@ pub fn a_value_is_normal_in_one_way()
 
 /// What a value shows reads back as that value.
 pub fn what_is_shown_reads_back()
-    ensures shown { (s : SyntaxValue) (bytes : List ℕ) (v : ValueValue) → IsNormal s bytes v → IsNormal s v.shown v }
+    ensures shown { (s : SyntaxValue) (bytes : List ℕ) (v : ValueValue) → IsNormal s bytes v
+        → IsNormal s v.shown v }
     // The same of what is read: neither the length nor the form stands against it.
-    ensures read { (s : SyntaxValue) (bytes : List ℕ) (v : ValueValue) → IsBytes bytes → normal_or_fault s bytes ≡ Ok v → normal_or_fault s v.shown ≡ Ok v }
+    ensures read { (s : SyntaxValue) (bytes : List ℕ) (v : ValueValue) → IsBytes bytes
+        → normal_or_fault s bytes ≡ Ok v → normal_or_fault s v.shown ≡ Ok v }
 {
     what_a_text_spells();
     what_a_sid_s_text_spells();

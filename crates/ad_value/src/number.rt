@@ -15,7 +15,8 @@ use std::alloc::Global;
 
 // Whether these bytes are what is written for the number in decimal.
 fn is_written(number: i64, bytes: &[u8]) -> bool
-    ensures { MatchBool result (bytes.now ≡ signed_decimal number) (bytes.now ≢ signed_decimal number) }
+    ensures { MatchBool result (bytes.now ≡ signed_decimal number)
+        (bytes.now ≢ signed_decimal number) }
 {
     Buffer::new().format(number).as_bytes() == bytes
 }

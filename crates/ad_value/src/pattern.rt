@@ -25,7 +25,8 @@ pub struct Pattern {
 
 // What stands after the initial piece, where the text begins with it.
 fn after_initial<'a>(first: &Option<Bytes>, text: &'a [u8]) -> Option<&'a [u8]>
-    ensures { MatchOption result ((rest : List ℕ) → text.now ≡ unwrap_or first.now [] ++ rest → ⊥) (λ rest. text.now ≡ unwrap_or first.now [] ++ rest.now) }
+    ensures { MatchOption result ((rest : List ℕ) → text.now ≡ unwrap_or first.now [] ++ rest → ⊥)
+        (λ rest. text.now ≡ unwrap_or first.now [] ++ rest.now) }
 {
     match first {
         None => Some(text),
@@ -38,7 +39,8 @@ fn after_initial<'a>(first: &Option<Bytes>, text: &'a [u8]) -> Option<&'a [u8]>
 
 // What stands before the final piece, where the text ends with it.
 fn before_final<'a>(last: &Option<Bytes>, text: &'a [u8]) -> Option<&'a [u8]>
-    ensures { MatchOption result ((prefix : List ℕ) → text.now ≡ prefix ++ unwrap_or last.now [] → ⊥)
+    ensures { MatchOption result ((prefix : List ℕ) → text.now ≡ prefix ++ unwrap_or last.now []
+        → ⊥)
         (λ prefix. text.now ≡ prefix.now ++ unwrap_or last.now []) }
 {
     match last {

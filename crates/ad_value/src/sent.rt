@@ -63,9 +63,9 @@ fn sent_or_fault(alloc: Global, syntax: Syntax, sent: &Pattern) -> Result<Patter
 }
 
 /// The pattern of the pieces that were sent with a search of an attribute of this syntax (RFC 4511 4.5.1.7.2): each
-/// piece is a value of the syntax, and the pattern has its key. So the pieces of a text are folded, and those of bytes
-/// stand as they are. None where the syntax isn't searched for pieces ([`Syntax::has_pieces`]), or where a piece is no
-/// value of it.
+/// piece is a value of the syntax, and the pattern has its key. So the pieces of a text are folded, and those of
+/// bytes stand as they are. None where the syntax isn't searched for pieces ([`Syntax::has_pieces`]), or where a
+/// piece is no value of it.
 pub fn sent_pattern(
     alloc: Global,
     syntax: Syntax,

@@ -22,12 +22,14 @@ three_put a b c d x y z e f g = two_put a b d x (y ++ z) e (two_put b c d y z f 
 
 -- ---- the line of a right
 
-pub line_none : (into : List ℕ) (dir : Directory) (token : Token) (number : ℕ) (path : List Guid) (bit : ℕ) (rest : List ℕ)
+pub line_none : (into : List ℕ) (dir : Directory) (token : Token) (number : ℕ) (path : List Guid) (bit : ℕ)
+    (rest : List ℕ)
     → is_granted dir token number path bit ≡ false → into ≡ into ++ granted_line dir token number path bit rest
 unfolding granted_line
 line_none into dir token number path bit rest not_so = rw not_so (sym (append-nil into))
 
-pub line_some : (dir : Directory) (token : Token) (number : ℕ) (path : List Guid) (bit : ℕ) (rest : List ℕ) (d : Decider)
+pub line_some : (dir : Directory) (token : Token) (number : ℕ) (path : List Guid) (bit : ℕ) (rest : List ℕ)
+    (d : Decider)
     → is_granted dir token number path bit ≡ true → d ≡ decider_at dir token number path bit
     → spaced (decider_text d) ++ rest ≡ granted_line dir token number path bit rest
 unfolding granted_line

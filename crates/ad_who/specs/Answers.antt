@@ -93,7 +93,8 @@ IsCanRefusal dir name right base fault =
 
 -- the line of a fault, which isn't want of memory
 abbrev pub IsLineOf : Directory → (AskFault → Type 0) → List ℕ → Type 0
-IsLineOf dir IsRefusal text = (fault : AskFault) × IsRefusal fault × (is_memory fault ≡ false) × (text ≡ fault_line dir fault)
+IsLineOf dir IsRefusal text = (fault : AskFault) × IsRefusal fault × (is_memory fault ≡ false)
+    × (text ≡ fault_line dir fault)
 
 -- an answer, or the line that says why there is none
 abbrev pub IsTold : Directory → (List ℕ → Type 0) → (AskFault → Type 0) → Bool → List ℕ → Type 0

@@ -1,9 +1,11 @@
 -- Which right a text asks for, and on which path.
-use Rattle.std.specs.Prelude.{ℕ, ◌<◌, Bool, ◌==◌, ◌&&◌, ◌||◌, if◌then◌else◌, Option, Some, None, codes, List, [], ◌∷◌, length, slice_get}
+use Rattle.std.specs.Prelude.{ℕ, ◌<◌, Bool, ◌==◌, ◌&&◌, ◌||◌, if◌then◌else◌, Option, Some, None, codes, List, [], ◌∷◌}
+use Rattle.std.specs.Prelude.{length, slice_get}
 use Rattle.std.specs.Option.{option_map, option_and_then}
 use Rattle.std.specs.Str.{bytes_eq}
 use Rattle.ad_ids.specs.declared.guid.Guid.{Guid}
-use Rattle.ad_acl.specs.Mask.{create_child, delete_child, list_children, self_write, read_property, write_property, delete_tree}
+use Rattle.ad_acl.specs.Mask.{create_child, delete_child, list_children, self_write, read_property, write_property}
+use Rattle.ad_acl.specs.Mask.{delete_tree}
 use Rattle.ad_acl.specs.Mask.{list_object, control_access, delete_object, read_control, write_dac, write_owner}
 use Rattle.ad_schema.specs.declared.line.SchemaRecord.{SchemaRecord}
 use Rattle.ad_schema.specs.declared.info.AttrId.{AttrId}
@@ -57,11 +59,13 @@ bit_of letters = bit_in single_codes letters
 -- the first right of the kind that has the name
 unfoldable pub right_named : List RightInfo → ℕ → List ℕ → Option Guid
 right_named [] kind name = None
-right_named (r ∷ rights) kind name = if (r.accesses == kind) && same_name r.name name then Some r.guid else right_named rights kind name
+right_named (r ∷ rights) kind name = if (r.accesses == kind) && same_name r.name name then Some r.guid
+    else right_named rights kind name
 
 -- the GUID of the class of a name
 unfoldable pub class_guid : List SchemaRecord → List ℕ → Option Guid
-class_guid schema name = option_and_then (λ (id : ClassId). option_map (λ (c : ClassInfo). c.guid) (slice_get (classes_of schema) id.0)) (class_named schema name)
+class_guid schema name = option_and_then (λ (id : ClassId). option_map (λ (c : ClassInfo). c.guid)
+    (slice_get (classes_of schema) id.0)) (class_named schema name)
 
 abbrev pub on_attribute : Option AttrId → Option On
 on_attribute attr = option_map (λ id. OfAttribute id) attr
@@ -75,8 +79,9 @@ is_property_right bit = (bit == read_property) || (bit == write_property)
 abbrev pub is_child_right : ℕ → Bool
 is_child_right bit = (bit == create_child) || (bit == delete_child)
 
--- What a name after a right is of: to read and write properties it is an attribute, to create and delete children a class, with
--- control access an extended right (256) and with self write a validated write (8). No other right has a name.
+-- What a name after a right is of: to read and write properties it is an attribute, to create and delete children a
+-- class, with control access an extended right (256) and with self write a validated write (8). No other right has a
+-- name.
 unfoldable pub named_on : List SchemaRecord → ℕ → List ℕ → Option On
 named_on schema bit name =
     if is_property_right bit then on_attribute (attr_named schema name)

@@ -10,7 +10,8 @@ use Rattle.ad_principals.specs.Tokens.{IsTokenOf, HasTooManyGroups}
 use Rattle.ad_principals.specs.declared.fault.NameFault.{NameFault}
 use Rattle.ad_principals.specs.declared.fault.NameFault.TheVariants as name
 use Rattle.ad_who.specs.declared.fault.AskFault.{AskFault}
-use Rattle.ad_who.specs.declared.fault.AskFault.TheVariants.{NoObject, Several, NoPrincipal, NoIdentifier, NoRight, TooMany, Memory}
+use Rattle.ad_who.specs.declared.fault.AskFault.TheVariants.{NoObject, Several, NoPrincipal, NoIdentifier, NoRight}
+use Rattle.ad_who.specs.declared.fault.AskFault.TheVariants.{TooMany, Memory}
 use Rattle.ad_who.specs.Lines.{ended}
 
 -- the line of a fault; want of memory has none

@@ -55,7 +55,8 @@ decider_text Nothing = []
 -- A line stands exactly where the right is granted: what decides, and the rest.
 unfoldable pub granted_line : Directory → Token → ℕ → List Guid → ℕ → List ℕ → List ℕ
 granted_line dir token number path bit rest =
-    if is_granted dir token number path bit then spaced (decider_text (decider_at dir token number path bit)) ++ rest else []
+    if is_granted dir token number path bit then spaced (decider_text (decider_at dir token number path bit)) ++ rest
+    else []
 
 -- ---- who
 
@@ -75,7 +76,8 @@ AreWhoLines dir number path bit (principal ∷ others) text =
 
 -- the line of an object: its name
 abbrev pub can_line : Directory → Token → Asked → ℕ → List ℕ
-can_line dir token asked number = granted_line dir token number (path_at dir number asked.on) asked.bit (ended (name_text dir number))
+can_line dir token asked number = granted_line dir token number (path_at dir number asked.on) asked.bit
+    (ended (name_text dir number))
 
 -- those of the object at the base and of all below it
 unfoldable pub can_text : Directory → Token → Asked → ℕ → List ℕ

@@ -5,7 +5,8 @@ ghost use Rattle.ad_schema.specs.Attributes.{attr_named, attrs_of, rights_of};
 ghost use Rattle.ad_schema.specs.Classes.{classes_of};
 ghost use Rattle.ad_types.specs.Path.{guids_of};
 ghost use Rattle.ad_dir_model.specs.Objects.{is_live};
-ghost use Rattle.ad_who.specs.Asked.{is_property_right, is_child_right, right_named, class_guid, named_on, on_attribute, on_type, asked_behind, asked_of, path_on, path_at, IsOn, IsAsked};
+ghost use Rattle.ad_who.specs.Asked.{is_property_right, is_child_right, right_named, class_guid, named_on};
+ghost use Rattle.ad_who.specs.Asked.{on_attribute, on_type, asked_behind, asked_of, path_on, path_at, IsOn, IsAsked};
 
 use crate::codes::bit_of;
 use ad_access_dir::class_of;
@@ -135,9 +136,10 @@ fn asked_behind(schema: &Schema, bit: u32, behind: &[u8]) -> Option<Asked>
     }
 }
 
-/// The right that a text asks for: one of thirteen codes, `CC DC LC SW RP WP DT LO CR SD RC WD WO`, by itself for the object as a
-/// whole, or with a colon and a name, without regard to ASCII case: of an attribute after `RP` and `WP`, of a class after `CC` and
-/// `DC`, of an extended right after `CR` and of a validated write after `SW`. None where it is no such text, or nothing has the name.
+/// The right that a text asks for: one of thirteen codes, `CC DC LC SW RP WP DT LO CR SD RC WD WO`, by itself for the
+/// object as a whole, or with a colon and a name, without regard to ASCII case: of an attribute after `RP` and `WP`,
+/// of a class after `CC` and `DC`, of an extended right after `CR` and of a validated write after `SW`. None where it
+/// is no such text, or nothing has the name.
 #[tactic(auto, unfolding(crate::specs::Asked::asked_of))]
 pub fn right_asked(schema: &Schema, text: &[u8]) -> Option<Asked>
     ensures asked { result ≡ asked_of schema.now text.now }

@@ -61,7 +61,8 @@ fn has_right(mask: u32, bit: u32) -> bool
 
 // Whether the entry allows or denies something of the object itself.
 fn is_spoken(ace: &AceIn<'_>) -> bool
-    ensures { result ≡ (decides_access (entry_seen ace.now).kind && not (is_inherit_only (entry_seen ace.now))) }
+    ensures { result ≡ (decides_access (entry_seen ace.now).kind
+        && not (is_inherit_only (entry_seen ace.now))) }
 {
     ace.kind() != AceKind::Audit && !is_inherit_only(ace)
 }
@@ -77,7 +78,8 @@ fn decides(
     bit: u32,
 ) -> bool
     requires { bit < 32 }
-    ensures { result ≡ decides (entry_seen ace.now) (first_holder token.now) (option_copied self_sid.entry) owner.now path.now bit }
+    ensures { result ≡ decides (entry_seen ace.now) (first_holder token.now)
+        (option_copied self_sid.entry) owner.now path.now bit }
 {
     if !has_right(ace.mask(), bit) {
         return false;
@@ -113,7 +115,8 @@ fn deciding(
     bit: u32,
 ) -> Decider
     requires { bit < 32 }
-    ensures { result ≡ deciding_from 1 (seen view.now).dacl.entries (first_holder token.now) (option_copied self_sid.entry) owner.now path.now bit }
+    ensures { result ≡ deciding_from 1 (seen view.now).dacl.entries (first_holder token.now)
+        (option_copied self_sid.entry) owner.now path.now bit }
 {
     let _normal = view.as_bytes();
     let mut place: u64 = 0;
@@ -164,7 +167,8 @@ fn is_of_owners(bit: u32) -> bool
 // Whether the right is granted as to an owner.
 #[tactic(auto, unfolding(ad_access::specs::Grant::granted_as_owner))]
 fn granted_as_owner(view: &SdView<'_>, owner: &Sid, token: &Token, bit: u32) -> bool
-    ensures { result ≡ granted_as_owner owner.now (seen view.now).dacl.entries (first_holder token.now) bit }
+    ensures { result ≡ granted_as_owner owner.now (seen view.now).dacl.entries
+        (first_holder token.now) bit }
 {
     is_of_owners(bit) && holds(token, owner) && !has_owner_rights(view)
 }
@@ -181,7 +185,8 @@ fn decider_for(
     bit: u32,
 ) -> Decider
     requires { bit < 32 }
-    ensures { result ≡ decider_for (seen view.now).owner (seen view.now).dacl.entries (first_holder token.now) (option_copied self_sid.entry) path.now bit }
+    ensures { result ≡ decider_for (seen view.now).owner (seen view.now).dacl.entries
+        (first_holder token.now) (option_copied self_sid.entry) path.now bit }
 {
     let owner = view.owner();
     if granted_as_owner(view, &owner, token, bit) {
@@ -207,7 +212,8 @@ fn decider_in(
     bit: u32,
 ) -> Decider
     requires { bit < 20 }
-    ensures { result ≡ decider (seen view.now).owner (seen view.now).dacl.entries token.now (option_copied self_sid.entry) path.now bit }
+    ensures { result ≡ decider (seen view.now).owner (seen view.now).dacl.entries token.now
+        (option_copied self_sid.entry) path.now bit }
 {
     if bit == 19 && may_take(token) {
         return Decider::Privilege;
@@ -231,15 +237,16 @@ fn decider_at(dir: &Dir, token: &Token, number: u32, path: &Path, bit: u32) -> D
     )
 }
 
-/// What decides a right, by its place in a mask, for a token without restricting identifiers, on a live object and a path: the
-/// privilege to take ownership, that the token holds the object's owner, or the first entry of the DACL that decides
-/// ([MS-DTYP] 2.5.3.2). It grants exactly where the access check does. The right is one of those of objects and descriptors. It
-/// takes no memory.
+/// What decides a right, by its place in a mask, for a token without restricting identifiers, on a live object and a
+/// path: the privilege to take ownership, that the token holds the object's owner, or the first entry of the DACL
+/// that decides ([MS-DTYP] 2.5.3.2). It grants exactly where the access check does. The right is one of those of
+/// objects and descriptors. It takes no memory.
 pub fn decider_on(dir: &Dir, token: &Token, number: u32, path: &Path, bit: u32) -> Decider
     requires live { is_live dir.now.objects number ≡ true }
     requires bit { bit < 20 }
     ensures decider { result ≡ decider_at dir.now token.now number (guids_of path.now) bit }
-    ensures granted { token.now.restricting ≡ [] → grants result ≡ is_granted dir.now token.now number (guids_of path.now) bit }
+    ensures granted { token.now.restricting ≡ [] → grants result ≡ is_granted dir.now token.now
+        number (guids_of path.now) bit }
 {
     decider_at(dir, token, number, path, bit)
 }

@@ -33,7 +33,8 @@ fn token_in(alloc: Global, dir: &Dir, members: &Members, principal: u32) -> Resu
     requires members { AreMembersOf dir.now members.now }
     requires principal { is_principal dir.now principal ≡ true }
     ensures token { IfOk result (IsTokenOf dir.now principal []) }
-    ensures fault { IfErr result (λ fault. (others : List ℕ) → IsNoTokenIn dir.now (principal ∷ others) fault) }
+    ensures fault { IfErr result (λ fault. (others : List ℕ)
+        → IsNoTokenIn dir.now (principal ∷ others) fault) }
     ensures live { IfErr result (IsOfLive dir.now) }
 {
     principal_lives(dir, principal);
@@ -60,7 +61,8 @@ fn put_who_line(
     requires named { is_live dir.now.objects principal ≡ true }
     requires bit { bit < 20 }
     requires alone { token.now.restricting ≡ [] }
-    ensures { OnOk result (into.new.items ≡ into.old.items ++ who_line dir.now number (guids_of path.now) bit principal token.now) }
+    ensures { OnOk result (into.new.items ≡ into.old.items ++ who_line dir.now number
+        (guids_of path.now) bit principal token.now) }
 {
     let decider = decider_on(dir, token, number, path, bit);
     if !decider.grants() {
@@ -106,7 +108,8 @@ fn put_who_lines(
 fn who_of(alloc: Global, dir: &Dir, asked: Asked, number: u32) -> Result<Vec<u8>, AskFault>
     requires asked { IsAsked dir.now.schema asked }
     requires live { is_live dir.now.objects number ≡ true }
-    ensures lines { IfOk result (λ text. AreWhoLines dir.now number (path_at dir.now number asked.on) asked.bit (principals dir.now) text.items) }
+    ensures lines { IfOk result (λ text. AreWhoLines dir.now number
+        (path_at dir.now number asked.on) asked.bit (principals dir.now) text.items) }
     ensures fault { IfErr result (IsNoTokenIn dir.now (principals dir.now)) }
     ensures live { IfErr result (IsOfLive dir.now) }
 {
@@ -127,13 +130,13 @@ fn who_of(alloc: Global, dir: &Dir, asked: Asked, number: u32) -> Result<Vec<u8>
     Ok(text)
 }
 
-/// A line for each principal to whose token a right is granted on the object of a name, by rising numbers: what decides, the
-/// principal's identifier and its name.
+/// A line for each principal to whose token a right is granted on the object of a name, by rising numbers: what
+/// decides, the principal's identifier and its name.
 ///
 /// # Errors
 ///
-/// The first from the left: `NoRight`, `NoObject` or `Several` of the name, and then `TooMany` of the first principal that has no
-/// token. `Memory` where memory ran out.
+/// The first from the left: `NoRight`, `NoObject` or `Several` of the name, and then `TooMany` of the first principal
+/// that has no token. `Memory` where memory ran out.
 pub(crate) fn who_lines(
     alloc: Global,
     dir: &Dir,

@@ -10,8 +10,8 @@ ghost use Rattle.ad_dir_model.specs.Directory.{Directory};
 ghost use Rattle.ad_who.specs.Answers.{TokenTold, WhoTold, CanTold};
 ghost use Rattle.ad_who.specs.Decider.{decider, grants};
 
-/// To a token without restricting identifiers a right is granted exactly where what decides it grants: a privilege, that it holds the
-/// owner, or an entry that allows.
+/// To a token without restricting identifiers a right is granted exactly where what decides it grants: a privilege,
+/// that it holds the owner, or an entry that allows.
 pub fn a_right_is_granted_where_what_decides_it_grants()
     ensures { (owner : SidValue) (dacl : List Entry) (token : TokenValue) (self : Option SidValue)
         (path : List GuidValue) (bit : ℕ) → token.restricting ≡ []

@@ -1,5 +1,5 @@
-//! Who can do what, by the tokens that follow from a directory: which right a text asks for, what decides it for a token on an
-//! object, and the lines that tell it.
+//! Who can do what, by the tokens that follow from a directory: which right a text asks for, what decides it for a
+//! token on an object, and the lines that tell it.
 //!
 //! The rules are written in `docs/profile/who.md`, and defined in `specs/` apart from the code.
 //!

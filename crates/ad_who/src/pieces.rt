@@ -61,7 +61,8 @@ pub(crate) fn put_sid_line(
     label: &[u8],
     sid: &Sid,
 ) -> Result<(), AllocError>
-    ensures { OnOk result (into.new.items ≡ into.old.items ++ labelled label.now (sid_text sid.now)) }
+    ensures { OnOk result (into.new.items ≡ into.old.items
+        ++ labelled label.now (sid_text sid.now)) }
 {
     let text = sid.text(alloc)?;
     put_labelled(into, label, text.as_bytes())

@@ -72,7 +72,8 @@ fn put_can_line(
     requires live { is_live dir.now.objects number ≡ true }
     requires asked { IsAsked dir.now.schema asked }
     requires alone { token.now.restricting ≡ [] }
-    ensures { OnOk result (into.new.items ≡ into.old.items ++ can_line dir.now token.now asked number) }
+    ensures { OnOk result (into.new.items ≡ into.old.items ++ can_line dir.now token.now asked
+        number) }
 {
     let path = path_at(dir, number, asked.on);
     let decider = decider_on(dir, token, number, &path, asked.bit);
@@ -96,7 +97,9 @@ fn put_if_within(
     requires live { is_live dir.now.objects number ≡ true }
     requires asked { IsAsked dir.now.schema asked }
     requires alone { token.now.restricting ≡ [] }
-    ensures { OnOk result (into.new.items ≡ into.old.items ++ flat_map (can_line dir.now token.now asked) (if goes_with dir.now base number then number ∷ [] else [])) }
+    ensures { OnOk result (into.new.items ≡ into.old.items
+        ++ flat_map (can_line dir.now token.now asked) (if goes_with dir.now base number then number
+        ∷ [] else [])) }
 {
     if goes_with(dir, base, number) {
         return put_can_line(alloc, into, dir, token, asked, number);
@@ -116,7 +119,9 @@ fn put_can_lines(
     requires live { All (λ number. is_live dir.now.objects number ≡ true) numbers.now }
     requires asked { IsAsked dir.now.schema asked }
     requires alone { token.now.restricting ≡ [] }
-    ensures { OnOk result (into.new.items ≡ into.old.items ++ flat_map (can_line dir.now token.now asked) (filter (goes_with dir.now base) numbers.now)) }
+    ensures { OnOk result (into.new.items ≡ into.old.items
+        ++ flat_map (can_line dir.now token.now asked)
+        (filter (goes_with dir.now base) numbers.now)) }
 {
     for number in numbers {
         put_if_within(alloc, into, dir, token, asked, base, *number)?;
@@ -179,13 +184,13 @@ fn can_from(
     Ok(can_text(alloc, dir, &token, asked, base)?)
 }
 
-/// A line for each object at and below a base on which a right is granted to the token of the object of a name, by rising
-/// numbers: what decides, and the object's name. An empty base is the root.
+/// A line for each object at and below a base on which a right is granted to the token of the object of a name, by
+/// rising numbers: what decides, and the object's name. An empty base is the root.
 ///
 /// # Errors
 ///
-/// The first from the left: `NoObject` or `Several` of the name, `NoRight`, those of the base, and then `NoPrincipal` or `TooMany`
-/// of the token. `Memory` where memory ran out.
+/// The first from the left: `NoObject` or `Several` of the name, `NoRight`, those of the base, and then `NoPrincipal`
+/// or `TooMany` of the token. `Memory` where memory ran out.
 pub(crate) fn can_lines(
     alloc: Global,
     dir: &Dir,

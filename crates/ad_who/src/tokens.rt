@@ -54,7 +54,8 @@ pub(crate) fn token_for(
 
 // The identifiers that texts are. None where one isn't.
 fn sids_of(alloc: Global, texts: &[String]) -> Result<Option<Vec<Sid>>, AllocError>
-    ensures some { IfOk result (λ sids. IfSome sids (λ all. sids_of (map string_bytes texts.now) ≡ Some all.items)) }
+    ensures some { IfOk result (λ sids.
+        IfSome sids (λ all. sids_of (map string_bytes texts.now) ≡ Some all.items)) }
     ensures none { IfOk result (λ sids. IfNone sids (sids_of (map string_bytes texts.now) ≡ None)) }
 {
     let mut sids = Vec::new(alloc);
@@ -91,20 +92,21 @@ fn token_text(alloc: Global, token: &Token) -> Result<Vec<u8>, AllocError>
     Ok(text)
 }
 
-/// The token of the object of a name, with the identifiers that further texts are, in lines that end with LF: `user`, `owner`,
-/// `primary` and each `group` with an identifier, and `privileges` with their sum.
+/// The token of the object of a name, with the identifiers that further texts are, in lines that end with LF: `user`,
+/// `owner`, `primary` and each `group` with an identifier, and `privileges` with their sum.
 ///
 /// # Errors
 ///
-/// The first from the left: `NoObject` or `Several` of the name, `NoIdentifier` of a further text, and then `NoPrincipal` or
-/// `TooMany` of the token. `Memory` where memory ran out.
+/// The first from the left: `NoObject` or `Several` of the name, `NoIdentifier` of a further text, and then
+/// `NoPrincipal` or `TooMany` of the token. `Memory` where memory ran out.
 pub(crate) fn token_lines(
     alloc: Global,
     dir: &Dir,
     name: &[u8],
     texts: &[String],
 ) -> Result<Vec<u8>, AskFault>
-    ensures text { IfOk result (λ text. IsTokenText dir.now name.now (map string_bytes texts.now) text.items) }
+    ensures text { IfOk result (λ text. IsTokenText dir.now name.now (map string_bytes texts.now)
+        text.items) }
     ensures refusal { IfErr result (IsTokenRefusal dir.now name.now (map string_bytes texts.now)) }
     ensures live { IfErr result (IsOfLive dir.now) }
 {

@@ -22,7 +22,8 @@ pub struct Told {
 // The line of a fault, but for want of memory.
 fn refusal(alloc: Global, dir: &Dir, fault: AskFault) -> Result<Told, AllocError>
     requires { IsOfLive dir.now fault }
-    ensures { IfOk result (λ told. (told.answered ≡ false) × (is_memory fault ≡ false) × (told.text.items ≡ fault_line dir.now fault)) }
+    ensures { IfOk result (λ told. (told.answered ≡ false) × (is_memory fault ≡ false)
+        × (told.text.items ≡ fault_line dir.now fault)) }
 {
     if fault == AskFault::Memory {
         return Err(AllocError);
@@ -43,14 +44,16 @@ fn answer(text: Vec<u8>) -> Told
     }
 }
 
-/// The token of the object of a name, with the identifiers that further texts are: its user, owner, primary group, groups and
-/// privileges, a line each; or the line that says which word is wrong, from the left, or why there is no such token.
+/// The token of the object of a name, with the identifiers that further texts are: its user, owner, primary group,
+/// groups and privileges, a line each; or the line that says which word is wrong, from the left, or why there is no
+/// such token.
 ///
 /// # Errors
 ///
 /// Memory ran out.
 pub fn token(alloc: Global, dir: &Dir, name: &str, sids: &[String]) -> Result<Told, AllocError>
-    ensures { IfOk result (λ told. TokenTold dir.now name.now (map string_bytes sids.now) told.answered told.text.items) }
+    ensures { IfOk result (λ told. TokenTold dir.now name.now (map string_bytes sids.now)
+        told.answered told.text.items) }
 {
     match token_lines(alloc, dir, name.as_bytes(), sids) {
         Ok(text) => Ok(answer(text)),
@@ -58,14 +61,16 @@ pub fn token(alloc: Global, dir: &Dir, name: &str, sids: &[String]) -> Result<To
     }
 }
 
-/// Who has a right on the object of a name: a line for each principal to whose token it is granted, by rising numbers, with what
-/// decides, its identifier and its name; or the line that says which word is wrong, from the left, or who has too many groups.
+/// Who has a right on the object of a name: a line for each principal to whose token it is granted, by rising
+/// numbers, with what decides, its identifier and its name; or the line that says which word is wrong, from the left,
+/// or who has too many groups.
 ///
 /// # Errors
 ///
 /// Memory ran out.
 pub fn who(alloc: Global, dir: &Dir, right: &str, name: &str) -> Result<Told, AllocError>
-    ensures { IfOk result (λ told. WhoTold dir.now right.now name.now told.answered told.text.items) }
+    ensures { IfOk result (λ told. WhoTold dir.now right.now name.now told.answered
+        told.text.items) }
 {
     match who_lines(alloc, dir, right.as_bytes(), name.as_bytes()) {
         Ok(text) => Ok(answer(text)),
@@ -73,9 +78,9 @@ pub fn who(alloc: Global, dir: &Dir, right: &str, name: &str) -> Result<Told, Al
     }
 }
 
-/// On which objects the token of the object of a name has a right: a line for each at or below the base on which it is granted, by
-/// rising numbers, with what decides and its name; or the line that says which word is wrong, from the left, or why there is no
-/// token. An empty base is the root.
+/// On which objects the token of the object of a name has a right: a line for each at or below the base on which it
+/// is granted, by rising numbers, with what decides and its name; or the line that says which word is wrong, from the
+/// left, or why there is no token. An empty base is the root.
 ///
 /// # Errors
 ///
@@ -87,7 +92,8 @@ pub fn can(
     right: &str,
     base: &str,
 ) -> Result<Told, AllocError>
-    ensures { IfOk result (λ told. CanTold dir.now name.now right.now base.now told.answered told.text.items) }
+    ensures { IfOk result (λ told. CanTold dir.now name.now right.now base.now told.answered
+        told.text.items) }
 {
     match can_lines(
         alloc,

@@ -20,7 +20,8 @@ use Rattle.cmd_store.specs.Settle.{SettleDoes}
 use Rattle.cmd_store.specs.serving.Does.{ServeDoes}
 use Rattle.adsd.specs.Words.{first_more, second_more}
 use Rattle.adsd.specs.declared.run.Command.{Command}
-use Rattle.adsd.specs.declared.run.Command.TheVariants.{Access, Sddl, Change, Load, Check, Settle, Serve, Audit, Grants, List as ListOf, Effective, Token, Who, Can, Sample}
+use Rattle.adsd.specs.declared.run.Command.TheVariants.{Access, Sddl, Change, Load, Check, Settle, Serve, Audit}
+use Rattle.adsd.specs.declared.run.Command.TheVariants.{Grants, List as ListOf, Effective, Token, Who, Can, Sample}
 
 module _ {I S : Type 0} (source : SourceGhosts I) (site : SiteGhosts S) where
   -- the call of a command without a store, as its input and its output are seen
@@ -36,8 +37,8 @@ module _ {I S : Type 0} (source : SourceGhosts I) (site : SiteGhosts S) where
     output_after = site.out_faults new;
   }
 
-  -- Words that are of no form do nothing at all, as a clause of its own says. The name is the one that the words give, and after
-  -- it stand further texts.
+  -- Words that are of no form do nothing at all, as a clause of its own says. The name is the one that the words
+  -- give, and after it stand further texts.
   abbrev pub Does : Option Command → List ℕ → List (List ℕ) → I → I → S → S → Outcome → Type 0
   Does None name more from to old new outcome = outcome ≡ NoCommand
   Does (Some Access) name more from to old new outcome = AccessDoes (call_of from to old new) outcome
@@ -53,5 +54,6 @@ module _ {I S : Type 0} (source : SourceGhosts I) (site : SiteGhosts S) where
   Does (Some Effective) name more from to old new outcome = EffectiveDoes source site name from to old new outcome
   Does (Some Token) name more from to old new outcome = (to ≡ from) × TokenDoes site name more old new outcome
   Does (Some Who) name more from to old new outcome = (to ≡ from) × WhoDoes site name (first_more more) old new outcome
-  Does (Some Can) name more from to old new outcome = (to ≡ from) × CanDoes site name (first_more more) (second_more more) old new outcome
+  Does (Some Can) name more from to old new outcome = (to ≡ from) × CanDoes site name (first_more more)
+      (second_more more) old new outcome
   Does (Some (Sample n)) name more from to old new outcome = (to ≡ from) × SampleDoes site n old new outcome

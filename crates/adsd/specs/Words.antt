@@ -1,10 +1,12 @@
 -- The words after the program's name, and the form that they are of.
-use Rattle.std.specs.Prelude.{Bool, ◌||◌, ◌&&◌, nat_lt, ◌≤◌, false, true, length, List, [], ◌∷◌, codes, ℕ, Option, Some, None}
+use Rattle.std.specs.Prelude.{Bool, ◌||◌, ◌&&◌, nat_lt, ◌≤◌, false, true, length, List, [], ◌∷◌, codes, ℕ, Option}
+use Rattle.std.specs.Prelude.{Some, None}
 use Rattle.std.specs.Prelude.{is_some, if◌then◌else◌}
 use Rattle.std.specs.Str.{bytes_eq}
 use Rattle.cmd_store.specs.Size.{size_of}
 use Rattle.adsd.specs.declared.run.Command.{Command}
-use Rattle.adsd.specs.declared.run.Command.TheVariants.{Access, Sddl, Change, Load, Check, Settle, Serve, Audit, Grants, List as ListOf, Effective, Token, Who, Can, Sample}
+use Rattle.adsd.specs.declared.run.Command.TheVariants.{Access, Sddl, Change, Load, Check, Settle, Serve, Audit}
+use Rattle.adsd.specs.declared.run.Command.TheVariants.{Grants, List as ListOf, Effective, Token, Who, Can, Sample}
 
 -- one word alone
 abbrev pub is_alone : List ℕ → List (List ℕ) → Bool
@@ -29,7 +31,8 @@ is_with_name command (word ∷ store ∷ name ∷ other ∷ others) = false
 
 -- the forms without a store, and those with one
 abbrev pub is_plain_form : List (List ℕ) → Bool
-is_plain_form words = is_alone (codes "access") words || (is_alone (codes "sddl") words || is_alone (codes "change") words)
+is_plain_form words = is_alone (codes "access") words
+    || (is_alone (codes "sddl") words || is_alone (codes "change") words)
 
 abbrev pub is_plain_store_form : List (List ℕ) → Bool
 is_plain_store_form words = is_with_store (codes "load") words || (is_with_store (codes "serve") words
@@ -44,7 +47,8 @@ abbrev pub is_size_form : List (List ℕ) → Bool
 is_size_form [] = false
 is_size_form (word ∷ []) = false
 is_size_form (word ∷ store ∷ []) = false
-is_size_form (word ∷ store ∷ size ∷ []) = bytes_eq word (codes "sample") && nat_lt 0 (length store) && is_some (size_of size)
+is_size_form (word ∷ store ∷ size ∷ []) = bytes_eq word (codes "sample") && nat_lt 0 (length store)
+    && is_some (size_of size)
 is_size_form (word ∷ store ∷ size ∷ other ∷ others) = false
 
 -- one word, a store, and a name with any further texts after it, with one, or with two
@@ -92,7 +96,8 @@ abbrev pub command_with_size : List (List ℕ) → Option Command
 command_with_size [] = None
 command_with_size (word ∷ []) = None
 command_with_size (word ∷ store ∷ []) = None
-command_with_size (word ∷ store ∷ size ∷ []) = if bytes_eq word (codes "sample") && nat_lt 0 (length store) then sampled_by (size_of size) else None
+command_with_size (word ∷ store ∷ size ∷ []) = if bytes_eq word (codes "sample") && nat_lt 0 (length store)
+    then sampled_by (size_of size) else None
 command_with_size (word ∷ store ∷ size ∷ other ∷ others) = None
 
 -- a size is from 1 to 1,000

@@ -8,9 +8,12 @@ ghost use Rattle.site_io.specs.Counts.{HasRisen};
 ghost use Rattle.cmd_call.specs.declared.outcome.Outcome.{Outcome};
 ghost use Rattle.cmd_call.specs.Outcome.{status_of};
 ghost use Rattle.adsd.specs.Commands.{Does};
-ghost use Rattle.adsd.specs.Words.{is_form, is_store_form, command_of, command_with_store, command_with_frames, command_with_name, command_with_question, command_with_size};
-ghost use Rattle.adsd.specs.Words.{is_plain_store_form, is_name_form, is_question_form, is_size_form, HasSize, second, store_named, name_given};
-ghost use Rattle.adsd.specs.Words.{is_with_texts, is_with_one, is_with_two, more_given, first_more, second_more, only_looks, makes_store};
+ghost use Rattle.adsd.specs.Words.{is_form, is_store_form, command_of, command_with_store, command_with_frames};
+ghost use Rattle.adsd.specs.Words.{command_with_name, command_with_question, command_with_size};
+ghost use Rattle.adsd.specs.Words.{is_plain_store_form, is_name_form, is_question_form, is_size_form, HasSize};
+ghost use Rattle.adsd.specs.Words.{second, store_named, name_given};
+ghost use Rattle.adsd.specs.Words.{is_with_texts, is_with_one, is_with_two, more_given, first_more, second_more};
+ghost use Rattle.adsd.specs.Words.{only_looks, makes_store};
 
 use cmd_audit::audit;
 use cmd_call::Outcome;
@@ -316,65 +319,88 @@ fn second_more(words: &[String]) -> &str
 
 /// Does what the words ask for, and answers the program's exit status.
 ///
-/// The words are those after the program's name, and are one of fifteen forms. STORE is any text that isn't empty, and its slots are
-/// those of the site. DN is any text.
+/// The words are those after the program's name, and are one of fifteen forms. STORE is any text that isn't empty,
+/// and its slots are those of the site. DN is any text.
 ///
 /// - `access`: the input is a question, and what is emitted is the mask of the granted rights, eight lower-case
 ///   hexadecimal digits and a line end.
 /// - `sddl`: the input is the text of a security descriptor, and what is emitted are its bytes in hexadecimal and its
 ///   canonical text, a line each. What is no such text is refused by a line that says where it goes wrong.
-/// - `change`: the input are change records of LDIF, and what is emitted is one frame for each, in order, with the message that
+/// - `change`: the input are change records of LDIF, and what is emitted is one frame for each, in order, with the
+///   message that
 ///   does what the record says. What is no such text is refused by a line that says where and why.
-/// - `load STORE`: the input is LDIF, whose directory is stored in two empty slots, and what is emitted is the number of its objects.
+/// - `load STORE`: the input is LDIF, whose directory is stored in two empty slots, and what is emitted is the number
+///   of its objects.
 ///   What is the text of no directory is refused by a line that says where and why.
-/// - `serve STORE`: the input are frames, and what is emitted is one output frame for each, after the commit of what it
-///   changes and before the next one is read. The slots are synced first: until then nothing is emitted, and from then on
-///   a crash at any moment leaves a store that represents the directory after a prefix of the frames, among which is each
+/// - `serve STORE`: the input are frames, and what is emitted is one output frame for each, after the commit of what
+///   it
+///   changes and before the next one is read. The slots are synced first: until then nothing is emitted, and from
+///   then on
+///   a crash at any moment leaves a store that represents the directory after a prefix of the frames, among which is
+///   each
 ///   of whose answer a byte was emitted.
-/// - `settle STORE`: steps of propagation are made until nothing is pending, and what is emitted is how many there were.
+/// - `settle STORE`: steps of propagation are made until nothing is pending, and what is emitted is how many there
+///   were.
 ///   The input isn't read. The slots are synced first: until then nothing is emitted, and from then on a crash at any
-///   moment leaves a store that represents the directory after some number of steps. Slots that represent no directory
+///   moment leaves a store that represents the directory after some number of steps. Slots that represent no
+///   directory
 ///   are refused as by `check`.
-/// - `check STORE`: what is emitted are four numbers of the directory that the store represents. The input isn't read, and no slot is
+/// - `check STORE`: what is emitted are four numbers of the directory that the store represents. The input isn't
+///   read, and no slot is
 ///   written. Slots that represent no directory are refused by a line that says why.
-/// - `audit STORE`: the input are frames, which are run on a directory in memory that begins as the store's, and what is emitted are
+/// - `audit STORE`: the input are frames, which are run on a directory in memory that begins as the store's, and what
+///   is emitted are
 ///   the lines that these accesses leave in the security log, frame by frame. No slot is written.
-/// - `grants STORE`: the input are lines that grant, deny and revoke, and what is emitted is one frame for each, in order, with the
-///   message that gives the object its new list. What is no such line is refused by a line that says where and why. No slot is
+/// - `grants STORE`: the input are lines that grant, deny and revoke, and what is emitted is one frame for each, in
+///   order, with the
+///   message that gives the object its new list. What is no such line is refused by a line that says where and why.
+///   No slot is
 ///   written, and slots that represent no directory are refused as by `check`.
-/// - `list STORE DN`: what is emitted is what stands in the descriptor of the object of the directory that has this name, line by line.
-///   The input isn't read, and no slot is written. Where no object has the name, or the text is no name's, a line says so, and
+/// - `list STORE DN`: what is emitted is what stands in the descriptor of the object of the directory that has this
+///   name, line by line.
+///   The input isn't read, and no slot is written. Where no object has the name, or the text is no name's, a line
+///   says so, and
 ///   slots that represent no directory are refused as by `check`.
-/// - `effective STORE DN`: the input is a token, and what is emitted is what it may do at the object that has this name, line by line.
+/// - `effective STORE DN`: the input is a token, and what is emitted is what it may do at the object that has this
+///   name, line by line.
 ///   No slot is written. Where no object has the name the input isn't read, and a line says so as by `list`.
-/// - `token STORE NAME SID..`: what is emitted is the token that the directory gives the object of this name, with the further
-///   identifiers, line by line. The input isn't read, and no slot is written. Where there is none a line says why, and slots that represent
+/// - `token STORE NAME SID..`: what is emitted is the token that the directory gives the object of this name, with
+///   the further
+///   identifiers, line by line. The input isn't read, and no slot is written. Where there is none a line says why,
+///   and slots that represent
 ///   no directory are refused as by `check`.
-/// - `who STORE RIGHT NAME`: what is emitted is a line for each principal to whose token the right is granted on the object of this
+/// - `who STORE RIGHT NAME`: what is emitted is a line for each principal to whose token the right is granted on the
+///   object of this
 ///   name, with what decides. All else is as by `token`.
-/// - `can STORE NAME RIGHT BASE`: what is emitted is a line for each object at or below BASE on which the right is granted to the token
-///   of the object of this name, with what decides. BASE may be left out, and is the root then. All else is as by `token`.
-/// - `sample STORE N`: the sample of size N is loaded into two empty slots and its frames are served there, and what is emitted are eight
+/// - `can STORE NAME RIGHT BASE`: what is emitted is a line for each object at or below BASE on which the right is
+///   granted to the token
+///   of the object of this name, with what decides. BASE may be left out, and is the root then. All else is as by
+///   `token`.
+/// - `sample STORE N`: the sample of size N is loaded into two empty slots and its frames are served there, and what
+///   is emitted are eight
 ///   numbers of what came of it. N is a decimal number from 1 to 1,000 without leading zero. The input isn't read.
 ///
 /// The statuses are 0 where the command was done and its input read to the end, 1 where the input isn't of the
 /// command's form, 2 where the words aren't one of the forms, 3 where the slots represent no directory, or for `load`
-/// and `sample` aren't empty, or for `list` and `effective` no object has the name, or for `token`, `who` and `can` there is
-/// no answer, 4 where the source failed, 5 where the site failed, 6 for want of memory, and 7 where `serve` or
-/// `audit` took 1,000,000 frames and more bytes were there.
+/// and `sample` aren't empty, or for `list` and `effective` no object has the name, or for `token`, `who` and `can`
+/// there is no answer, 4 where the source failed, 5 where the site failed, 6 for want of memory, and 7 where `serve`
+/// or `audit` took 1,000,000 frames and more bytes were there.
 pub fn run<I: Source, S: Site>(alloc: Global, words: &[String], source: &mut I, site: &mut S) -> u8
     // Exactly where the words are no form, and then nothing is done.
     ensures words { (result ≡ 2) ↔ (is_form (map string_bytes words.now) ≡ false) }
     ensures untouched { result ≡ 2 → (source.new ≡ source.old) × (site.new ≡ site.old) }
     // The status is that of an outcome, with which the command does what its rules say.
     ensures does { (outcome : Outcome) × (result ≡ status_of outcome)
-        × Does I.Source S.Site (command_of (map string_bytes words.now)) (name_given (map string_bytes words.now))
+        × Does I.Source S.Site (command_of (map string_bytes words.now))
+        (name_given (map string_bytes words.now))
         (more_given (map string_bytes words.now)) source.old source.new site.old site.new outcome }
     // A failure has its cause outside. A slot is touched only where the words name a store.
     ensures source_failed { result ≡ 4 → HasRisen (I.faults source.old) (I.faults source.new) }
-    ensures site_failed { result ≡ 5 → HasRisen (S.slot_faults site.old) (S.slot_faults site.new) ⊎ HasRisen (S.out_faults site.old) (S.out_faults site.new) }
+    ensures site_failed { result ≡ 5 → HasRisen (S.slot_faults site.old) (S.slot_faults site.new)
+        ⊎ HasRisen (S.out_faults site.old) (S.out_faults site.new) }
     ensures slots { is_store_form (map string_bytes words.now) ≡ false
-        → (S.slot_faults site.new ≡ S.slot_faults site.old) × (result ≡ 5 → HasRisen (S.out_faults site.old) (S.out_faults site.new)) }
+        → (S.slot_faults site.new ≡ S.slot_faults site.old)
+        × (result ≡ 5 → HasRisen (S.out_faults site.old) (S.out_faults site.new)) }
 {
     match command_of(words) {
         Some(Command::Access) => access(alloc, source, site).status(),

@@ -7,7 +7,8 @@ use Rattle.adsd_c.specs.Delivery.{Refuses, Delivers}
 
 -- It is the one that was expected, or that of want of memory.
 pub refused : (fault : Refusal) (expected : Result (List ℕ) Refusal) (code : ℕ) (kept : List ℕ) (size : ℕ)
-    → (is_memory fault ≡ false → expected ≡ Err fault) → Refuses fault code kept kept size → Delivers expected code kept kept size
+    → (is_memory fault ≡ false → expected ≡ Err fault) → Refuses fault code kept kept size
+    → Delivers expected code kept kept size
 refused refusal.Memory expected code kept size by told = inr told
 refused refusal.Sd expected code kept size by told = rw (by refl) (inl told)
 refused refusal.Parent expected code kept size by told = rw (by refl) (inl told)

@@ -108,7 +108,8 @@ pub extern "C" fn adsd_granted(
     want: u32,
     mask: &mut u32,
 ) -> u32
-    ensures { TellsUnless (IsMask want) (question_of sd.now token.now own.now path.now) result mask.new }
+    ensures { TellsUnless (IsMask want) (question_of sd.now token.now own.now path.now) result
+        mask.new }
 {
     tell(granted_of(alloc, sd, token, own, path, want), mask)
 }
@@ -130,7 +131,8 @@ pub extern "C" fn adsd_granted_normal(
     want: u32,
     mask: &mut u32,
 ) -> u32
-    ensures { TellsUnless (IsMask want) (normal_question normal.now token.now own.now path.now) result mask.new }
+    ensures { TellsUnless (IsMask want) (normal_question normal.now token.now own.now path.now)
+        result mask.new }
 {
     tell(
         granted_of_normal(alloc, normal, token, own, path, want),
@@ -149,7 +151,8 @@ fn granted_at(
     given: &[TypeNode],
     want: u32,
 ) -> Result<Vec<u32>, Refusal>
-    ensures { JudgesEach (λ v. v.items) want result (tree_question sd.now token.now own.now given.now) }
+    ensures { JudgesEach (λ v. v.items) want result
+        (tree_question sd.now token.now own.now given.now) }
 {
     let kept = kept_sd(alloc, sd, Refusal::Sd)?;
     let caller = caller_of(alloc, token, own)?;
@@ -186,7 +189,8 @@ fn put_masks(found: &[u32], masks: &mut [u32]) -> u32
 
 // Gives the masks to the caller, of which there are none where there is no answer.
 fn tell_each(answer: Result<Vec<u32>, Refusal>, masks: &mut [u32]) -> u32
-    ensures { (want : ℕ) (question : Result TreeQuestion RefusalValue) → JudgesEach (λ v. v.items) want answer question
+    ensures { (want : ℕ) (question : Result TreeQuestion RefusalValue) → JudgesEach (λ v. v.items)
+        want answer question
         → TellsEachUnless want question result masks.new }
 {
     clear(masks);
@@ -217,7 +221,8 @@ pub extern "C" fn adsd_check_tree(
     want: u32,
     masks: &mut [u32],
 ) -> u32
-    ensures { TellsEachUnless want (tree_question sd.now token.now own.now nodes.now) result masks.new }
+    ensures { TellsEachUnless want (tree_question sd.now token.now own.now nodes.now) result
+        masks.new }
 {
     tell_each(granted_at(alloc, sd, token, own, nodes, want), masks)
 }

@@ -33,7 +33,8 @@ fn refuse(fault: Refusal, size: &mut usize) -> u32
 
 /// Gives the answer to the caller.
 pub(crate) fn deliver(answer: Result<Vec<u8>, Refusal>, out: &mut [u8], size: &mut usize) -> u32
-    ensures { (expected : Result (List ℕ) RefusalValue) → GivesUnless is_memory (λ v. v.items) answer expected
+    ensures { (expected : Result (List ℕ) RefusalValue) → GivesUnless is_memory (λ v. v.items)
+        answer expected
         → Delivers expected result out.old out.new size.new }
 {
     match answer {

@@ -71,7 +71,8 @@ fn whole_of(
     own: &NormalSd,
     class: Guid,
 ) -> Result<Vec<u8>, Refusal>
-    ensures { GivesUnless is_memory (λ v. v.items) result (sd_bytes (whole parent.now own.now class)) }
+    ensures { GivesUnless is_memory (λ v. v.items) result
+        (sd_bytes (whole parent.now own.now class)) }
 {
     let sd = whole(alloc, parent.view(), own.view(), class)?;
     bytes_of(alloc, sd)
@@ -120,13 +121,13 @@ pub extern "C" fn adsd_normal_from_sd(
     deliver(normal_from_sd(alloc, sd), out, size)
 }
 
-/// The parts that are asked for of the descriptor whose normal bytes are given, as a self-relative one: 1 the owner, 2
-/// the group, 4 the DACL, 8 the SACL, 15 all.
+/// The parts that are asked for of the descriptor whose normal bytes are given, as a self-relative one: 1 the owner,
+/// 2 the group, 4 the DACL, 8 the SACL, 15 all.
 ///
 /// # Errors
 ///
-/// `ADSD_NORMAL` where the bytes are the normal bytes of no descriptor; then `ADSD_TOO_LONG` where a list that is asked
-/// for takes more than 65,535 bytes.
+/// `ADSD_NORMAL` where the bytes are the normal bytes of no descriptor; then `ADSD_TOO_LONG` where a list that is
+/// asked for takes more than 65,535 bytes.
 #[unsafe(no_mangle)]
 pub extern "C" fn adsd_sd_from_normal(
     alloc: Global,
@@ -158,7 +159,8 @@ pub extern "C" fn adsd_inherit(
     out: &mut [u8],
     size: &mut usize,
 ) -> u32
-    ensures { Delivers (inherited parent.now sd.now object_class.now) result out.old out.new size.new }
+    ensures { Delivers (inherited parent.now sd.now object_class.now) result out.old out.new
+        size.new }
 {
     deliver(inherited(alloc, parent, sd, object_class), out, size)
 }

@@ -86,7 +86,8 @@ pub(crate) fn path_of(bytes: &[u8]) -> Result<Path, Refusal>
 
 /// The token that the bytes are.
 pub(crate) fn token(alloc: Global, bytes: &[u8]) -> Result<Token, Refusal>
-    ensures { GivesUnless is_memory (λ token. token) result (or_fault refusal.Token (token_of bytes.now)) }
+    ensures { GivesUnless is_memory (λ token. token) result
+        (or_fault refusal.Token (token_of bytes.now)) }
 {
     match Token::from_bytes(alloc, bytes) {
         Ok(token) => Ok(token),

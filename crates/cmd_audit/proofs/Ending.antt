@@ -8,7 +8,8 @@ use Rattle.ad_dir_model.specs.Directory.{Directory}
 use Rattle.ad_rows_write.specs.Rows.{IsStoreOf}
 use Rattle.ad_frames.specs.declared.frame.Frame.{Frame}
 use Rattle.ad_frames.specs.Frames.{End, Whole, Over, Bad, frames_of}
-use Rattle.cmd_call.specs.declared.outcome.Outcome.TheVariants.{Done, NotOfForm, TooMany, SourceFailed, SiteFailed, NoMemory}
+use Rattle.cmd_call.specs.declared.outcome.Outcome.TheVariants.{Done, NotOfForm, TooMany, SourceFailed, SiteFailed}
+use Rattle.cmd_call.specs.declared.outcome.Outcome.TheVariants.{NoMemory}
 use Rattle.cmd_call.specs.Call.{IsTold}
 use Rattle.cmd_call.specs.Store.{HasFailed, Emits, EmitsPart, KeepsSlots}
 use Rattle.cmd_call.proofs.Moments.{told_clash, told_map, told_meets}
@@ -21,12 +22,16 @@ use Rattle.cmd_audit.specs.Log.{audit_text}
 use Rattle.cmd_audit.specs.Steps.{Ended}
 use Rattle.cmd_audit.proofs.Fold.{text_append}
 
-complete_at : (end other : End) (frames : List Frame) (r : Option (List ℕ)) → IfSome r (AreAll end frames) → IsTold (EndsAs other) r → outcome_at end ≡ outcome_at other
-complete_at end other frames r all ends = told_meets (EndsAs other) (AreAll end frames) r (λ input is have. ap outcome_at (sym have.1 ∙ is)) ends all
+complete_at : (end other : End) (frames : List Frame) (r : Option (List ℕ)) → IfSome r (AreAll end frames)
+    → IsTold (EndsAs other) r → outcome_at end ≡ outcome_at other
+complete_at end other frames r all ends = told_meets (EndsAs other) (AreAll end frames) r
+    (λ input is have. ap outcome_at (sym have.1 ∙ is)) ends all
 
 module _ {S : Type 0} (site : SiteGhosts S) where
-  no_dir : (dir : Directory) (old : S) → IfSome (site.reads old) (λ held. IsStoreOf held dir) → IsTold NoDirStore (site.reads old) → ⊥
-  no_dir dir old store none = told_clash NoDirStore (λ held. IsStoreOf held dir) (site.reads old) (λ held no is. no (dir, is)) none store
+  no_dir : (dir : Directory) (old : S) → IfSome (site.reads old) (λ held. IsStoreOf held dir)
+      → IsTold NoDirStore (site.reads old) → ⊥
+  no_dir dir old store none = told_clash NoDirStore (λ held. IsStoreOf held dir) (site.reads old)
+      (λ held no is. no (dir, is)) none store
 
   -- What was told of these frames, from a store of the directory, whose slots are kept.
   pub record Told (dir : Directory) (frames : List Frame) (old new : S) : Type 0 where
@@ -41,29 +46,37 @@ module _ {S : Type 0} (site : SiteGhosts S) where
     pub keeps : KeepsSlots site old new
 
 module _ {I S : Type 0} (source : SourceGhosts I) (site : SiteGhosts S) where
-  audited_of : (end : End) (from : I) (dir : Directory) (frames : List Frame) (old new : S) → Told site dir frames old new
+  audited_of : (end : End) (from : I) (dir : Directory) (frames : List Frame) (old new : S) → Told site dir frames old
+      new
       → IfSome (source.rest from) (AreAll end frames) → IsAudited source site end from old new
   audited_of end from dir frames old new so_far all = record {
     dir = dir;
     store = so_far.store;
     told = told_map _ _ (source.rest from)
-        (λ input is. (is.1, subst (λ (l : List Frame). Emits (site.emitted old) (site.emitted new) (audit_text dir l)) (sym is.0) so_far.all)) all;
+        (λ input is. (
+          is.1,
+          subst (λ (l : List Frame). Emits (site.emitted old) (site.emitted new) (audit_text dir l))
+              (sym is.0) so_far.all,
+        )) all;
   }
 
-  partly_of : (from : I) (dir : Directory) (frames : List Frame) (old new : S) → PartTold site dir frames old new → Fronts frames (source.rest from)
+  partly_of : (from : I) (dir : Directory) (frames : List Frame) (old new : S) → PartTold site dir frames old new
+      → Fronts frames (source.rest from)
       → IsPartlyAudited source site from old new
   partly_of from dir frames old new so_far fronts = inr (
     dir,
     so_far.store,
     told_map _ _ (source.rest from) (λ input first. let more = text_append dir frames first.0 in
-        part_longer (site.emitted old) (site.emitted new) (audit_text dir frames) more.0 (audit_text dir (frames_of input).frames)
+        part_longer (site.emitted old) (site.emitted new) (audit_text dir frames) more.0
+        (audit_text dir (frames_of input).frames)
         (ap (audit_text dir) first.1 ∙ more.1) so_far.part) fronts,
   )
 
   -- ---- the input ends
 
   pub ends_whole : (from to : I) (dir : Directory) (frames : List Frame) (old new : S) → Told site dir frames old new
-      → IfSome (source.rest from) (AreAll Whole frames) → IsReadOut source site from to → Ended source site from to old new Done
+      → IfSome (source.rest from) (AreAll Whole frames) → IsReadOut source site from to → Ended source site from to
+      old new Done
   ends_whole from to dir frames old new so_far all out = record {
     does = record {
       done = λ _. (audited_of Whole from dir frames old new so_far all, out);
@@ -124,7 +137,8 @@ module _ {I S : Type 0} (source : SourceGhosts I) (site : SiteGhosts S) where
   -- ---- it is cut off
 
   pub ends_cut : (from to : I) (dir : Directory) (frames : List Frame) (old new : S) → PartTold site dir frames old new
-      → Fronts frames (source.rest from) → HasRisen (source.faults from) (source.faults to) → Ended source site from to old new SourceFailed
+      → Fronts frames (source.rest from) → HasRisen (source.faults from) (source.faults to)
+      → Ended source site from to old new SourceFailed
   ends_cut from to dir frames old new so_far fronts risen = record {
     does = record {
       done = λ no. absurd cc;
@@ -142,7 +156,8 @@ module _ {I S : Type 0} (source : SourceGhosts I) (site : SiteGhosts S) where
     site_failed = λ no. absurd cc;
   }
 
-  pub ends_memory : (from to : I) (dir : Directory) (frames : List Frame) (old new : S) → PartTold site dir frames old new
+  pub ends_memory : (from to : I) (dir : Directory) (frames : List Frame) (old new : S) → PartTold site dir frames old
+      new
       → Fronts frames (source.rest from) → Ended source site from to old new NoMemory
   ends_memory from to dir frames old new so_far fronts = record {
     does = record {
@@ -161,7 +176,8 @@ module _ {I S : Type 0} (source : SourceGhosts I) (site : SiteGhosts S) where
     site_failed = λ no. absurd cc;
   }
 
-  pub ends_failed : (from to : I) (dir : Directory) (frames : List Frame) (old new : S) → PartTold site dir frames old new
+  pub ends_failed : (from to : I) (dir : Directory) (frames : List Frame) (old new : S) → PartTold site dir frames old
+      new
       → Fronts frames (source.rest from) → HasFailed site old new → Ended source site from to old new SiteFailed
   ends_failed from to dir frames old new so_far fronts failed = record {
     does = record {

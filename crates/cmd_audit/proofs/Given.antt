@@ -10,5 +10,6 @@ pub tried_as : {E : Type 0} (r : Result (Vec Tried) E) (given wanted : List Trie
 tried_as (Ok tried) given wanted same is = is ∙ same
 tried_as (Err e) given wanted same is = tt
 
-pub tried_none : (tried : Vec Tried) → tried.items ≡ [] → (wanted : List TriedValue) → [] ≡ wanted → tried_values tried.items ≡ wanted
+pub tried_none : (tried : Vec Tried) → tried.items ≡ [] → (wanted : List TriedValue) → [] ≡ wanted
+    → tried_values tried.items ≡ wanted
 tried_none tried none wanted same = ap tried_values none ∙ same

@@ -1,5 +1,6 @@
 -- The descriptor by which something is judged is that of the object.
-use Rattle.std.proofs.Common.{◌≡◌, ◌∙◌, ℕ, suc, ◌+◌, ◌<◌, ◌≤◌, Bool, true, false, Option, Some, None, List, [], ◌∷◌, ◌++◌, get_or, length, take, drop, drop-cons, append_assoc, refl, sym, ap, arith}
+use Rattle.std.proofs.Common.{◌≡◌, ◌∙◌, ℕ, suc, ◌+◌, ◌<◌, ◌≤◌, Bool, true, false, Option, Some, None, List, [], ◌∷◌}
+use Rattle.std.proofs.Common.{◌++◌, get_or, length, take, drop, drop-cons, append_assoc, refl, sym, ap, arith}
 use Rattle.std.specs.List.{flat_map}
 use Rattle.std.proofs.lemmas.List.{take_more, append-nil, drop_all}
 use Rattle.ad_ids.specs.declared.guid.Guid.{Guid}
@@ -33,12 +34,14 @@ last_push [] guid = refl
 last_push (first ∷ []) guid = refl
 last_push (first ∷ second ∷ others) guid = last_push (second ∷ others) guid
 
-pub last_more : (guids : List Guid) (i : ℕ) (d : Guid) → i < length guids → Some (get_or guids i d) ≡ last_guid (take (i + 1) guids)
+pub last_more : (guids : List Guid) (i : ℕ) (d : Guid) → i < length guids → Some (get_or guids i d)
+    ≡ last_guid (take (i + 1) guids)
 last_more guids i d lt = sym (last_push (take i guids) (get_or guids i d)) ∙ ap last_guid (sym (take_more guids i d lt))
 
 -- ---- one line more
 
-pub line_more : (f : TriedValue → List ℕ) (tried : List Tried) (i : ℕ) (d : Tried) (whole text next : List ℕ) → i < length tried
+pub line_more : (f : TriedValue → List ℕ) (tried : List Tried) (i : ℕ) (d : Tried) (whole text next : List ℕ) → i
+    < length tried
     → next ≡ text ++ f (tried_value (get_or tried i d)) → whole ≡ text ++ flat_map f (tried_values (drop i tried))
     → whole ≡ next ++ flat_map f (tried_values (drop (i + 1) tried))
 line_more f tried i d whole text next lt is so_far =

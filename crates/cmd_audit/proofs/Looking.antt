@@ -3,7 +3,8 @@ use Rattle.std.proofs.Common.{◌≡◌, ℕ, Bool, true, false, Option, None, L
 use Rattle.std.specs.Prelude.{unwrap_or, if◌then◌else◌}
 use Rattle.ad_ids.specs.declared.token.Token.{Token}
 use Rattle.ad_ldap.specs.declared.fault.LdapFault.{LdapFault}
-use Rattle.ad_ldap.specs.MessageValue.{MessageValue, OpValue, Bind, Unbind, SearchOf, ModifyOf, AddOf, DeleteOf, RenameOf, CompareOf, Abandon, Extended}
+use Rattle.ad_ldap.specs.MessageValue.{MessageValue, OpValue, Bind, Unbind, SearchOf, ModifyOf, AddOf, DeleteOf}
+use Rattle.ad_ldap.specs.MessageValue.{RenameOf, CompareOf, Abandon, Extended}
 use Rattle.ad_ldap.specs.MessageReading.{message_of}
 use Rattle.ad_dir_model.specs.Directory.{Directory}
 use Rattle.ad_frames.specs.declared.frame.Frame.{Frame}
@@ -35,8 +36,10 @@ decided_looks : (dir : Directory) (token : Token) (r : Result MessageValue LdapF
 decided_looks dir token (Ok m) is = looks_replies dir token m m.op is
 decided_looks dir token (Err fault) is = absurd cc
 
-message_same : (dir : Directory) (tokens : List (Option Token)) (connection : ℕ) (bytes : List ℕ) → message_looks bytes ≡ true
-    → ((message_answered dir tokens connection bytes).directory ≡ dir) × ((message_answered dir tokens connection bytes).tokens ≡ tokens)
+message_same : (dir : Directory) (tokens : List (Option Token)) (connection : ℕ) (bytes : List ℕ)
+    → message_looks bytes ≡ true
+    → ((message_answered dir tokens connection bytes).directory ≡ dir)
+    × ((message_answered dir tokens connection bytes).tokens ≡ tokens)
 unfolding message_looks message_decided
 message_same dir tokens connection bytes is =
     let same = decided_looks dir (token_of tokens connection) (message_of bytes) is in (
@@ -45,7 +48,8 @@ message_same dir tokens connection bytes is =
     )
 
 body_same : (dir : Directory) (tokens : List (Option Token)) (connection : ℕ) (b : FrameBody) → body_looks b ≡ true
-    → ((body_answered dir tokens connection b).directory ≡ dir) × ((body_answered dir tokens connection b).tokens ≡ tokens)
+    → ((body_answered dir tokens connection b).directory ≡ dir)
+    × ((body_answered dir tokens connection b).tokens ≡ tokens)
 body_same dir tokens connection (body.Message bytes) is = message_same dir tokens connection bytes is
 body_same dir tokens connection (body.Token token) is = absurd cc
 body_same dir tokens connection (body.Steps n) is = absurd cc

@@ -15,14 +15,25 @@ use Rattle.cmd_store.specs.serving.One.{of_open}
 use Rattle.cmd_audit.specs.Steps.{Ended}
 
 module _ {I S : Type 0} (source : SourceGhosts I) (site : SiteGhosts S) where
-  refused : (from : I) (x y : S) (why : OpenFault) → OnlyLooks site x y → is_outside why ≡ false → IfSome (site.reads x) (λ held. Refuses held why)
+  refused : (from : I) (x y : S) (why : OpenFault) → OnlyLooks site x y → is_outside why ≡ false
+      → IfSome (site.reads x) (λ held. Refuses held why)
       → Ended source site from from x y NoStore
   refused from x y why looks within none = record {
     does = record {
       done = λ no. absurd cc;
       bad = λ no. absurd cc;
       over = λ no. absurd cc;
-      no_store = λ _. (record { fault = why; inside = within; store = none; quiet = looks.output; slots = looks_keep site x y looks }, refl);
+      no_store = λ _. (
+        record {
+          fault = why;
+          inside = within;
+          store = none;
+          quiet = looks.output;
+          slots
+              = looks_keep site x y looks;
+        },
+        refl,
+      );
       partly = λ no. ⊎_elim (λ a. absurd cc) (λ rest. ⊎_elim (λ b. absurd cc) (λ c. absurd cc) rest) no;
       complete = λ _ stands _ _. absurd (never_refused why (site.reads x) stands none);
       refuses = λ _ _. inl refl;
@@ -71,11 +82,16 @@ module _ {I S : Type 0} (source : SourceGhosts I) (site : SiteGhosts S) where
     site_failed = λ no. absurd cc;
   }
 
-  pub unopened : (from : I) (x y : S) (why : OpenFault) → OnlyLooks site x y → IfSome (site.reads x) (λ held. IsOpenedAs held (Err why))
-      → (why ≡ fault.Site → HasRisen (site.slot_faults x) (site.slot_faults y)) → Ended source site from from x y (of_open why)
-  unopened from x y fault.Taken looks opened risen = refused from x y fault.Taken looks refl (inside (site.reads x) fault.Taken refl opened)
-  unopened from x y fault.Empty looks opened risen = refused from x y fault.Empty looks refl (inside (site.reads x) fault.Empty refl opened)
-  unopened from x y fault.Broken looks opened risen = refused from x y fault.Broken looks refl (inside (site.reads x) fault.Broken refl opened)
+  pub unopened : (from : I) (x y : S) (why : OpenFault) → OnlyLooks site x y
+      → IfSome (site.reads x) (λ held. IsOpenedAs held (Err why))
+      → (why ≡ fault.Site → HasRisen (site.slot_faults x) (site.slot_faults y)) → Ended source site from from x y
+      (of_open why)
+  unopened from x y fault.Taken looks opened risen = refused from x y fault.Taken looks refl
+      (inside (site.reads x) fault.Taken refl opened)
+  unopened from x y fault.Empty looks opened risen = refused from x y fault.Empty looks refl
+      (inside (site.reads x) fault.Empty refl opened)
+  unopened from x y fault.Broken looks opened risen = refused from x y fault.Broken looks refl
+      (inside (site.reads x) fault.Broken refl opened)
   unopened from x y (fault.Row kind number) looks opened risen =
       refused from x y (fault.Row kind number) looks refl (inside (site.reads x) (fault.Row kind number) refl opened)
   unopened from x y (fault.Unsound number) looks opened risen =

@@ -27,7 +27,8 @@ use Rattle.cmd_audit.specs.Tries.{message_tries}
 -- the object is there, and its descriptor as it is stored asks for the event
 unfoldable pub is_audited : Directory → Token → TriedValue → Bool
 is_audited dir token t =
-    option_map_or (λ (o : Object). is_some (audited o.sd token (self_sid dir t.object) t.path t.right t.success)) (object_of dir.objects t.object) false
+    option_map_or (λ (o : Object). is_some (audited o.sd token (self_sid dir t.object) t.path t.right t.success))
+    (object_of dir.objects t.object) false
 
 abbrev pub last_guid : List Guid → Option Guid
 last_guid [] = None
@@ -66,14 +67,16 @@ body_lines dir token stamp (body.Steps _) = []
 body_lines dir token stamp body.Run = []
 
 unfoldable pub frame_lines : Directory → List (Option Token) → ℕ → Frame → List ℕ
-frame_lines dir tokens number frame = body_lines dir (token_of tokens frame.connection) (stamp_of number frame.connection) frame.body
+frame_lines dir tokens number frame = body_lines dir (token_of tokens frame.connection)
+    (stamp_of number frame.connection) frame.body
 
 -- ---- all of them, one after the other; the first has this number
 
 unfoldable pub audit_from : ℕ → Directory → List (Option Token) → List Frame → List ℕ
 audit_from number dir tokens [] = []
 audit_from number dir tokens (frame ∷ frames) =
-    frame_lines dir tokens number frame ++ audit_from (suc number) (answer dir tokens frame).directory (answer dir tokens frame).tokens frames
+    frame_lines dir tokens number frame ++ audit_from (suc number) (answer dir tokens frame).directory
+    (answer dir tokens frame).tokens frames
 
 -- from the start, where no connection has a token
 abbrev pub audit_text : Directory → List Frame → List ℕ

@@ -22,7 +22,8 @@ behind state frame = record {
 
 unfoldable pub tokens_from : Directory → List (Option Token) → List Frame → List (Option Token)
 tokens_from dir tokens [] = tokens
-tokens_from dir tokens (frame ∷ frames) = tokens_from (answer dir tokens frame).directory (answer dir tokens frame).tokens frames
+tokens_from dir tokens (frame ∷ frames) = tokens_from (answer dir tokens frame).directory
+    (answer dir tokens frame).tokens frames
 
 -- from the start
 abbrev pub tokens_after : Directory → List Frame → List (Option Token)

@@ -43,15 +43,18 @@ module _ {S : Type 0} (site : SiteGhosts S) where
     pub failed : IfErr result (λ outcome. (outcome ≡ SiteFailed) × HasRisen (site.out_faults old) (site.out_faults new))
 
   -- The frame was judged and served, and its lines were emitted; or a part of them, or memory ran out.
-  pub record TellsFrame (before after : State) (number : ℕ) (frame : Frame) (old new : S) (result : Result (Unit {0}) Outcome) : Type 0 where
+  pub record TellsFrame (before after : State) (number : ℕ) (frame : Frame) (old new : S)
+      (result : Result (Unit {0}) Outcome) : Type 0 where
     pub served : OnOk result (after ≡ behind before frame)
-    pub whole : OnOk result (Emits (site.emitted old) (site.emitted new) (frame_lines before.directory before.tokens number frame))
+    pub whole : OnOk result (Emits (site.emitted old) (site.emitted new)
+        (frame_lines before.directory before.tokens number frame))
     pub part : EmitsPart (site.emitted old) (site.emitted new) (frame_lines before.directory before.tokens number frame)
     pub keeps : KeepsSlots site old new
     pub moments : GoesOn (site.now old) (site.now new) (site.left old) (site.left new)
     pub never_falls : site.out_faults old ≤ site.out_faults new
     pub slot_faults : site.slot_faults new ≡ site.slot_faults old
-    pub failed : IfErr result (λ outcome. (outcome ≡ NoMemory) ⊎ ((outcome ≡ SiteFailed) × HasRisen (site.out_faults old) (site.out_faults new)))
+    pub failed : IfErr result (λ outcome. (outcome ≡ NoMemory)
+        ⊎ ((outcome ≡ SiteFailed) × HasRisen (site.out_faults old) (site.out_faults new)))
 
 module _ {I S : Type 0} (source : SourceGhosts I) (site : SiteGhosts S) where
   -- what the command did, and that a failure has its cause
@@ -62,5 +65,6 @@ module _ {I S : Type 0} (source : SourceGhosts I) (site : SiteGhosts S) where
 
   -- the same since any earlier moment from which on the slots, which represented the directory, were only looked at
   abbrev pub IsAuditedSince : Directory → I → I → S → S → Outcome → Type 0
-  IsAuditedSince dir from to opened new outcome = (old : S) → OnlyLooks site old opened → IfSome (site.reads old) (λ held. IsStoreOf held dir)
+  IsAuditedSince dir from to opened new outcome = (old : S) → OnlyLooks site old opened → IfSome (site.reads old)
+      (λ held. IsStoreOf held dir)
       → Ended from to old new outcome

@@ -3,7 +3,8 @@ use Rattle.std.specs.Prelude.{ℕ, Bool, true, false, List, [], Result, Ok, Err}
 use Rattle.ad_ids.specs.declared.token.Token.{Token}
 use Rattle.ad_ldap.specs.declared.fault.LdapFault.{LdapFault}
 use Rattle.ad_ldap.specs.declared.controls.Settings.{Settings}
-use Rattle.ad_ldap.specs.MessageValue.{MessageValue, OpValue, Bind, Unbind, SearchOf, ModifyOf, AddOf, DeleteOf, RenameOf, CompareOf, Abandon, Extended}
+use Rattle.ad_ldap.specs.MessageValue.{MessageValue, OpValue, Bind, Unbind, SearchOf, ModifyOf, AddOf, DeleteOf}
+use Rattle.ad_ldap.specs.MessageValue.{RenameOf, CompareOf, Abandon, Extended}
 use Rattle.ad_ldap.specs.MessageReading.{message_of}
 use Rattle.ad_ldap.specs.Settings.{settings_of}
 use Rattle.ad_dir_model.specs.Directory.{Directory}
@@ -22,7 +23,8 @@ change_tries dir token m = with_settings (λ settings. trace_of dir token m.op s
 
 -- A search and a compare try what they read, and a change what it needs. Nothing else tries anything.
 abbrev pub op_tries : Directory → Token → MessageValue → OpValue → List TriedValue
-op_tries dir token m (SearchOf s) = with_settings (λ settings. reads_of dir token m.id s settings.sd_flags) (settings_of m)
+op_tries dir token m (SearchOf s) = with_settings (λ settings. reads_of dir token m.id s settings.sd_flags)
+    (settings_of m)
 op_tries dir token m (CompareOf c) = with_settings (λ settings. compared_of dir token c) (settings_of m)
 op_tries dir token m (ModifyOf _) = change_tries dir token m
 op_tries dir token m (AddOf _) = change_tries dir token m

@@ -54,7 +54,8 @@ fn audit_frames<I: Source, S: Site>(
     replay: &mut Replay,
 ) -> Outcome
     requires { replay.old.tokens ≡ [] }
-    ensures { IsAuditedSince I.Source S.Site replay.old.directory source.old source.new site.old site.new result }
+    ensures { IsAuditedSince I.Source S.Site replay.old.directory source.old source.new site.old
+        site.new result }
 {
     for done in 0..MAX_FRAMES {
         match next_frame(alloc, source) {
@@ -78,7 +79,8 @@ fn audit_opened<I: Source, S: Site>(
 ) -> Outcome
     requires stands { StandsUnkept engine }
     requires tokens { engine.tokens ≡ [] }
-    ensures { IsAuditedSince I.Source S.Site engine.dir source.old source.new site.old site.new result }
+    ensures { IsAuditedSince I.Source S.Site engine.dir source.old source.new site.old site.new
+        result }
 {
     let mut replay = Replay::new(engine);
     audit_frames(alloc, source, site, &mut replay)
@@ -91,7 +93,8 @@ fn audit_opened<I: Source, S: Site>(
 /// the slots represent no directory nothing is emitted.
 pub fn audit<I: Source, S: Site>(alloc: Global, source: &mut I, site: &mut S) -> Outcome
     ensures does { AuditDoes I.Source S.Site source.old source.new site.old site.new result }
-    ensures source_failed { result ≡ SourceFailed → HasRisen (I.faults source.old) (I.faults source.new) }
+    ensures source_failed { result ≡ SourceFailed → HasRisen (I.faults source.old)
+        (I.faults source.new) }
     ensures site_failed { result ≡ SiteFailed → HasFailed S.Site site.old site.new }
 {
     match Engine::resume(alloc, site) {

@@ -73,7 +73,8 @@ fn line_of(
     tried: &Tried,
 ) -> Result<Vec<u8>, AllocError>
     requires { is_live dir.now.objects tried.now.object ≡ true }
-    ensures { IfOk result (λ text. text.items ≡ event_line (event_of dir.now token.now stamp (tried_value tried.now))) }
+    ensures { IfOk result (λ text. text.items
+        ≡ event_line (event_of dir.now token.now stamp (tried_value tried.now))) }
 {
     let dn = name_of(alloc, dir, tried.object)?;
     let event = Event {
@@ -97,7 +98,8 @@ fn put_line(
     tried: &Tried,
     into: &mut Vec<u8>,
 ) -> Result<(), AllocError>
-    ensures { OnOk result (into.new.items ≡ into.old.items ++ lines_of_one dir.now token.now stamp (tried_value tried.now)) }
+    ensures { OnOk result (into.new.items ≡ into.old.items ++ lines_of_one dir.now token.now stamp
+        (tried_value tried.now)) }
 {
     if !is_audited(dir, token, tried) {
         return Ok(());
@@ -116,7 +118,8 @@ pub(crate) fn lines_of(
     stamp: Stamp,
     tried: &[Tried],
 ) -> Result<Vec<u8>, AllocError>
-    ensures { IfOk result (λ text. text.items ≡ lines_of dir.now token.now stamp (tried_values tried.now)) }
+    ensures { IfOk result (λ text. text.items ≡ lines_of dir.now token.now stamp
+        (tried_values tried.now)) }
 {
     let mut text = Vec::new(alloc);
     for one in tried {

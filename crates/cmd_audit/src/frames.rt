@@ -29,7 +29,8 @@ fn judge_message(
     stamp: Stamp,
     bytes: &[u8],
 ) -> Result<Judged, AllocError>
-    ensures text { IfOk result (λ judged. judged.text.items ≡ lines_of dir.now token.now stamp (message_tries dir.now token.now bytes.now)) }
+    ensures text { IfOk result (λ judged. judged.text.items ≡ lines_of dir.now token.now stamp
+        (message_tries dir.now token.now bytes.now)) }
     ensures looks { IfOk result (λ judged. judged.looks ≡ message_looks bytes.now) }
 {
     let heard = hear(alloc, dir, token, bytes)?;
@@ -59,7 +60,8 @@ fn judge(
     stamp: Stamp,
     body: &FrameBody,
 ) -> Result<Judged, AllocError>
-    ensures text { IfOk result (λ judged. judged.text.items ≡ body_lines dir.now token.now stamp body.now) }
+    ensures text { IfOk result (λ judged. judged.text.items ≡ body_lines dir.now token.now stamp
+        body.now) }
     ensures looks { IfOk result (λ judged. judged.looks ≡ body_looks body.now) }
 {
     match body {
@@ -78,7 +80,8 @@ fn judge_frame(
     number: u32,
     frame: &Frame,
 ) -> Result<Judged, AllocError>
-    ensures text { IfOk result (λ judged. judged.text.items ≡ frame_lines replay.now.directory replay.now.tokens number frame.now) }
+    ensures text { IfOk result (λ judged. judged.text.items ≡ frame_lines replay.now.directory
+        replay.now.tokens number frame.now) }
     ensures looks { IfOk result (λ judged. judged.looks ≡ body_looks frame.now.body) }
 {
     let stamp = Stamp {
@@ -116,7 +119,8 @@ pub(crate) fn next_lines(
     number: u32,
     frame: &Frame,
 ) -> Result<Vec<u8>, AllocError>
-    ensures lines { IfOk result (λ text. text.items ≡ frame_lines replay.old.directory replay.old.tokens number frame.now) }
+    ensures lines { IfOk result (λ text. text.items ≡ frame_lines replay.old.directory
+        replay.old.tokens number frame.now) }
     ensures served { OnOk result (replay.new ≡ behind replay.old frame.now) }
 {
     let judged = judge_frame(alloc, replay, number, frame)?;

@@ -24,7 +24,8 @@ pub fn each_frame_is_judged_before_it_is_served()
 /// As long as no stored SACL has an audit entry of its object itself, before each frame, nothing is ever audited.
 pub fn what_asks_for_nothing_audits_nothing()
     ensures { (dir : Directory) (frames : List FrameValue)
-        → ((n number : ℕ) → list_any is_audit (sd_at (after_first dir frames n).objects number).sacl.entries ≡ false)
+        → ((n number : ℕ) → list_any is_audit
+        (sd_at (after_first dir frames n).objects number).sacl.entries ≡ false)
         → audit_text dir frames ≡ [] }
 {
     a_list_that_asks_for_nothing_audits_nothing();

@@ -35,7 +35,8 @@ fn of_search(
     request: &Search,
 ) -> Result<Vec<Tried>, AllocError>
     ensures { IfOk result (λ tried. tried_values tried.items
-        ≡ with_settings (λ s. reads_of dir.now token.now message.now.id (search_seen request.now) s.sd_flags) (settings_of (message_seen message.now))) }
+        ≡ with_settings (λ s. reads_of dir.now token.now message.now.id (search_seen request.now)
+        s.sd_flags) (settings_of (message_seen message.now))) }
 {
     match settings(message) {
         Ok(settings) => reads(alloc, dir, token, message.id, request, settings.sd_flags),
@@ -51,7 +52,8 @@ fn of_compare(
     request: &Compare,
 ) -> Result<Vec<Tried>, AllocError>
     ensures { IfOk result (λ tried. tried_values tried.items
-        ≡ with_settings (λ s. compared_of dir.now token.now request.now) (settings_of (message_seen message.now))) }
+        ≡ with_settings (λ s. compared_of dir.now token.now request.now)
+        (settings_of (message_seen message.now))) }
 {
     match settings(message) {
         Ok(_) => compared(alloc, dir, token, request),
@@ -66,7 +68,8 @@ fn of_change(
     message: &Message,
 ) -> Result<Vec<Tried>, AllocError>
     requires { IsChange (op_seen message.now.op) }
-    ensures { IfOk result (λ tried. tried_values tried.items ≡ change_tries dir.now token.now (message_seen message.now)) }
+    ensures { IfOk result (λ tried. tried_values tried.items ≡ change_tries dir.now token.now
+        (message_seen message.now)) }
 {
     match settings(message) {
         Ok(settings) => trace(alloc, dir, token, &message.op, &settings),
@@ -82,7 +85,8 @@ fn of_operation(
     message: &Message,
 ) -> Result<Vec<Tried>, AllocError>
     requires { HasOpRanges (op_seen message.now.op) }
-    ensures { IfOk result (λ tried. tried_values tried.items ≡ op_tries dir.now token.now (message_seen message.now) (op_seen message.now.op)) }
+    ensures { IfOk result (λ tried. tried_values tried.items ≡ op_tries dir.now token.now
+        (message_seen message.now) (op_seen message.now.op)) }
 {
     match &message.op {
         Op::Search(request) => of_search(alloc, dir, token, message, request),
@@ -124,7 +128,8 @@ fn of_message(
     message: &Message,
 ) -> Result<Heard, AllocError>
     requires { HasOpRanges (op_seen message.now.op) }
-    ensures tried { IfOk result (λ heard. tried_values heard.tried.items ≡ op_tries dir.now token.now (message_seen message.now) (op_seen message.now.op)) }
+    ensures tried { IfOk result (λ heard. tried_values heard.tried.items
+        ≡ op_tries dir.now token.now (message_seen message.now) (op_seen message.now.op)) }
     ensures looks { IfOk result (λ heard. heard.looks ≡ looks (op_seen message.now.op)) }
 {
     let tried = of_operation(alloc, dir, token, message)?;
@@ -157,7 +162,8 @@ pub(crate) fn hear(
     token: &Token,
     bytes: &[u8],
 ) -> Result<Heard, AllocError>
-    ensures tried { IfOk result (λ heard. tried_values heard.tried.items ≡ message_tries dir.now token.now bytes.now) }
+    ensures tried { IfOk result (λ heard. tried_values heard.tried.items
+        ≡ message_tries dir.now token.now bytes.now) }
     ensures looks { IfOk result (λ heard. heard.looks ≡ message_looks bytes.now) }
 {
     what_a_message_has();

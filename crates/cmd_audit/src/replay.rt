@@ -33,7 +33,8 @@ impl Model for Replay {
 
     ghost Value = { State };
 
-    ghost view = { λ replay. record { directory = replay.engine.dir; tokens = replay.engine.tokens } };
+    ghost view = { λ replay. record
+        { directory = replay.engine.dir; tokens = replay.engine.tokens } };
 
     ghost invariant = { λ replay. StandsUnkept replay.engine };
 }

@@ -12,7 +12,8 @@ use Rattle.cmd_call.proofs.Moments.{emits_on, part_on, looks_keep, keeps_said}
 -- All of it was emitted, a part since the output failed, or nothing for want of memory.
 pub data Tells {S : Type 0} (site : SiteGhosts S) (x z : S) (text : List ℕ) (next outcome : Outcome) : Type 0 where
   whole : outcome ≡ next → Emits (site.emitted x) (site.emitted z) text → Tells site x z text next outcome
-  part : outcome ≡ SiteFailed → HasRisen (site.out_faults x) (site.out_faults z) → EmitsPart (site.emitted x) (site.emitted z) text
+  part : outcome ≡ SiteFailed → HasRisen (site.out_faults x) (site.out_faults z) → EmitsPart (site.emitted x)
+      (site.emitted z) text
       → Tells site x z text next outcome
   nothing : outcome ≡ NoMemory → StaysTold (site.emitted x) (site.emitted z) → Tells site x z text next outcome
 
@@ -22,10 +23,12 @@ module _ {S : Type 0} (site : SiteGhosts S) where
     pub ends : Tells site x z text next outcome
     pub slots : KeepsSlots site x z
 
-  pub telling_by : (x y z : S) (text : List ℕ) (next outcome : Outcome) → OnlyLooks site x y → SaysUnless site y z text next outcome
+  pub telling_by : (x y z : S) (text : List ℕ) (next outcome : Outcome) → OnlyLooks site x y
+      → SaysUnless site y z text next outcome
       → Telling x z text next outcome
   telling_by x y z text next outcome looks (inl memory) = record {
-    ends = nothing memory.0 (subst (λ (s : S). StaysTold (site.emitted x) (site.emitted s)) (sym memory.1) looks.output);
+    ends = nothing memory.0 (subst (λ (s : S). StaysTold (site.emitted x) (site.emitted s)) (sym memory.1)
+        looks.output);
     slots = subst (KeepsSlots site x) (sym memory.1) (looks_keep site x y looks);
   }
   telling_by x y z text next outcome looks (inr says) = record {

@@ -38,7 +38,8 @@ module _ {S : Type 0} (site : SiteGhosts S) where
 
   -- one of the two counts rose
   abbrev pub HasFailed : S → S → Type 0
-  HasFailed old new = HasRisen (site.slot_faults old) (site.slot_faults new) ⊎ HasRisen (site.out_faults old) (site.out_faults new)
+  HasFailed old new = HasRisen (site.slot_faults old) (site.slot_faults new) ⊎ HasRisen (site.out_faults old)
+      (site.out_faults new)
 
 module _ {I S : Type 0} (source : SourceGhosts I) (site : SiteGhosts S) where
   -- no fault was counted
@@ -57,7 +58,8 @@ module _ {S : Type 0} (site : SiteGhosts S) where
   -- A text was emitted, or a prefix of it and the output failed; the slots are as they were.
   pub record Says (old new : S) (text : List ℕ) (then outcome : Outcome) : Type 0 where
     pub ended : ((outcome ≡ then) × Emits (site.emitted old) (site.emitted new) text) ⊎
-        ((outcome ≡ SiteFailed) × EmitsPart (site.emitted old) (site.emitted new) text × HasRisen (site.out_faults old) (site.out_faults new))
+        ((outcome ≡ SiteFailed) × EmitsPart (site.emitted old) (site.emitted new) text
+        × HasRisen (site.out_faults old) (site.out_faults new))
     pub held : StaysTold (site.reads old) (site.reads new)
     pub moments : GoesOn (site.now old) (site.now new) (site.left old) (site.left new)
     pub images : LeavesEmitted text (site.now old) (site.left old) (site.left new)

@@ -1,5 +1,6 @@
 -- What `adsd change` answers.
-use Rattle.std.specs.Prelude.{◌≡◌, ◌⊎◌, ℕ, suc, Bool, nat_lt, nat_le, if◌then◌else◌, Option, Some, None, Result, Ok, Err}
+use Rattle.std.specs.Prelude.{◌≡◌, ◌⊎◌, ℕ, suc, Bool, nat_lt, nat_le, if◌then◌else◌, Option, Some, None, Result, Ok}
+use Rattle.std.specs.Prelude.{Err}
 use Rattle.std.specs.Prelude.{List, [], ◌∷◌, ◌++◌, length, take, codes, decimal}
 use Rattle.site_io.specs.Told.{BothTold, StaysTold}
 use Rattle.ad_bytes.specs.Numbers.{be_bytes}
@@ -21,8 +22,8 @@ limit = 67108864
 
 -- ---- frames
 
--- The frame of a message on connection 0: its kind (2), the connection, the length of the body in four bytes, the most
--- significant first, and the body.
+-- The frame of a message on connection 0: its kind (2), the connection, the length of the body in four bytes, the
+-- most significant first, and the body.
 unfoldable pub frame : List ℕ → List ℕ
 frame body = (2 ∷ 0 ∷ 0 ∷ []) ++ (be_bytes 4 (length body) ++ body)
 
@@ -75,7 +76,8 @@ at_end (Some f) = Err (refusal f.line (word_of f.kind))
 unfoldable pub frames_from : ℕ → List Change → Option Fault → Result (List ℕ) Refusal
 frames_from n [] stop = at_end stop
 frames_from n (c ∷ cs) stop =
-    if fits (body_of c n) then behind (frame (body_of c n)) (frames_from (suc n) cs stop) else Err (refusal c.line (codes "long"))
+    if fits (body_of c n) then behind (frame (body_of c n)) (frames_from (suc n) cs stop)
+    else Err (refusal c.line (codes "long"))
 
 -- the frames of an input's records, with numbers from 1, or its first fault
 unfoldable pub answer_to : List ℕ → Result (List ℕ) Refusal
@@ -102,12 +104,14 @@ NoChanges input = (r : Refusal) × (answer_to input ≡ Err r)
 -- the frames for the whole input, which was read to its end
 abbrev pub IsAsked : Option (List ℕ) → Option (List ℕ) → Option (List ℕ) → Option (List ℕ) → Type 0
 IsAsked rest left before after =
-    BothTold rest left (λ input behind. (behind ≡ []) × BothTold before after (λ old new. (frames : List ℕ) × Asks input frames × (new ≡ old ++ frames)))
+    BothTold rest left (λ input behind. (behind ≡ [])
+    × BothTold before after (λ old new. (frames : List ℕ) × Asks input frames × (new ≡ old ++ frames)))
 
 -- the line of the refusal
 abbrev pub IsRefusedSo : Option (List ℕ) → Option (List ℕ) → Option (List ℕ) → Option (List ℕ) → Type 0
 IsRefusedSo rest left before after =
-    BothTold rest left (λ input behind. NoChanges input × BothTold before after (λ old new. (line : List ℕ) × Refuses input line × (new ≡ old ++ line)))
+    BothTold rest left (λ input behind. NoChanges input
+    × BothTold before after (λ old new. (line : List ℕ) × Refuses input line × (new ≡ old ++ line)))
 
 -- where the output failed, a prefix of the frames or of the refusal
 abbrev pub IsPartlyEmitted : Option (List ℕ) → Option (List ℕ) → Option (List ℕ) → Option (List ℕ) → Type 0
@@ -121,7 +125,8 @@ pub record ChangeDoes (call : Call) (outcome : Outcome) : Type 0 where
   pub asked : outcome ≡ Done → IsAsked call.input call.left call.emitted_before call.emitted_after
   -- refused is what has a fault, by the line for the one that comes first
   pub refused : outcome ≡ NotOfForm → IsRefusedSo call.input call.left call.emitted_before call.emitted_after
-  -- records without a fault are done, and any other input is refused, unless something fails outside or memory runs out
+  -- records without a fault are done, and any other input is refused, unless something fails outside or memory runs
+  -- out
   pub complete : IsTold AreChanges call.input → Healthy call → (outcome ≡ Done) ⊎ (outcome ≡ NoMemory)
   pub refuses : IsTold NoChanges call.input → Healthy call → (outcome ≡ NotOfForm) ⊎ (outcome ≡ NoMemory)
   -- where the output fails, a prefix of the frames or of the refusal was emitted

@@ -78,7 +78,8 @@ fn put_change(
     requires ops { HasItemOps (change_seen change.now) }
     ensures fits { IfOk result (λ room. room ≡ fits (body_of (change_seen change.now) id)) }
     ensures put { IfOk result (λ room. into.new.items
-        ≡ (if room then into.old.items ++ frame (body_of (change_seen change.now) id) else into.old.items)) }
+        ≡ (if room then into.old.items ++ frame (body_of (change_seen change.now) id)
+        else into.old.items)) }
 {
     what_a_change_asks();
     let message = message(alloc, change, id)?;
@@ -126,8 +127,10 @@ fn long(alloc: Global) -> Result<Reply, AllocError>
 
 // The reply to the whole input.
 fn reply_to_input<I: Source>(alloc: Global, source: &mut I) -> Result<Reply, Outcome>
-    ensures replies { IfOk result (λ reply. IsReplyFor (I.rest source.old) (I.rest source.new) reply) }
-    ensures source_failed { IsErrOf result Outcome.SourceFailed → HasRisen (I.faults source.old) (I.faults source.new) }
+    ensures replies { IfOk result (λ reply. IsReplyFor (I.rest source.old) (I.rest source.new)
+        reply) }
+    ensures source_failed { IsErrOf result Outcome.SourceFailed → HasRisen (I.faults source.old)
+        (I.faults source.new) }
     ensures only { IfErr result (λ outcome. IsStopped outcome) }
 {
     match read_whole(alloc, source, MAX_INPUT_BYTES) {
@@ -153,8 +156,10 @@ pub fn change<I: Source, S: Site>(alloc: Global, source: &mut I, site: &mut S) -
       output_before = S.out_faults site.old;
       output_after = S.out_faults site.new;
     }) result }
-    ensures source_failed { result ≡ SourceFailed → HasRisen (I.faults source.old) (I.faults source.new) }
-    ensures site_failed { result ≡ SiteFailed → HasRisen (S.out_faults site.old) (S.out_faults site.new) }
+    ensures source_failed { result ≡ SourceFailed → HasRisen (I.faults source.old)
+        (I.faults source.new) }
+    ensures site_failed { result ≡ SiteFailed → HasRisen (S.out_faults site.old)
+        (S.out_faults site.new) }
     ensures a_command { result ≡ NoCommand → ⊥ }
     ensures slots { S.slot_faults site.new ≡ S.slot_faults site.old }
 {

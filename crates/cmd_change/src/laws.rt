@@ -9,5 +9,6 @@ ghost use Rattle.cmd_change.specs.Change.{Asks};
 /// order: the nth has the record's message with the number n.
 pub fn each_record_has_its_frame()
     ensures whole { (input frames : List ℕ) → Asks input frames → (changes input).stop ≡ None }
-    ensures frames { (input frames : List ℕ) → Asks input frames → CarriesEach 1 (changes input).changes frames }
+    ensures frames { (input frames : List ℕ) → Asks input frames
+        → CarriesEach 1 (changes input).changes frames }
 {}

@@ -1,5 +1,6 @@
 -- `adsd grants`, from what the slots are opened as, from what the input gave and from what was emitted.
-use Rattle.std.proofs.Common.{◌≡◌, ◌⊎◌, inl, inr, ℕ, List, [], Option, Some, None, Result, Ok, Err, refl, sym, subst, ap, ◌∙◌}
+use Rattle.std.proofs.Common.{◌≡◌, ◌⊎◌, inl, inr, ℕ, List, [], Option, Some, None, Result, Ok, Err, refl, sym, subst}
+use Rattle.std.proofs.Common.{ap, ◌∙◌}
 use Rattle.std.specs.Option.{IfSome}
 use Rattle.std.proofs.lemmas.Option.{none-some, same_Some}
 use Rattle.site_io.specs.Counts.{HasRisen}
@@ -20,7 +21,8 @@ use Rattle.ad_ldifmod.specs.declared.fault.GrantFault.TheVariants.{Bad, Memory}
 use Rattle.cmd_call.specs.Call.{IsTold}
 use Rattle.cmd_call.specs.Store.{HasFailed, KeepsSlots, Emits}
 use Rattle.cmd_call.specs.declared.outcome.Outcome.{Outcome}
-use Rattle.cmd_call.specs.declared.outcome.Outcome.TheVariants.{Done, NotOfForm, NoCommand, NoStore, NoObject, TooMany, SourceFailed, SiteFailed, NoMemory}
+use Rattle.cmd_call.specs.declared.outcome.Outcome.TheVariants.{Done, NotOfForm, NoCommand, NoStore, NoObject}
+use Rattle.cmd_call.specs.declared.outcome.Outcome.TheVariants.{TooMany, SourceFailed, SiteFailed, NoMemory}
 use Rattle.cmd_call.proofs.Moments.{told_map, told_meets, told_clash, looks_keep}
 use Rattle.cmd_call.proofs.Telling.{Tells, whole, part, nothing, telling_by, unhealthy}
 use Rattle.cmd_store.specs.Opened.{NoDirStore}
@@ -33,13 +35,17 @@ use Rattle.cmd_grants.specs.Answering.{IsUnread, AnswersIn}
 
 -- ---- the one directory, and the one input
 
-same_dir : (r : Option Images) (a b : Directory) → IsTold (λ held. IsStoreOf held a) r → IfSome r (λ held. IsStoreOf held b) → a ≡ b
-same_dir r a b told stands = told_meets (λ held. IsStoreOf held a) (λ held. IsStoreOf held b) r (λ held of_a of_b. one_store held a b of_a of_b) told stands
+same_dir : (r : Option Images) (a b : Directory) → IsTold (λ held. IsStoreOf held a) r
+    → IfSome r (λ held. IsStoreOf held b) → a ≡ b
+same_dir r a b told stands = told_meets (λ held. IsStoreOf held a) (λ held. IsStoreOf held b) r
+    (λ held of_a of_b. one_store held a b of_a of_b) told stands
 
 stands_clash : (dir : Directory) (r : Option Images) → IfSome r (λ held. IsStoreOf held dir) → IsTold NoDirStore r → ⊥
-stands_clash dir r stands none = told_clash NoDirStore (λ held. IsStoreOf held dir) r (λ held no is. no (dir, is)) none stands
+stands_clash dir r stands none = told_clash NoDirStore (λ held. IsStoreOf held dir) r (λ held no is. no (dir, is))
+    none stands
 
-both_map : {A : Type 0} (P Q : A → A → Type 0) (r s : Option A) → ((a b : A) → P a b → Q a b) → BothTold r s P → BothTold r s Q
+both_map : {A : Type 0} (P Q : A → A → Type 0) (r s : Option A) → ((a b : A) → P a b → Q a b) → BothTold r s P
+    → BothTold r s Q
 both_map P Q None None by told = tt
 both_map P Q (Some a) (Some b) by told = by a b told
 both_map P Q None (Some b) by told = absurd told
@@ -49,19 +55,24 @@ both_map P Q (Some a) None by told = absurd told
 abbrev IsOfInput : Directory → Option (List ℕ) → Option (List ℕ) → Result (List Message) GrantFault → Type 0
 IsOfInput dir rest left given = BothTold rest left (λ input behind. given_by dir input ≡ given)
 
-of_input : (dir : Directory) (rest left : Option (List ℕ)) (given : Result (List Message) GrantFault) → Gave dir rest left given → IsOfInput dir rest left given
+of_input : (dir : Directory) (rest left : Option (List ℕ)) (given : Result (List Message) GrantFault)
+    → Gave dir rest left given → IsOfInput dir rest left given
 of_input dir rest left (Ok messages) gave =
-    both_map (λ input behind. (behind ≡ []) × (given_by dir input ≡ Ok messages)) (λ input behind. given_by dir input ≡ Ok messages) rest left (λ input behind p. p.1) gave
+    both_map (λ input behind. (behind ≡ []) × (given_by dir input ≡ Ok messages))
+    (λ input behind. given_by dir input ≡ Ok messages) rest left (λ input behind p. p.1) gave
 of_input dir rest left (Err (Bad line kind)) gave = gave
 of_input dir rest left (Err Memory) gave = absurd gave
 
-told_as : (dir : Directory) (rest left : Option (List ℕ)) (given : Result (List Message) GrantFault) (input : List ℕ) → rest ≡ Some input
+told_as : (dir : Directory) (rest left : Option (List ℕ)) (given : Result (List Message) GrantFault) (input : List ℕ)
+    → rest ≡ Some input
     → IsOfInput dir rest left given → given_by dir input ≡ given
-told_as dir (Some i) (Some b) given input is told = subst (λ (x : List ℕ). given_by dir x ≡ given) (same_Some i input is) told
+told_as dir (Some i) (Some b) given input is told = subst (λ (x : List ℕ). given_by dir x ≡ given)
+    (same_Some i input is) told
 told_as dir (Some i) None given input is told = absurd told
 told_as dir None left given input is told = absurd (none-some input is)
 
-told_text : (dir : Directory) (rest left : Option (List ℕ)) (given : Result (List Message) GrantFault) (text : List ℕ) → text ≡ text_for given
+told_text : (dir : Directory) (rest left : Option (List ℕ)) (given : Result (List Message) GrantFault) (text : List ℕ)
+    → text ≡ text_for given
     → IsOfInput dir rest left given → IfSome rest (λ input. text ≡ text_for (given_by dir input))
 told_text dir None left given text is told = tt
 told_text dir (Some i) (Some b) given text is told = is ∙ ap text_for (sym told)
@@ -88,10 +99,12 @@ module _ {I S : Type 0} (source : SourceGhosts I) (site : SiteGhosts S) where
   -- what the command did, and that a failure has its cause
   abbrev pub Answers : I → I → S → S → Outcome → Type 0
   Answers from to old new outcome = GrantsDoes source site from to old new outcome
-      × (outcome ≡ SourceFailed → HasRisen (source.faults from) (source.faults to)) × (outcome ≡ SiteFailed → HasFailed site old new)
+      × (outcome ≡ SourceFailed → HasRisen (source.faults from) (source.faults to))
+      × (outcome ≡ SiteFailed → HasFailed site old new)
 
   -- nothing was emitted, for want of memory
-  answered_memory : (from to : I) (x z : S) → KeepsSlots site x z → StaysTold (site.emitted x) (site.emitted z) → Answers from to x z NoMemory
+  answered_memory : (from to : I) (x z : S) → KeepsSlots site x z → StaysTold (site.emitted x) (site.emitted z)
+      → Answers from to x z NoMemory
   answered_memory from to x z keeps quiet = (
     record {
       done = λ no. absurd cc;
@@ -110,7 +123,8 @@ module _ {I S : Type 0} (source : SourceGhosts I) (site : SiteGhosts S) where
   )
 
   -- the site failed
-  answered_failed : (from to : I) (x z : S) → KeepsSlots site x z → HasFailed site x z → IsPartlyGiven source site from x z → Answers from to x z SiteFailed
+  answered_failed : (from to : I) (x z : S) → KeepsSlots site x z → HasFailed site x z → IsPartlyGiven source site
+      from x z → Answers from to x z SiteFailed
   answered_failed from to x z keeps cause partly = (
     record {
       done = λ no. absurd cc;
@@ -131,16 +145,21 @@ module _ {I S : Type 0} (source : SourceGhosts I) (site : SiteGhosts S) where
   -- ---- the store represents a directory
 
   -- how the command ends is told by any directory of the slots and by the input
-  judged : (from to : I) (x : S) (dir : Directory) (given : Result (List Message) GrantFault) → IfSome (site.reads x) (λ held. IsStoreOf held dir)
-      → Gave dir (source.rest from) (source.rest to) given → (other : Directory) (input : List ℕ) → IsTold (λ held. IsStoreOf held other) (site.reads x)
+  judged : (from to : I) (x : S) (dir : Directory) (given : Result (List Message) GrantFault)
+      → IfSome (site.reads x) (λ held. IsStoreOf held dir)
+      → Gave dir (source.rest from) (source.rest to) given → (other : Directory) (input : List ℕ)
+      → IsTold (λ held. IsStoreOf held other) (site.reads x)
       → source.rest from ≡ Some input → outcome_for given ≡ outcome_for (given_by other input)
   judged from to x dir given stands gave other input told is =
       ap outcome_for (sym (ap (λ (d : Directory). given_by d input) (same_dir (site.reads x) other dir told stands)
-      ∙ told_as dir (source.rest from) (source.rest to) given input is (of_input dir (source.rest from) (source.rest to) given gave)))
+      ∙ told_as dir (source.rest from) (source.rest to) given input is
+      (of_input dir (source.rest from) (source.rest to) given gave)))
 
   -- the text was emitted
-  given_whole : (from to : I) (x z : S) (dir : Directory) (given : Result (List Message) GrantFault) → IfSome (site.reads x) (λ held. IsStoreOf held dir)
-      → Gave dir (source.rest from) (source.rest to) given → KeepsSlots site x z → Emits (site.emitted x) (site.emitted z) (text_for given)
+  given_whole : (from to : I) (x z : S) (dir : Directory) (given : Result (List Message) GrantFault)
+      → IfSome (site.reads x) (λ held. IsStoreOf held dir)
+      → Gave dir (source.rest from) (source.rest to) given → KeepsSlots site x z
+      → Emits (site.emitted x) (site.emitted z) (text_for given)
       → Answers from to x z (outcome_for given)
   given_whole from to x z dir (Ok messages) stands gave keeps text = (
     record {
@@ -164,7 +183,8 @@ module _ {I S : Type 0} (source : SourceGhosts I) (site : SiteGhosts S) where
       refused = λ _. record { dir = dir; store = stands; line = line; kind = kind; input = gave; text = text };
       no_store = λ no. absurd cc;
       exact = λ other input told is _. judged from to x dir (Err (Bad line kind)) stands gave other input told is;
-      complete = λ other input told is _. inl (judged from to x dir (Err (Bad line kind)) stands gave other input told is);
+      complete = λ other input told is _.
+          inl (judged from to x dir (Err (Bad line kind)) stands gave other input told is);
       stands = λ none _. absurd (stands_clash dir (site.reads x) stands none);
       partly = λ no. absurd cc;
       quiet = λ no. absurd no;
@@ -176,11 +196,16 @@ module _ {I S : Type 0} (source : SourceGhosts I) (site : SiteGhosts S) where
   )
   given_whole from to x z dir (Err Memory) stands gave keeps text = absurd gave
 
-  given_so : (from to : I) (x z : S) (dir : Directory) (text : List ℕ) (next outcome : Outcome) → IfSome (site.reads x) (λ held. IsStoreOf held dir)
-      → IsTextOf dir (source.rest from) (source.rest to) text next → KeepsSlots site x z → Tells site x z text next outcome → Answers from to x z outcome
-  given_so from to x z dir text next outcome stands is keeps (whole done said) = subst (Answers from to x z) (sym (done ∙ is.next_is))
-      (given_whole from to x z dir is.given stands is.gave keeps (subst (Emits (site.emitted x) (site.emitted z)) is.text_is said))
-  given_so from to x z dir text next outcome stands is keeps (part cut risen said) = subst (Answers from to x z) (sym cut)
+  given_so : (from to : I) (x z : S) (dir : Directory) (text : List ℕ) (next outcome : Outcome)
+      → IfSome (site.reads x) (λ held. IsStoreOf held dir)
+      → IsTextOf dir (source.rest from) (source.rest to) text next → KeepsSlots site x z → Tells site x z text next
+      outcome → Answers from to x z outcome
+  given_so from to x z dir text next outcome stands is keeps (whole done said) = subst (Answers from to x z)
+      (sym (done ∙ is.next_is))
+      (given_whole from to x z dir is.given stands is.gave keeps
+      (subst (Emits (site.emitted x) (site.emitted z)) is.text_is said))
+  given_so from to x z dir text next outcome stands is keeps (part cut risen said) = subst (Answers from to x z)
+      (sym cut)
       (answered_failed from to x z keeps (inr risen) (inr (
         text,
         told_map (λ held. IsStoreOf held dir) (λ held. IsTextFor (source.rest from) held text) (site.reads x)
@@ -192,10 +217,12 @@ module _ {I S : Type 0} (source : SourceGhosts I) (site : SiteGhosts S) where
             )) stands,
         said,
       )))
-  given_so from to x z dir text next outcome stands is keeps (nothing none quiet) = subst (Answers from to x z) (sym none) (answered_memory from to x z keeps quiet)
+  given_so from to x z dir text next outcome stands is keeps (nothing none quiet) = subst (Answers from to x z)
+      (sym none) (answered_memory from to x z keeps quiet)
 
   -- the input wasn't read to its end, or memory ran out
-  unread : (from to : I) (x y : S) (dir : Directory) (outcome : Outcome) → OnlyLooks site x y → IfSome (site.reads x) (λ held. IsStoreOf held dir)
+  unread : (from to : I) (x y : S) (dir : Directory) (outcome : Outcome) → OnlyLooks site x y
+      → IfSome (site.reads x) (λ held. IsStoreOf held dir)
       → IsUnread source site from to outcome → Answers from to x y outcome
   unread from to x y dir SourceFailed looks stands gave = (
     record {
@@ -213,7 +240,8 @@ module _ {I S : Type 0} (source : SourceGhosts I) (site : SiteGhosts S) where
     λ _. gave.source_failed refl,
     λ no. absurd cc,
   )
-  unread from to x y dir NoMemory looks stands gave = answered_memory from to x y (looks_keep site x y looks) looks.output
+  unread from to x y dir NoMemory looks stands gave = answered_memory from to x y (looks_keep site x y looks)
+      looks.output
   unread from to x y dir Done looks stands gave = absurd gave.only
   unread from to x y dir NotOfForm looks stands gave = absurd gave.only
   unread from to x y dir NoCommand looks stands gave = absurd gave.only
@@ -222,7 +250,8 @@ module _ {I S : Type 0} (source : SourceGhosts I) (site : SiteGhosts S) where
   unread from to x y dir TooMany looks stands gave = absurd gave.only
   unread from to x y dir SiteFailed looks stands gave = absurd gave.only
 
-  pub answered_told : (from to : I) (x y z : S) (dir : Directory) (outcome : Outcome) → OnlyLooks site x y → IfSome (site.reads x) (λ held. IsStoreOf held dir)
+  pub answered_told : (from to : I) (x y z : S) (dir : Directory) (outcome : Outcome) → OnlyLooks site x y
+      → IfSome (site.reads x) (λ held. IsStoreOf held dir)
       → AnswersIn source site dir from to y z outcome → Answers from to x z outcome
   answered_told from to x y z dir outcome looks stands (inl (text, next, is, said)) =
       let telling = telling_by site x y z text next outcome looks said in
@@ -232,14 +261,17 @@ module _ {I S : Type 0} (source : SourceGhosts I) (site : SiteGhosts S) where
 
   -- ---- the slots represent no directory
 
-  answered_not : (from : I) (x z : S) (outcome : Outcome) → KeepsSlots site x z → Ends site x z outcome → Answers from from x z outcome
+  answered_not : (from : I) (x z : S) (outcome : Outcome) → KeepsSlots site x z → Ends site x z outcome
+      → Answers from from x z outcome
   answered_not from x z outcome keeps (refused is none) = subst (Answers from from x z) (sym is) (
     record {
       done = λ no. absurd cc;
       refused = λ no. absurd cc;
       no_store = λ _. (none, refl);
       exact = λ _ _ _ _ which. absurd (not_store which);
-      complete = λ dir _ told _ _. absurd (never_with (λ held. IsStoreOf held dir) (λ held store. (dir, store)) none.fault (site.reads x) told none.store);
+      complete = λ dir _ told _ _. absurd
+          (never_with (λ held. IsStoreOf held dir) (λ held store. (dir, store)) none.fault (site.reads x) told
+          none.store);
       stands = λ _ _. inl refl;
       partly = λ no. absurd cc;
       quiet = λ no. absurd no;
@@ -249,13 +281,17 @@ module _ {I S : Type 0} (source : SourceGhosts I) (site : SiteGhosts S) where
     λ no. absurd cc,
     λ no. absurd cc,
   )
-  answered_not from x z outcome keeps (failed is risen said) = subst (Answers from from x z) (sym is) (answered_failed from from x z keeps risen
+  answered_not from x z outcome keeps (failed is risen said) = subst (Answers from from x z) (sym is)
+      (answered_failed from from x z keeps risen
       (partly_said site (IsTextFor (source.rest from)) x z (λ held why none. inr (why, none, refl)) said))
-  answered_not from x z outcome keeps (stopped is quiet) = subst (Answers from from x z) (sym is) (answered_memory from from x z keeps quiet)
+  answered_not from x z outcome keeps (stopped is quiet) = subst (Answers from from x z) (sym is)
+      (answered_memory from from x z keeps quiet)
 
   -- no store was opened, for whatever reason
-  pub answered_by : (from : I) (x y z : S) (why : OpenFault) (outcome : Outcome) → OnlyLooks site x y → IfSome (site.reads x) (λ held. IsOpenedAs held (Err why))
-      → (why ≡ slots.Site → HasRisen (site.slot_faults x) (site.slot_faults y)) → Refused site y z why outcome → Answers from from x z outcome
+  pub answered_by : (from : I) (x y z : S) (why : OpenFault) (outcome : Outcome) → OnlyLooks site x y
+      → IfSome (site.reads x) (λ held. IsOpenedAs held (Err why))
+      → (why ≡ slots.Site → HasRisen (site.slot_faults x) (site.slot_faults y)) → Refused site y z why outcome
+      → Answers from from x z outcome
   answered_by from x y z why outcome looks opened risen said =
       let refusal = refusal_by site x y z why outcome looks opened risen said in
       answered_not from x z outcome refusal.slots refusal.ends

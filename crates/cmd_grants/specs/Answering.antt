@@ -19,5 +19,6 @@ module _ {I S : Type 0} (source : SourceGhosts I) (site : SiteGhosts S) where
   -- For a directory: the text for the input is emitted, or nothing.
   abbrev pub AnswersIn : Directory → I → I → S → S → Outcome → Type 0
   AnswersIn dir from to old new outcome =
-      ((text : List ℕ) × (next : Outcome) × IsTextOf dir (source.rest from) (source.rest to) text next × SaysUnless site old new text next outcome)
+      ((text : List ℕ) × (next : Outcome) × IsTextOf dir (source.rest from) (source.rest to) text next
+      × SaysUnless site old new text next outcome)
       ⊎ (IsUnread from to outcome × (new ≡ old))

@@ -12,7 +12,8 @@ use Rattle.cmd_grants.specs.Lines.{given_by, text_for, outcome_for}
 
 -- the whole input, which was read to its end, gives these messages
 abbrev pub GivesMessages : Directory → Option (List ℕ) → Option (List ℕ) → List Message → Type 0
-GivesMessages dir rest left messages = BothTold rest left (λ input behind. (behind ≡ []) × (given_by dir input ≡ Ok messages))
+GivesMessages dir rest left messages = BothTold rest left
+    (λ input behind. (behind ≡ []) × (given_by dir input ≡ Ok messages))
 
 -- it goes wrong at this line; of a text above its limit some of the input may be left
 abbrev pub GoesWrong : Directory → Option (List ℕ) → Option (List ℕ) → ℕ → GrantKind → Type 0

@@ -25,7 +25,8 @@ use Rattle.cmd_grants.specs.Given.{GivesMessages, GoesWrong}
 -- what may be emitted for the slots and an input: the frames of its messages, or the line of its fault; and for
 -- slots that represent no directory the line that says why
 abbrev pub IsTextFor : Option (List ℕ) → Images → List ℕ → Type 0
-IsTextFor rest held text = ((dir : Directory) × IsStoreOf held dir × IfSome rest (λ input. text ≡ text_for (given_by dir input)))
+IsTextFor rest held text = ((dir : Directory) × IsStoreOf held dir
+    × IfSome rest (λ input. text ≡ text_for (given_by dir input)))
     ⊎ ((fault : OpenFault) × Refuses held fault × (text ≡ store_line fault))
 
 module _ {I S : Type 0} (source : SourceGhosts I) (site : SiteGhosts S) where
@@ -49,7 +50,8 @@ module _ {I S : Type 0} (source : SourceGhosts I) (site : SiteGhosts S) where
   -- The site failed: nothing was emitted, or a prefix of a text for the slots and the input.
   abbrev pub IsPartlyGiven : I → S → S → Type 0
   IsPartlyGiven from old new = StaysTold (site.emitted old) (site.emitted new)
-      ⊎ ((text : List ℕ) × IfSome (site.reads old) (λ held. IsTextFor (source.rest from) held text) × EmitsPart (site.emitted old) (site.emitted new) text)
+      ⊎ ((text : List ℕ) × IfSome (site.reads old) (λ held. IsTextFor (source.rest from) held text)
+      × EmitsPart (site.emitted old) (site.emitted new) text)
 
   pub record GrantsDoes (from to : I) (old new : S) (outcome : Outcome) : Type 0 where
     pub done : outcome ≡ Done → IsGiven from to old new
@@ -57,13 +59,16 @@ module _ {I S : Type 0} (source : SourceGhosts I) (site : SiteGhosts S) where
     -- without a directory nothing is read
     pub no_store : outcome ≡ NoStore → IsNoStore site old new × (to ≡ from)
     -- messages are given where the input gives some and is refused where it goes wrong, and never the other way
-    pub exact : (dir : Directory) (input : List ℕ) → IsTold (λ held. IsStoreOf held dir) (site.reads old) → source.rest from ≡ Some input
+    pub exact : (dir : Directory) (input : List ℕ) → IsTold (λ held. IsStoreOf held dir) (site.reads old)
+        → source.rest from ≡ Some input
         → (outcome ≡ Done) ⊎ (outcome ≡ NotOfForm) → outcome ≡ outcome_for (given_by dir input)
     -- and one of the two comes, unless something fails outside or memory runs out
-    pub complete : (dir : Directory) (input : List ℕ) → IsTold (λ held. IsStoreOf held dir) (site.reads old) → source.rest from ≡ Some input
+    pub complete : (dir : Directory) (input : List ℕ) → IsTold (λ held. IsStoreOf held dir) (site.reads old)
+        → source.rest from ≡ Some input
         → IsAllHealthy source site from to old new → (outcome ≡ outcome_for (given_by dir input)) ⊎ (outcome ≡ NoMemory)
     -- slots that represent no directory are refused, unless the site fails or memory runs out
-    pub stands : IsTold NoDirStore (site.reads old) → IsSiteHealthy site old new → (outcome ≡ NoStore) ⊎ (outcome ≡ NoMemory)
+    pub stands : IsTold NoDirStore (site.reads old) → IsSiteHealthy site old new → (outcome ≡ NoStore)
+        ⊎ (outcome ≡ NoMemory)
     pub partly : outcome ≡ SiteFailed → IsPartlyGiven from old new
     pub quiet : IsStopped outcome → StaysTold (site.emitted old) (site.emitted new)
     -- no slot is written, whatever comes

@@ -30,7 +30,8 @@ fn give_in<I: Source, S: Site>(alloc: Global, source: &mut I, site: &mut S, dir:
 /// read. No slot is written.
 pub fn grants<I: Source, S: Site>(alloc: Global, source: &mut I, site: &mut S) -> Outcome
     ensures does { GrantsDoes I.Source S.Site source.old source.new site.old site.new result }
-    ensures source_failed { result ≡ SourceFailed → HasRisen (I.faults source.old) (I.faults source.new) }
+    ensures source_failed { result ≡ SourceFailed → HasRisen (I.faults source.old)
+        (I.faults source.new) }
     ensures site_failed { result ≡ SiteFailed → HasFailed S.Site site.old site.new }
 {
     match Engine::resume(alloc, site) {

@@ -57,8 +57,10 @@ pub(crate) fn told_of_input<I: Source>(
     source: &mut I,
     dir: &Dir,
 ) -> Result<Told, Outcome>
-    ensures told { IfOk result (λ told. IsTextOf dir.now (I.rest source.old) (I.rest source.new) told.text.items told.next) }
-    ensures source_failed { IsErrOf result Outcome.SourceFailed → HasRisen (I.faults source.old) (I.faults source.new) }
+    ensures told { IfOk result (λ told. IsTextOf dir.now (I.rest source.old) (I.rest source.new)
+        told.text.items told.next) }
+    ensures source_failed { IsErrOf result Outcome.SourceFailed → HasRisen (I.faults source.old)
+        (I.faults source.new) }
     ensures only { IfErr result IsStopped }
 {
     match read_whole(alloc, source, MAX_TEXT) {

@@ -9,7 +9,8 @@ use Rattle.cmd_plain.specs.Access.{IsRefused}
 use Rattle.cmd_plain.proofs.RequestCodec.{question_length}
 
 -- bytes that were refused for their form are no question, since each question is read
-pub no_question : (e : RequestFault) (q : Question) → e ≡ Form → (is_memory e ≡ false → ◌≡◌ {A = Result Question RequestFault} (Ok q) (Err e)) → ⊥
+pub no_question : (e : RequestFault) (q : Question) → e ≡ Form
+    → (is_memory e ≡ false → ◌≡◌ {A = Result Question RequestFault} (Ok q) (Err e)) → ⊥
 no_question Form q same only =
     let both : ◌≡◌ {A = Result Question RequestFault} (Ok q) (Err Form) = only refl in
     absurd cc
@@ -19,7 +20,8 @@ pub one_fault : {A : Type 0} (r : Result A RequestFault) (a : RequestFault) → 
 one_fault r a p q = cc
 
 -- more bytes came than a question has
-pub too_long : (rest left : Option (List ℕ)) → BothTold rest left (λ before after. 327755 < length before) → IsRefused rest left
+pub too_long : (rest left : Option (List ℕ)) → BothTold rest left (λ before after. 327755 < length before)
+    → IsRefused rest left
 too_long None None long = tt
 too_long (Some before) (Some after) long = λ question. omega (arith, question_length question.0 before question.1)
 too_long None (Some after) long = long

@@ -15,7 +15,8 @@ use Rattle.cmd_plain.specs.Request.{Question, SpellsQuestion}
 -- that has no identifier of its own.
 pub record IsGrantedMask (q : Question) (mask : ℕ) : Type 0 where
   pub fits : mask < 2 ^ 32
-  pub bits : (bit : ℕ) → bit < 32 → has_bit mask bit ≡ (mapped_has q.want bit && granted q.owner q.dacl q.token None [] bit)
+  pub bits : (bit : ℕ) → bit < 32 → has_bit mask bit
+      ≡ (mapped_has q.want bit && granted q.owner q.dacl q.token None [] bit)
 
 -- eight lower-case hexadecimal digits and a line end
 abbrev pub access_line : ℕ → List ℕ
@@ -40,7 +41,8 @@ IsLineFor rest left line = BothTold rest left (λ input behind. (behind ≡ []) 
 -- What was emitted is the line that answers the whole input, which was read to its end.
 abbrev pub IsAnswered : Option (List ℕ) → Option (List ℕ) → Option (List ℕ) → Option (List ℕ) → Type 0
 IsAnswered rest left before after =
-    BothTold rest left (λ input behind. (behind ≡ []) × BothTold before after (λ old new. (line : List ℕ) × Answers input line × (new ≡ old ++ line)))
+    BothTold rest left (λ input behind. (behind ≡ [])
+    × BothTold before after (λ old new. (line : List ℕ) × Answers input line × (new ≡ old ++ line)))
 
 abbrev pub NoQuestion : List ℕ → Type 0
 NoQuestion input = IsQuestion input → ⊥

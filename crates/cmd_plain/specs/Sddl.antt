@@ -42,7 +42,8 @@ abbrev pub lines_of : SdParts → List ℕ → List ℕ
 lines_of parts bytes = encode_lower bytes ++ (10 ∷ (canonical parts ++ 10 ∷ []))
 
 abbrev pub TranslatesText : List ℕ → List ℕ → Type 0
-TranslatesText text lines = (parts : SdParts) × (bytes : List ℕ) × IsSddl text parts bytes × (lines ≡ lines_of parts bytes)
+TranslatesText text lines = (parts : SdParts) × (bytes : List ℕ) × IsSddl text parts bytes
+    × (lines ≡ lines_of parts bytes)
 
 abbrev pub IsDescriptorText : List ℕ → Type 0
 IsDescriptorText text = (parts : SdParts) × (bytes : List ℕ) × IsSddl text parts bytes
@@ -111,12 +112,14 @@ Refuses input line = RefusesText (text_of input) line
 -- the lines for the whole input, which was read to its end
 abbrev pub IsTranslated : Option (List ℕ) → Option (List ℕ) → Option (List ℕ) → Option (List ℕ) → Type 0
 IsTranslated rest left before after =
-    BothTold rest left (λ input behind. (behind ≡ []) × BothTold before after (λ old new. (lines : List ℕ) × Translates input lines × (new ≡ old ++ lines)))
+    BothTold rest left (λ input behind. (behind ≡ [])
+    × BothTold before after (λ old new. (lines : List ℕ) × Translates input lines × (new ≡ old ++ lines)))
 
 -- the line of the refusal
 abbrev pub IsRefusedSo : Option (List ℕ) → Option (List ℕ) → Option (List ℕ) → Option (List ℕ) → Type 0
 IsRefusedSo rest left before after =
-    BothTold rest left (λ input behind. NoText input × BothTold before after (λ old new. (line : List ℕ) × Refuses input line × (new ≡ old ++ line)))
+    BothTold rest left (λ input behind. NoText input
+    × BothTold before after (λ old new. (line : List ℕ) × Refuses input line × (new ≡ old ++ line)))
 
 -- where the output failed, a prefix of the lines or of the refusal
 abbrev pub IsPartlyEmitted : Option (List ℕ) → Option (List ℕ) → Option (List ℕ) → Option (List ℕ) → Type 0

@@ -4,7 +4,8 @@ ghost use Rattle.std.specs.Prelude.{◌≡◌, IfOk, IfErr, IsErrOf};
 ghost use Rattle.site_io.specs.Counts.{HasRisen};
 ghost use Rattle.cmd_call.specs.Outcome.{IsEarly};
 ghost use Rattle.cmd_call.specs.declared.outcome.Outcome.TheVariants.{NoCommand, SourceFailed, SiteFailed};
-ghost use Rattle.cmd_plain.specs.Access.{IsGrantedMask, access_line, Answers, IsQuestion, IsLineFor, IsRefused, AccessDoes};
+ghost use Rattle.cmd_plain.specs.Access.{IsGrantedMask, access_line, Answers, IsQuestion, IsLineFor, IsRefused};
+ghost use Rattle.cmd_plain.specs.Access.{AccessDoes};
 ghost use Rattle.cmd_plain.specs.RequestView.{question_seen};
 
 use crate::request::{MAX_REQUEST_BYTES, Request, RequestFault};
@@ -67,8 +68,10 @@ fn answer(alloc: Global, bytes: &[u8]) -> Result<[u8; 9], RequestFault>
 // The line that answers the whole input, where it is a question.
 fn answer_whole<I: Source>(alloc: Global, source: &mut I) -> Result<[u8; 9], Outcome>
     ensures answers { IfOk result (λ line. IsLineFor (I.rest source.old) (I.rest source.new) line) }
-    ensures refused { IsErrOf result Outcome.NotOfForm → IsRefused (I.rest source.old) (I.rest source.new) }
-    ensures source_failed { IsErrOf result Outcome.SourceFailed → HasRisen (I.faults source.old) (I.faults source.new) }
+    ensures refused { IsErrOf result Outcome.NotOfForm → IsRefused (I.rest source.old)
+        (I.rest source.new) }
+    ensures source_failed { IsErrOf result Outcome.SourceFailed → HasRisen (I.faults source.old)
+        (I.faults source.new) }
     ensures only { IfErr result (λ outcome. IsEarly outcome) }
 {
     let bytes = match read_whole(alloc, source, MAX_REQUEST_BYTES) {
@@ -97,8 +100,10 @@ pub fn access<I: Source, S: Site>(alloc: Global, source: &mut I, site: &mut S) -
       output_before = S.out_faults site.old;
       output_after = S.out_faults site.new;
     }) result }
-    ensures source_failed { result ≡ SourceFailed → HasRisen (I.faults source.old) (I.faults source.new) }
-    ensures site_failed { result ≡ SiteFailed → HasRisen (S.out_faults site.old) (S.out_faults site.new) }
+    ensures source_failed { result ≡ SourceFailed → HasRisen (I.faults source.old)
+        (I.faults source.new) }
+    ensures site_failed { result ≡ SiteFailed → HasRisen (S.out_faults site.old)
+        (S.out_faults site.new) }
     ensures a_command { result ≡ NoCommand → ⊥ }
     ensures slots { S.slot_faults site.new ≡ S.slot_faults site.old }
 {

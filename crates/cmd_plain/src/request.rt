@@ -101,7 +101,8 @@ impl Request {
         // What is read is encoded so.
         ensures found { IfOk result (λ request. SpellsQuestion (question_seen request) bytes.now) }
         // Whatever is encoded so is read, unless memory ran out.
-        ensures only { (question : Question) → SpellsQuestion question bytes.now → GivesUnless is_memory question_seen result (Ok question) }
+        ensures only { (question : Question) → SpellsQuestion question bytes.now
+            → GivesUnless is_memory question_seen result (Ok question) }
     {
         Request::whole(alloc, bytes)
     }

@@ -98,15 +98,18 @@ fn reply_to(alloc: Global, input: &[u8]) -> Result<Reply, AllocError>
 
 // The reply to more than the longest text and a line end.
 fn long(alloc: Global) -> Result<Reply, AllocError>
-    ensures { IfOk result (λ reply. (input : List ℕ) → 1048577 < length input → IsReply input reply × ((behind : List ℕ) → ReadToEnd reply behind)) }
+    ensures { IfOk result (λ reply. (input : List ℕ) → 1048577 < length input → IsReply input reply
+        × ((behind : List ℕ) → ReadToEnd reply behind)) }
 {
     Ok(Reply::Refusal(refusal(alloc, "long", MAX_TEXT_BYTES)?))
 }
 
 // The reply to the whole input.
 fn reply_to_input<I: Source>(alloc: Global, source: &mut I) -> Result<Reply, Outcome>
-    ensures replies { IfOk result (λ reply. IsReplyFor (I.rest source.old) (I.rest source.new) reply) }
-    ensures source_failed { IsErrOf result Outcome.SourceFailed → HasRisen (I.faults source.old) (I.faults source.new) }
+    ensures replies { IfOk result (λ reply. IsReplyFor (I.rest source.old) (I.rest source.new)
+        reply) }
+    ensures source_failed { IsErrOf result Outcome.SourceFailed → HasRisen (I.faults source.old)
+        (I.faults source.new) }
     ensures only { IfErr result (λ outcome. IsStopped outcome) }
 {
     // One line end may stand after the longest text.
@@ -132,8 +135,10 @@ pub fn sddl<I: Source, S: Site>(alloc: Global, source: &mut I, site: &mut S) -> 
       output_before = S.out_faults site.old;
       output_after = S.out_faults site.new;
     }) result }
-    ensures source_failed { result ≡ SourceFailed → HasRisen (I.faults source.old) (I.faults source.new) }
-    ensures site_failed { result ≡ SiteFailed → HasRisen (S.out_faults site.old) (S.out_faults site.new) }
+    ensures source_failed { result ≡ SourceFailed → HasRisen (I.faults source.old)
+        (I.faults source.new) }
+    ensures site_failed { result ≡ SiteFailed → HasRisen (S.out_faults site.old)
+        (S.out_faults site.new) }
     ensures a_command { result ≡ NoCommand → ⊥ }
     ensures slots { S.slot_faults site.new ≡ S.slot_faults site.old }
 {

@@ -42,7 +42,8 @@ module _ {S : Type 0} (site : SiteGhosts S) where
   )
 
   -- the site failed
-  checked_failed : (x z : S) → KeepsSlots site x z → HasFailed site x z → IsPartlyChecked site x z → Checks x z SiteFailed
+  checked_failed : (x z : S) → KeepsSlots site x z → HasFailed site x z → IsPartlyChecked site x z
+      → Checks x z SiteFailed
   checked_failed x z keeps cause partly = (
     record {
       done = λ no. absurd cc;
@@ -59,14 +60,16 @@ module _ {S : Type 0} (site : SiteGhosts S) where
 
   -- ---- the store represents a directory
 
-  checked_so : (x z : S) (dir : Directory) (outcome : Outcome) → IfSome (site.reads x) (λ held. IsStoreOf held dir) → KeepsSlots site x z
+  checked_so : (x z : S) (dir : Directory) (outcome : Outcome) → IfSome (site.reads x) (λ held. IsStoreOf held dir)
+      → KeepsSlots site x z
       → Tells site x z (check_text dir) Done outcome → Checks x z outcome
   checked_so x z dir outcome stands keeps (whole is text) = subst (Checks x z) (sym is) (
     record {
       done = λ _. record { dir = dir; store = stands; text = text };
       no_store = λ no. absurd cc;
       complete = λ _ _. inl refl;
-      refuses = λ none _. absurd (told_clash NoDirStore (λ held. IsStoreOf held dir) (site.reads x) (λ held no is. no (dir, is)) none stands);
+      refuses = λ none _. absurd (told_clash NoDirStore (λ held. IsStoreOf held dir) (site.reads x)
+          (λ held no is. no (dir, is)) none stands);
       partly = λ no. absurd cc;
       quiet = λ no. absurd cc;
       slots = keeps;
@@ -74,14 +77,18 @@ module _ {S : Type 0} (site : SiteGhosts S) where
     },
     λ no. absurd cc,
   )
-  checked_so x z dir outcome stands keeps (part is risen text) = subst (Checks x z) (sym is) (checked_failed x z keeps (inr risen) (inr (
-    check_text dir,
-    told_map (λ held. IsStoreOf held dir) (λ held. IsCheckText held (check_text dir)) (site.reads x) (λ held is. inl (dir, is, refl)) stands,
-    text,
-  )))
-  checked_so x z dir outcome stands keeps (nothing is quiet) = subst (Checks x z) (sym is) (checked_memory x z keeps quiet)
+  checked_so x z dir outcome stands keeps (part is risen text) = subst (Checks x z) (sym is)
+      (checked_failed x z keeps (inr risen) (inr (
+        check_text dir,
+        told_map (λ held. IsStoreOf held dir) (λ held. IsCheckText held (check_text dir)) (site.reads x)
+            (λ held is. inl (dir, is, refl)) stands,
+        text,
+      )))
+  checked_so x z dir outcome stands keeps (nothing is quiet) = subst (Checks x z) (sym is)
+      (checked_memory x z keeps quiet)
 
-  pub checked_told : (x y z : S) (dir : Directory) (outcome : Outcome) → OnlyLooks site x y → IfSome (site.reads x) (λ held. IsStoreOf held dir)
+  pub checked_told : (x y z : S) (dir : Directory) (outcome : Outcome) → OnlyLooks site x y
+      → IfSome (site.reads x) (λ held. IsStoreOf held dir)
       → SaysUnless site y z (check_text dir) Done outcome → Checks x z outcome
   checked_told x y z dir outcome looks stands said =
       let telling = telling_by site x y z (check_text dir) Done outcome looks said in
@@ -108,8 +115,10 @@ module _ {S : Type 0} (site : SiteGhosts S) where
   checked_not x z outcome keeps (stopped is quiet) = subst (Checks x z) (sym is) (checked_memory x z keeps quiet)
 
   -- no store was opened, for whatever reason
-  pub checked_by : (x y z : S) (why : OpenFault) (outcome : Outcome) → OnlyLooks site x y → IfSome (site.reads x) (λ held. IsOpenedAs held (Err why))
-      → (why ≡ fault.Site → HasRisen (site.slot_faults x) (site.slot_faults y)) → Refused site y z why outcome → Checks x z outcome
+  pub checked_by : (x y z : S) (why : OpenFault) (outcome : Outcome) → OnlyLooks site x y
+      → IfSome (site.reads x) (λ held. IsOpenedAs held (Err why))
+      → (why ≡ fault.Site → HasRisen (site.slot_faults x) (site.slot_faults y)) → Refused site y z why outcome
+      → Checks x z outcome
   checked_by x y z why outcome looks opened risen said =
       let refusal = refusal_by site x y z why outcome looks opened risen said in
       checked_not x z outcome refusal.slots refusal.ends

@@ -11,7 +11,8 @@ gives_on : (text piece behind : List ℕ) (old : Came) → ((more : List ℕ) �
     → records_in ((text ++ piece) ++ behind) ≡ gives old (piece ++ behind)
 gives_on text piece behind old so_far = ap records_in (append_assoc text piece behind) ∙ so_far (piece ++ behind)
 
-pub one_more : (rest mid left : Option (List ℕ)) (old new : Came) (into : List ℕ) (n : ℕ) → HasCome rest mid old → Took mid left n into
+pub one_more : (rest mid left : Option (List ℕ)) (old new : Came) (into : List ℕ) (n : ℕ) → HasCome rest mid old
+    → Took mid left n into
     → ((behind : List ℕ) → gives old (take n into ++ behind) ≡ gives new behind) → HasCome rest left new
 one_more rest mid left old new into n came took next = record {
   text = came.text ++ take n into;

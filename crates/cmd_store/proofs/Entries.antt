@@ -10,11 +10,14 @@ pub entries_more : (n k : ℕ) (bytes behind : List ℕ) (m : Tagged) → n ≡ 
     → entries_within n bytes ≡ one_if (is_entry (operation_of m.body)) + entries_within k behind
 unfolding entries_within
 entries_more n k bytes behind m is e =
-    ap (λ (j : ℕ). entries_within j bytes) is ∙ ap (λ (r : Reading Tagged BerFault). with_message r (entries_within k)) e
+    ap (λ (j : ℕ). entries_within j bytes) is
+    ∙ ap (λ (r : Reading Tagged BerFault). with_message r (entries_within k)) e
 
-pub entries_end : (n k : ℕ) (bytes : List ℕ) (d : BerFault) → n ≡ suc k → element_at bytes ≡ Err d → entries_within n bytes ≡ 0
+pub entries_end : (n k : ℕ) (bytes : List ℕ) (d : BerFault) → n ≡ suc k → element_at bytes ≡ Err d
+    → entries_within n bytes ≡ 0
 unfolding entries_within
-entries_end n k bytes d is e = ap (λ (j : ℕ). entries_within j bytes) is ∙ ap (λ (r : Reading Tagged BerFault). with_message r (entries_within k)) e
+entries_end n k bytes d is e = ap (λ (j : ℕ). entries_within j bytes) is
+    ∙ ap (λ (r : Reading Tagged BerFault). with_message r (entries_within k)) e
 
 pub entries_none : (n : ℕ) (bytes : List ℕ) → n ≡ 0 → entries_within n bytes ≡ 0
 unfolding entries_within

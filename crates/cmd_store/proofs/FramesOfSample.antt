@@ -1,5 +1,6 @@
 -- The bytes of the sample's frames encode them.
-use Rattle.std.proofs.Common.{◌≡◌, ◌∙◌, ℕ, suc, ◌<◌, ◌≤◌, ◌^◌, inl, List, [], ◌∷◌, ◌++◌, length, refl, sym, ap, append_assoc, arith}
+use Rattle.std.proofs.Common.{◌≡◌, ◌∙◌, ℕ, suc, ◌<◌, ◌≤◌, ◌^◌, inl, List, [], ◌∷◌, ◌++◌, length, refl, sym, ap}
+use Rattle.std.proofs.Common.{append_assoc, arith}
 use Rattle.std.proofs.lemmas.List.{append-nil}
 use Rattle.ad_bytes.specs.Numbers.{be_bytes, le_bytes}
 use Rattle.ad_ids.specs.Sid.{IsSid, sid_bytes}
@@ -11,7 +12,8 @@ use Rattle.ad_frames.specs.Frame.{kind_byte, SpellsContent, SpellsFrame}
 use Rattle.ad_frames.specs.Frames.{Whole, with_first, frames_within, frames_of}
 use Rattle.ad_frames.proofs.FrameCodec.{frame_reader}
 use Rattle.ad_frames.proofs.FramesLaws.{one_first}
-use Rattle.ad_gen.specs.Frames.{frame, identity, well_known, builtin_administrators, in_domain, administrator, user_token, changing, whole, frames}
+use Rattle.ad_gen.specs.Frames.{frame, identity, well_known, builtin_administrators, in_domain, administrator}
+use Rattle.ad_gen.specs.Frames.{user_token, changing, whole, frames}
 use Rattle.ad_gen.specs.Messages.{modify_message, search_message}
 use Rattle.cmd_store.specs.SampleFrames.{of_body, administrator_token, second_user_token, sample_frames}
 use Rattle.cmd_store.proofs.Messages.{modify_few, search_few}
@@ -28,7 +30,8 @@ below_width : (n : ℕ) → n ≤ max_body → n < 256 ^ 4
 unfolding max_body
 below_width n few = omega (arith, few)
 
-frame_spelled : (b : FrameBody) (content : List ℕ) → length content ≤ max_body → SpellsContent b content → SpellsFrame (of_body b) (frame (kind_byte b) content)
+frame_spelled : (b : FrameBody) (content : List ℕ) → length content ≤ max_body → SpellsContent b content
+    → SpellsFrame (of_body b) (frame (kind_byte b) content)
 unfolding frame max_connections be_bytes
 frame_spelled b content few spelled = record {
   content = content;
@@ -61,15 +64,28 @@ one_read : (b : FrameBody) (content rest : List ℕ) (n : ℕ) → length conten
     → frames_within (suc n) (frame (kind_byte b) content ++ rest) ≡ with_first (of_body b) (frames_within n rest)
 one_read b content rest n few spelled =
     let text = frame (kind_byte b) content in
-    one_first n (text ++ rest) rest (of_body b) (frame_reader.again (of_body b) text rest (frame_spelled b content few spelled))
+    one_first n (text ++ rest) rest (of_body b)
+    (frame_reader.again (of_body b) text rest (frame_spelled b content few spelled))
 
 -- ---- the tokens
 
 builtin_is : IsSid builtin_administrators
-builtin_is = record { authority = omega arith; at_least_one = omega arith; at_most_15 = omega arith; sub_authorities = (omega arith, (omega arith, tt)) }
+builtin_is = record {
+  authority = omega arith;
+  at_least_one = omega arith;
+  at_most_15 = omega arith;
+  sub_authorities
+      = (omega arith, (omega arith, tt));
+}
 
 well_known_is : (authority number : ℕ) → authority < 6 → number < 12 → IsSid (well_known authority number)
-well_known_is authority number low small = record { authority = omega (arith, low); at_least_one = omega arith; at_most_15 = omega arith; sub_authorities = (omega (arith, small), tt) }
+well_known_is authority number low small = record {
+  authority = omega (arith, low);
+  at_least_one
+      = omega arith;
+  at_most_15 = omega arith;
+  sub_authorities = (omega (arith, small), tt);
+}
 
 domain_is : (number : ℕ) → number < 2000 → IsSid (in_domain number)
 domain_is number small = record {
@@ -86,18 +102,21 @@ administrator_spelled = (
     privileges = omega arith;
     text_is = record {
       front = 1 ∷ [];
-      behind = 1 ∷ (sid_bytes builtin_administrators ++ (sid_bytes builtin_administrators ++ sid_bytes builtin_administrators)) ++ (0 ∷ 0 ∷ []);
+      behind = 1 ∷ (sid_bytes builtin_administrators
+          ++ (sid_bytes builtin_administrators ++ sid_bytes builtin_administrators)) ++ (0 ∷ 0 ∷ []);
       parts = refl;
       spelled = (omega arith, refl);
       follows = record {
         front = 1 ∷ [];
-        behind = (sid_bytes builtin_administrators ++ (sid_bytes builtin_administrators ++ sid_bytes builtin_administrators)) ++ (0 ∷ 0 ∷ []);
+        behind = (sid_bytes builtin_administrators
+            ++ (sid_bytes builtin_administrators ++ sid_bytes builtin_administrators)) ++ (0 ∷ 0 ∷ []);
         parts = refl;
         spelled = (omega arith, refl);
         follows = record {
           front = sid_bytes builtin_administrators;
           behind = (sid_bytes builtin_administrators ++ sid_bytes builtin_administrators) ++ (0 ∷ 0 ∷ []);
-          parts = append_assoc (sid_bytes builtin_administrators) (sid_bytes builtin_administrators ++ sid_bytes builtin_administrators) (0 ∷ 0 ∷ []);
+          parts = append_assoc (sid_bytes builtin_administrators)
+              (sid_bytes builtin_administrators ++ sid_bytes builtin_administrators) (0 ∷ 0 ∷ []);
           spelled = (builtin_is, refl);
           follows = record {
             front = sid_bytes builtin_administrators;
@@ -112,7 +131,18 @@ administrator_spelled = (
               follows = inl (
                 refl,
                 record {
-                  groups = record { count = omega arith; text_is = record { front = 0 ∷ 0 ∷ []; behind = []; parts = refl; spelled = (omega arith, refl); follows = refl } };
+                  groups = record {
+                    count = omega arith;
+                    text_is
+                        = record {
+                          front = 0 ∷ 0 ∷ [];
+                          behind = [];
+                          parts = refl;
+                          spelled = (omega arith, refl);
+                          follows
+                              = refl;
+                        };
+                  };
                   deny_only = refl;
                   restricting = refl;
                 },
@@ -136,18 +166,21 @@ user_spelled = (
     privileges = omega arith;
     text_is = record {
       front = 1 ∷ [];
-      behind = 0 ∷ (sid_bytes (in_domain 1002) ++ (sid_bytes (in_domain 1002) ++ sid_bytes (in_domain 513))) ++ groups_bytes;
+      behind = 0 ∷ (sid_bytes (in_domain 1002) ++ (sid_bytes (in_domain 1002) ++ sid_bytes (in_domain 513)))
+          ++ groups_bytes;
       parts = refl;
       spelled = (omega arith, refl);
       follows = record {
         front = 0 ∷ [];
-        behind = (sid_bytes (in_domain 1002) ++ (sid_bytes (in_domain 1002) ++ sid_bytes (in_domain 513))) ++ groups_bytes;
+        behind = (sid_bytes (in_domain 1002) ++ (sid_bytes (in_domain 1002) ++ sid_bytes (in_domain 513)))
+            ++ groups_bytes;
         parts = refl;
         spelled = (omega arith, refl);
         follows = record {
           front = sid_bytes (in_domain 1002);
           behind = (sid_bytes (in_domain 1002) ++ sid_bytes (in_domain 513)) ++ groups_bytes;
-          parts = append_assoc (sid_bytes (in_domain 1002)) (sid_bytes (in_domain 1002) ++ sid_bytes (in_domain 513)) groups_bytes;
+          parts = append_assoc (sid_bytes (in_domain 1002)) (sid_bytes (in_domain 1002) ++ sid_bytes (in_domain 513))
+              groups_bytes;
           spelled = (domain_is 1002 (omega arith), refl);
           follows = record {
             front = sid_bytes (in_domain 1002);
@@ -232,7 +265,8 @@ million : max_frames ≡ suc (suc (suc (suc (suc (suc (suc 999993))))))
 unfolding max_frames
 million = refl
 
-parted : (a b c d e f g : List ℕ) → (a ++ (b ++ (c ++ (d ++ e)))) ++ (f ++ g) ≡ a ++ (b ++ (c ++ (d ++ (e ++ (f ++ (g ++ []))))))
+parted : (a b c d e f g : List ℕ) → (a ++ (b ++ (c ++ (d ++ e)))) ++ (f ++ g) ≡ a
+    ++ (b ++ (c ++ (d ++ (e ++ (f ++ (g ++ []))))))
 parted a b c d e f g =
     append_assoc a (b ++ (c ++ (d ++ e))) (f ++ g)
     ∙ ap (λ (l : List ℕ). a ++ l) (append_assoc b (c ++ (d ++ e)) (f ++ g)
@@ -243,7 +277,8 @@ parted a b c d e f g =
 all_parts : whole ≡ frame 1 administrator ++ (frame 2 modify_message ++ (frame 3 (be_bytes 4 1000000) ++ (frame 4 []
     ++ (frame 3 (be_bytes 4 1000000) ++ (frame 1 user_token ++ (frame 2 search_message ++ []))))))
 unfolding whole changing
-all_parts = parted (frame 1 administrator) (frame 2 modify_message) (frame 3 (be_bytes 4 1000000)) (frame 4 []) (frame 3 (be_bytes 4 1000000)) (frame 1 user_token) (frame 2 search_message)
+all_parts = parted (frame 1 administrator) (frame 2 modify_message) (frame 3 (be_bytes 4 1000000)) (frame 4 [])
+    (frame 3 (be_bytes 4 1000000)) (frame 1 user_token) (frame 2 search_message)
 
 none_left : (n : ℕ) → frames_within (suc n) [] ≡ record { frames = []; end = Whole }
 unfolding frames_within
@@ -253,13 +288,18 @@ pub frames_are : (n : ℕ) → frames_of (frames n) ≡ record { frames = sample
 unfolding frames_of sample_frames
 frames_are n =
     ap (frames_within max_frames) all_parts
-    ∙ ap (λ (k : ℕ). frames_within k (frame 1 administrator ++ (frame 2 modify_message ++ (frame 3 (be_bytes 4 1000000) ++ (frame 4 []
+    ∙ ap (λ (k : ℕ). frames_within k (frame 1 administrator
+    ++ (frame 2 modify_message ++ (frame 3 (be_bytes 4 1000000) ++ (frame 4 []
     ++ (frame 3 (be_bytes 4 1000000) ++ (frame 1 user_token ++ (frame 2 search_message ++ [])))))))) million
     ∙ one_read (body.Token administrator_token) administrator _ _ administrator_few administrator_spelled
-    ∙ ap (with_first (of_body (body.Token administrator_token))) (one_read (body.Message modify_message) modify_message _ _ modify_few refl
-    ∙ ap (with_first (of_body (body.Message modify_message))) (one_read (body.Steps 1000000) (be_bytes 4 1000000) _ _ steps_few steps_spelled
+    ∙ ap (with_first (of_body (body.Token administrator_token)))
+    (one_read (body.Message modify_message) modify_message _ _ modify_few refl
+    ∙ ap (with_first (of_body (body.Message modify_message)))
+    (one_read (body.Steps 1000000) (be_bytes 4 1000000) _ _ steps_few steps_spelled
     ∙ ap (with_first (of_body (body.Steps 1000000))) (one_read body.Run [] _ _ none_few refl
     ∙ ap (with_first (of_body body.Run)) (one_read (body.Steps 1000000) (be_bytes 4 1000000) _ _ steps_few steps_spelled
-    ∙ ap (with_first (of_body (body.Steps 1000000))) (one_read (body.Token second_user_token) user_token _ _ user_few user_spelled
-    ∙ ap (with_first (of_body (body.Token second_user_token))) (one_read (body.Message search_message) search_message _ _ search_few refl
+    ∙ ap (with_first (of_body (body.Steps 1000000)))
+    (one_read (body.Token second_user_token) user_token _ _ user_few user_spelled
+    ∙ ap (with_first (of_body (body.Token second_user_token)))
+    (one_read (body.Message search_message) search_message _ _ search_few refl
     ∙ ap (with_first (of_body (body.Message search_message))) (none_left 999992)))))))

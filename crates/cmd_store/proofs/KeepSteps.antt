@@ -21,13 +21,16 @@ use Rattle.cmd_store.specs.Loading.{Keeps}
 
 -- the output of each moment is the one from before, or the crash states represent the directory
 abbrev pub Crash : {S : Type 0} (s : SiteGhosts S) (dir : Directory) (old new : S) → Type 0
-Crash s dir old new = IfSome (s.emitted old) (λ said. (t : ℕ) (images : Images) (out : List ℕ) → s.now old ≤ t → s.left new t images out
+Crash s dir old new = IfSome (s.emitted old) (λ said. (t : ℕ) (images : Images) (out : List ℕ) → s.now old ≤ t
+    → s.left new t images out
     → (out ≡ said) ⊎ IsStoreOf images dir)
 
 pub crash_by : {S : Type 0} (s : SiteGhosts S) (dir : Directory) (old new : S) (r : Option (List ℕ)) → r ≡ s.emitted old
-    → ((said : List ℕ) → s.emitted old ≡ Some said → (t : ℕ) (images : Images) (out : List ℕ) → s.now old ≤ t → s.left new t images out
+    → ((said : List ℕ) → s.emitted old ≡ Some said → (t : ℕ) (images : Images) (out : List ℕ) → s.now old ≤ t
+    → s.left new t images out
     → (out ≡ said) ⊎ IsStoreOf images dir)
-    → IfSome r (λ said. (t : ℕ) (images : Images) (out : List ℕ) → s.now old ≤ t → s.left new t images out → (out ≡ said) ⊎ IsStoreOf images dir)
+    → IfSome r (λ said. (t : ℕ) (images : Images) (out : List ℕ) → s.now old ≤ t → s.left new t images out
+    → (out ≡ said) ⊎ IsStoreOf images dir)
 crash_by s dir old new None is by = tt
 crash_by s dir old new (Some said) is by = by said (sym is)
 
@@ -36,7 +39,8 @@ not_both None empty taken = empty
 not_both (Some held) empty (inl a) = omega (arith, a, empty.0)
 not_both (Some held) empty (inr b) = omega (arith, b, empty.1)
 
-pub told_too : (P : Images → Type 0) (r0 r1 : Option Images) → IsTold AreEmpty r0 → StaysKnown r0 r1 → IfSome r1 P → (held : Images) × P held
+pub told_too : (P : Images → Type 0) (r0 r1 : Option Images) → IsTold AreEmpty r0 → StaysKnown r0 r1 → IfSome r1 P
+    → (held : Images) × P held
 told_too P None r1 empty known p = absurd empty
 told_too P (Some x) None empty known p = absurd known
 told_too P (Some x) (Some y) empty known p = (y, p)
@@ -64,7 +68,11 @@ module _ {S : Type 0} (s : SiteGhosts S) where
     taken = λ no. absurd cc;
     failed = λ no. absurd cc;
     quiet = λ _. touches.output;
-    unwritten = λ _. record { held = unwritten.0; images = λ t images out le left. (out, unwritten.1 t images out le left) };
+    unwritten = λ _. record {
+      held = unwritten.0;
+      images = λ t images out le left.
+          (out, unwritten.1 t images out le left);
+    };
     moments = touches.moments;
     crash = λ empty. crash_by s dir x y (s.emitted x) refl
         (λ said is t images out le left. inl (says_nothing s law x y said touches.quiet is t images out le left));
@@ -72,7 +80,8 @@ module _ {S : Type 0} (s : SiteGhosts S) where
   }
 
   -- or since the site failed
-  pub kept_failed : IsLawful s → (dir : Directory) (x y : S) → TouchesSlots s x y → HasRisen (s.slot_faults x) (s.slot_faults y) → Keeps s dir x y SiteFailed
+  pub kept_failed : IsLawful s → (dir : Directory) (x y : S) → TouchesSlots s x y → HasRisen (s.slot_faults x)
+      (s.slot_faults y) → Keeps s dir x y SiteFailed
   kept_failed law dir x y touches cause = record {
     done = λ no. absurd cc;
     taken = λ no. absurd cc;
@@ -86,13 +95,18 @@ module _ {S : Type 0} (s : SiteGhosts S) where
   }
 
   -- or since a slot wasn't empty
-  pub kept_taken : IsLawful s → (dir : Directory) (x y z : S) (outcome : Outcome) → TouchesSlots s x y → IfSome (s.reads x) IsTaken
+  pub kept_taken : IsLawful s → (dir : Directory) (x y z : S) (outcome : Outcome) → TouchesSlots s x y
+      → IfSome (s.reads x) IsTaken
       → StaysTold (s.reads x) (s.reads y) × LeavesSame (s.now x) (s.left x) (s.left y)
       → Says s y z (store_line Taken) NoStore outcome → Keeps s dir x z outcome
   kept_taken law dir x y z outcome touches taken unwritten says = ⊎_elim
       (λ done. subst (Keeps s dir x z) (sym done.0) (record {
         done = λ no. absurd cc;
-        taken = λ _. (taken, emits_on (s.emitted x) (s.emitted y) (s.emitted z) (store_line Taken) touches.output done.1);
+        taken = λ _. (
+          taken,
+          emits_on (s.emitted x) (s.emitted y) (s.emitted z) (store_line Taken) touches.output
+              done.1,
+        );
         failed = λ no. absurd cc;
         quiet = λ no. absurd cc;
         unwritten = λ _. keeps;
@@ -106,7 +120,11 @@ module _ {S : Type 0} (s : SiteGhosts S) where
         failed = λ _. (
           inr (subst (λ k. HasRisen k (s.out_faults z)) touches.out_faults failed.2),
           inr
-              (inr (taken, part_on (s.emitted x) (s.emitted y) (s.emitted z) (store_line Taken) touches.output failed.1)),
+              (inr (
+                taken,
+                part_on (s.emitted x) (s.emitted y) (s.emitted z) (store_line Taken) touches.output
+                    failed.1,
+              )),
         );
         quiet = λ no. absurd cc;
         unwritten = λ no. absurd no;
@@ -120,11 +138,14 @@ module _ {S : Type 0} (s : SiteGhosts S) where
       goes = goes_on_on (s.now x) (s.now y) (s.now z) (s.left x) (s.left y) (s.left z) touches.moments says.moments
 
       keeps : KeepsSlots s x z
-      keeps = keeps_said s x y z (store_line Taken) unwritten.0 unwritten.1 touches.moments.later says.held says.moments says.images
+      keeps = keeps_said s x y z (store_line Taken) unwritten.0 unwritten.1 touches.moments.later says.held
+          says.moments says.images
 
   -- the store was made, and its line said
-  pub kept_said : IsLawful s → (dir : Directory) (x y z : S) (outcome : Outcome) → TouchesSlots s x y → IfSome (s.reads y) (λ held. IsStoreOf held dir)
-      → IfSome (s.reads y) (λ held. (images : Images) (out : List ℕ) → s.left y (s.now y) images out → IsStoreOf images dir)
+  pub kept_said : IsLawful s → (dir : Directory) (x y z : S) (outcome : Outcome) → TouchesSlots s x y
+      → IfSome (s.reads y) (λ held. IsStoreOf held dir)
+      → IfSome (s.reads y) (λ held. (images : Images) (out : List ℕ) → s.left y (s.now y) images out
+      → IsStoreOf images dir)
       → Says s y z (objects_line dir) Done outcome → Keeps s dir x z outcome
   kept_said law dir x y z outcome touches store every says = ⊎_elim
       (λ done. subst (Keeps s dir x z) (sym done.0) (record {
@@ -174,6 +195,7 @@ module _ {S : Type 0} (s : SiteGhosts S) where
           let all = told_too (λ held. (images : Images) (out : List ℕ) → s.left y (s.now y) images out
           → IsStoreOf images dir) (s.reads x) (s.reads y) empty touches.known every in
           crash_by s dir x z (s.emitted x) refl (λ said is t images out le left. ⊎_elim
-          (λ lt. inl (says_nothing s law x y said touches.quiet is t images out le ((says.moments.earlier t images out lt).0 left)))
+          (λ lt. inl (says_nothing s law x y said touches.quiet is t images out le
+          ((says.moments.earlier t images out lt).0 left)))
           (λ ge. let so_far = says.images t images out ge left in inr (all.1 images so_far.0 so_far.2))
           (cases_lt t (s.now y)))

@@ -1,5 +1,6 @@
 -- `adsd list`, from what the slots are opened as and from what was emitted.
-use Rattle.std.proofs.Common.{◌≡◌, ◌∙◌, inl, inr, ℕ, Bool, true, false, List, [], ◌∷◌, Option, Some, None, Err, refl, sym, ap, subst}
+use Rattle.std.proofs.Common.{◌≡◌, ◌∙◌, inl, inr, ℕ, Bool, true, false, List, [], ◌∷◌, Option, Some, None, Err, refl}
+use Rattle.std.proofs.Common.{sym, ap, subst}
 use Rattle.std.specs.Prelude.{◌&&◌, reverse, length, drop, if◌then◌else◌}
 use Rattle.std.specs.Option.{IfSome}
 use Rattle.std.proofs.lemmas.Bool.{and_parts}
@@ -30,7 +31,8 @@ use Rattle.cmd_call.proofs.Telling.{Tells, whole, part, nothing, telling_by, unh
 use Rattle.cmd_store.specs.Opened.{IsDirStore, NoDirStore}
 use Rattle.cmd_store.specs.Refused.{Refused}
 use Rattle.cmd_store.proofs.Refusing.{never_with, Ends, refused, failed, stopped, refusal_by, partly_said}
-use Rattle.cmd_store.specs.List.{ListDoes, IsStoreNamed, HasObject, HasNoObject, IsListText, IsPartlyListed, number_named, text_for, list_text, outcome_for, list_outcome}
+use Rattle.cmd_store.specs.List.{ListDoes, IsStoreNamed, HasObject, HasNoObject, IsListText, IsPartlyListed}
+use Rattle.cmd_store.specs.List.{number_named, text_for, list_text, outcome_for, list_outcome}
 
 -- ---- the object of a name is live
 
@@ -39,10 +41,12 @@ below_lives : (dir : Directory) (n m : ℕ) (rdns : List Rdn) → Rise dir.objec
 unfolding found_below
 below_lives dir n m [] rise live is = subst (λ (k : ℕ). is_live dir.objects k ≡ true) (same_Some n m is) live
 below_lives dir n m (rdn ∷ rdns) rise live is =
-    option_and_then_some (λ (child : ℕ). found_below dir child rdns) (child_of_rdn dir n rdn) m is (λ (child : ℕ) first rest.
+    option_and_then_some (λ (child : ℕ). found_below dir child rdns) (child_of_rdn dir n rdn) m is
+    (λ (child : ℕ) first rest.
     below_lives dir child m rdns rise (child_lives dir n child rdn rise first) rest)
 
-found_lives : (dir : Directory) (rdns : List Rdn) (m : ℕ) → Rise dir.objects → found dir rdns ≡ Some m → is_live dir.objects m ≡ true
+found_lives : (dir : Directory) (rdns : List Rdn) (m : ℕ) → Rise dir.objects → found dir rdns ≡ Some m
+    → is_live dir.objects m ≡ true
 unfolding found
 found_lives dir rdns m rise is = by_end (reverse (rdns_of dir root)) (reverse rdns) is
   where
@@ -52,7 +56,8 @@ found_lives dir rdns m rise is = by_end (reverse (rdns_of dir root)) (reverse rd
         by_test : (b : Bool) → (is_live dir.objects root && begins_with parts top) ≡ b
             → (if b then found_below dir root (drop (length top) parts) else None) ≡ Some m
             → is_live dir.objects m ≡ true
-        by_test true e is'' = below_lives dir root m (drop (length top) parts) rise (and_parts (is_live dir.objects root) (begins_with parts top) e).0 is''
+        by_test true e is'' = below_lives dir root m (drop (length top) parts) rise
+            (and_parts (is_live dir.objects root) (begins_with parts top) e).0 is''
         by_test false e is'' = absurd (none-some m is'')
 
 pub found_live : (dir : Directory) (rdns : List Rdn) (r : Option ℕ) → Rise dir.objects → r ≡ found dir rdns
@@ -65,15 +70,19 @@ found_live dir rdns (Some n) rise is = found_lives dir rdns n rise (sym is)
 one_named : (held : Images) (a b : Directory) → IsStoreNamed held a → IsStoreNamed held b → a ≡ b
 one_named held a b of_a of_b = one_store held a b of_a.store of_b.store
 
-pub clash_missing : (name : List ℕ) (dir : Directory) (r : Option Images) → IfSome r (λ held. IsStoreNamed held dir) → number_named dir name ≡ None
+pub clash_missing : (name : List ℕ) (dir : Directory) (r : Option Images) → IfSome r (λ held. IsStoreNamed held dir)
+    → number_named dir name ≡ None
     → IsTold (HasObject name) r → ⊥
 clash_missing name dir r stands none told = told_meets (HasObject name) (λ held. IsStoreNamed held dir) r
-    (λ held has is. none-some has.1 (sym none ∙ ap (λ (d : Directory). number_named d name) (one_named held dir has.0 is has.2) ∙ has.3)) told stands
+    (λ held has is. none-some has.1 (sym none ∙ ap (λ (d : Directory). number_named d name)
+    (one_named held dir has.0 is has.2) ∙ has.3)) told stands
 
-pub clash_there : (name : List ℕ) (dir : Directory) (number : ℕ) (r : Option Images) → IfSome r (λ held. IsStoreNamed held dir)
+pub clash_there : (name : List ℕ) (dir : Directory) (number : ℕ) (r : Option Images)
+    → IfSome r (λ held. IsStoreNamed held dir)
     → number_named dir name ≡ Some number → IsTold (HasNoObject name) r → ⊥
 clash_there name dir number r stands there told = told_meets (HasNoObject name) (λ held. IsStoreNamed held dir) r
-    (λ held has is. none-some number (sym has.2 ∙ ap (λ (d : Directory). number_named d name) (one_named held has.0 dir has.1 is) ∙ there)) told stands
+    (λ held has is. none-some number (sym has.2 ∙ ap (λ (d : Directory). number_named d name)
+    (one_named held has.0 dir has.1 is) ∙ there)) told stands
 
 pub named_on : (dir : Directory) (r : Option Images) → IfSome r (λ held. IsStoreOf held dir) → AreRdns dir.meta.suffix
     → IfSome r (λ held. IsStoreNamed held dir)
@@ -81,8 +90,10 @@ named_on dir r stands suffix = told_map (λ held. IsStoreOf held dir) (λ held. 
     (λ held is. record { store = is; suffix = suffix }) stands
 
 -- slots that represent a directory are no others
-pub stands_clash : (dir : Directory) (r : Option Images) → IfSome r (λ held. IsStoreNamed held dir) → IsTold NoDirStore r → ⊥
-stands_clash dir r stands none = told_clash NoDirStore (λ held. IsStoreNamed held dir) r (λ held no named. no (dir, named.store)) none stands
+pub stands_clash : (dir : Directory) (r : Option Images) → IfSome r (λ held. IsStoreNamed held dir)
+    → IsTold NoDirStore r → ⊥
+stands_clash dir r stands none = told_clash NoDirStore (λ held. IsStoreNamed held dir) r
+    (λ held no named. no (dir, named.store)) none stands
 
 -- a store with an object of the name is one of a directory
 pub has_dir : (name : List ℕ) (held : Images) → HasObject name held → IsDirStore held
@@ -113,7 +124,8 @@ module _ {S : Type 0} (site : SiteGhosts S) (name : List ℕ) where
   )
 
   -- the site failed
-  listed_failed : (x z : S) → KeepsSlots site x z → HasFailed site x z → IsPartlyListed site name x z → Lists x z SiteFailed
+  listed_failed : (x z : S) → KeepsSlots site x z → HasFailed site x z → IsPartlyListed site name x z
+      → Lists x z SiteFailed
   listed_failed x z keeps cause partly = (
     record {
       done = λ no. absurd cc;
@@ -134,8 +146,10 @@ module _ {S : Type 0} (site : SiteGhosts S) (name : List ℕ) where
   -- ---- the store represents a directory
 
   -- the text for the object of the name, or for none, was emitted
-  listed_whole : (x z : S) (dir : Directory) (number : Option ℕ) → number_named dir name ≡ number → IfSome (site.reads x) (λ held. IsStoreNamed held dir)
-      → KeepsSlots site x z → Emits (site.emitted x) (site.emitted z) (text_for dir number) → Lists x z (outcome_for number)
+  listed_whole : (x z : S) (dir : Directory) (number : Option ℕ) → number_named dir name ≡ number
+      → IfSome (site.reads x) (λ held. IsStoreNamed held dir)
+      → KeepsSlots site x z → Emits (site.emitted x) (site.emitted z) (text_for dir number)
+      → Lists x z (outcome_for number)
   listed_whole x z dir (Some number) is stands keeps text = (
     record {
       done = λ _. record { dir = dir; store = stands; number = number; named = is; text = text };
@@ -169,20 +183,24 @@ module _ {S : Type 0} (site : SiteGhosts S) (name : List ℕ) where
     λ no. absurd cc,
   )
 
-  listed_so : (x z : S) (dir : Directory) (outcome : Outcome) → IfSome (site.reads x) (λ held. IsStoreNamed held dir) → KeepsSlots site x z
+  listed_so : (x z : S) (dir : Directory) (outcome : Outcome) → IfSome (site.reads x) (λ held. IsStoreNamed held dir)
+      → KeepsSlots site x z
       → Tells site x z (list_text dir name) (list_outcome dir name) outcome → Lists x z outcome
   listed_so x z dir outcome stands keeps (whole is text) =
       subst (Lists x z) (sym is) (listed_whole x z dir (number_named dir name) refl stands keeps text)
-  listed_so x z dir outcome stands keeps (part is risen text) = subst (Lists x z) (sym is) (listed_failed x z keeps (inr risen) (inr (
-    list_text dir name,
-    told_map (λ held. IsStoreNamed held dir) (λ held. IsListText name held (list_text dir name)) (site.reads x)
-        (λ held named. inl (dir, named, refl)) stands,
-    text,
-  )))
+  listed_so x z dir outcome stands keeps (part is risen text) = subst (Lists x z) (sym is)
+      (listed_failed x z keeps (inr risen) (inr (
+        list_text dir name,
+        told_map (λ held. IsStoreNamed held dir) (λ held. IsListText name held (list_text dir name)) (site.reads x)
+            (λ held named. inl (dir, named, refl)) stands,
+        text,
+      )))
   listed_so x z dir outcome stands keeps (nothing is quiet) = subst (Lists x z) (sym is) (listed_memory x z keeps quiet)
 
-  pub listed_told : (x y z : S) (dir : Directory) (outcome : Outcome) → OnlyLooks site x y → IfSome (site.reads x) (λ held. IsStoreOf held dir)
-      → AreRdns dir.meta.suffix → SaysUnless site y z (list_text dir name) (list_outcome dir name) outcome → Lists x z outcome
+  pub listed_told : (x y z : S) (dir : Directory) (outcome : Outcome) → OnlyLooks site x y
+      → IfSome (site.reads x) (λ held. IsStoreOf held dir)
+      → AreRdns dir.meta.suffix → SaysUnless site y z (list_text dir name) (list_outcome dir name) outcome
+      → Lists x z outcome
   listed_told x y z dir outcome looks stands suffix said =
       let telling = telling_by site x y z (list_text dir name) (list_outcome dir name) outcome looks said in
       listed_so x z dir outcome (named_on dir (site.reads x) stands suffix) telling.slots telling.ends
@@ -211,8 +229,10 @@ module _ {S : Type 0} (site : SiteGhosts S) (name : List ℕ) where
   listed_not x z outcome keeps (stopped is quiet) = subst (Lists x z) (sym is) (listed_memory x z keeps quiet)
 
   -- no store was opened, for whatever reason
-  pub listed_by : (x y z : S) (why : OpenFault) (outcome : Outcome) → OnlyLooks site x y → IfSome (site.reads x) (λ held. IsOpenedAs held (Err why))
-      → (why ≡ fault.Site → HasRisen (site.slot_faults x) (site.slot_faults y)) → Refused site y z why outcome → Lists x z outcome
+  pub listed_by : (x y z : S) (why : OpenFault) (outcome : Outcome) → OnlyLooks site x y
+      → IfSome (site.reads x) (λ held. IsOpenedAs held (Err why))
+      → (why ≡ fault.Site → HasRisen (site.slot_faults x) (site.slot_faults y)) → Refused site y z why outcome
+      → Lists x z outcome
   listed_by x y z why outcome looks opened risen said =
       let refusal = refusal_by site x y z why outcome looks opened risen said in
       listed_not x z outcome refusal.slots refusal.ends

@@ -1,5 +1,6 @@
 -- The two messages of the sample are short.
-use Rattle.std.proofs.Common.{◌≡◌, ◌∙◌, ℕ, suc, ◌+◌, ◌*◌, ◌≤◌, false, inl, inr, nat_lt, Some, None, Ok, List, [], ◌∷◌, ◌++◌, length, refl, ap, length-append, arith, codes}
+use Rattle.std.proofs.Common.{◌≡◌, ◌∙◌, ℕ, suc, ◌+◌, ◌*◌, ◌≤◌, false, inl, inr, nat_lt, Some, None, Ok, List, [], ◌∷◌}
+use Rattle.std.proofs.Common.{◌++◌, length, refl, ap, length-append, arith, codes}
 use Rattle.std.specs.Str.{str_to_ascii_lowercase}
 use Rattle.std.specs.Fmt.{digits}
 use Rattle.std.proofs.lemmas.Bool.{cases_Bool}
@@ -17,19 +18,23 @@ use Rattle.ad_sd.specs.declared.parts.AceList.{AceList}
 use Rattle.ad_sd.specs.declared.parts.SdParts.{SdParts}
 use Rattle.ad_sd.specs.Writing.{laid_out, written}
 use Rattle.ad_sddl.specs.Grammar.{no_parts}
-use Rattle.ad_sddl.specs.Reading.{end_at, code_at, codes_at, hex_at, guid_at, alias_at, sid_at, type_at, entry_at, entries_at, list_flag_at, list_flags_at, list_at, once_at, part_at, rest_at, located, read_of}
+use Rattle.ad_sddl.specs.Reading.{end_at, code_at, codes_at, hex_at, guid_at, alias_at, sid_at, type_at, entry_at}
+use Rattle.ad_sddl.specs.Reading.{entries_at, list_flag_at, list_flags_at, list_at, once_at, part_at, rest_at}
+use Rattle.ad_sddl.specs.Reading.{located, read_of}
 use Rattle.ad_sddl.specs.Words.{begins, flag_codes, right_codes, alias_codes}
 use Rattle.ad_ber.specs.Writing.{width, length_bytes, header, element_bytes, number_bytes, number_element}
 use Rattle.ad_ber.proofs.Shortest.{width_within}
 use Rattle.ad_frames.specs.Limits.{max_body}
 use Rattle.ad_gen.specs.Descriptor.{bytes_or_none, written_or_none, descriptor_bytes}
-use Rattle.ad_gen.specs.Messages.{attribute_of_change, changes, modify_request, list_flag, critical_flag, list_alone, modify_message, wider_list}
+use Rattle.ad_gen.specs.Messages.{attribute_of_change, changes, modify_request, list_flag, critical_flag, list_alone}
+use Rattle.ad_gen.specs.Messages.{modify_message, wider_list}
 use Rattle.ad_gen.specs.Messages.{filter, bounds, search_request, search_message}
 
 -- ---- the search
 
 search_length : length search_message ≡ 60
-unfolding search_message search_request bounds filter element_bytes header length_bytes number_element number_bytes width be_bytes
+unfolding search_message search_request bounds filter element_bytes header length_bytes number_element number_bytes
+    width be_bytes
 search_length = refl
 
 pub search_few : length search_message ≤ max_body
@@ -63,18 +68,22 @@ third_text : List ℕ
 third_text = codes "a;ci;rpwp;;;s-1-5-12)"
 
 first_read : entry_at None first_text ≡ Ok (an_entry 0x10000000 administrators, 40 ∷ second_text)
-unfolding first_text second_text an_entry administrators entry_at type_at end_at codes_at code_at guid_at alias_at sid_at begins flag_codes right_codes alias_codes longest sid_of_text number_of byte_at hex_at
+unfolding first_text second_text an_entry administrators entry_at type_at end_at codes_at code_at guid_at alias_at
+    sid_at begins flag_codes right_codes alias_codes longest sid_of_text number_of byte_at hex_at
 first_read = refl
 
 second_read : entry_at None second_text ≡ Ok (an_entry 0x20094 nt, 40 ∷ third_text)
-unfolding second_text third_text an_entry nt entry_at type_at end_at codes_at code_at guid_at alias_at sid_at begins flag_codes right_codes alias_codes longest sid_of_text number_of byte_at hex_at
+unfolding second_text third_text an_entry nt entry_at type_at end_at codes_at code_at guid_at alias_at sid_at begins
+    flag_codes right_codes alias_codes longest sid_of_text number_of byte_at hex_at
 second_read = refl
 
 third_read : entry_at None third_text ≡ Ok (an_entry 0x30 restricted, [])
-unfolding third_text an_entry restricted entry_at type_at end_at codes_at code_at guid_at alias_at sid_at begins flag_codes right_codes alias_codes longest sid_of_text number_of byte_at hex_at digits
+unfolding third_text an_entry restricted entry_at type_at end_at codes_at code_at guid_at alias_at sid_at begins
+    flag_codes right_codes alias_codes longest sid_of_text number_of byte_at hex_at digits
 third_read = refl
 
-entry_more : (t rest : List ℕ) (e : Entry) (es : List Entry) (n : ℕ) → entry_at None t ≡ Ok (e, rest) → entries_at None n rest ≡ Ok (es, [])
+entry_more : (t rest : List ℕ) (e : Entry) (es : List Entry) (n : ℕ) → entry_at None t ≡ Ok (e, rest)
+    → entries_at None n rest ≡ Ok (es, [])
     → entries_at None (suc n) (40 ∷ t) ≡ Ok (e ∷ es, [])
 unfolding entries_at begins
 entry_more t rest e es n first others = rw (first, others) refl
@@ -125,7 +134,8 @@ unfolding read_of rest_at part_at first_text
 text_read = rw lowered (ap (fault_as (located (length wider_list))) (rest_read (length (100 ∷ 58 ∷ 40 ∷ first_text))))
 
 parts_length : length (bytes_or_none (written the_parts)) ≡ 92
-unfolding written laid_out the_parts the_list entries an_entry administrators nt restricted list_bytes entry_bytes behind_header fixed_bytes sid_bytes le_bytes be_bytes
+unfolding written laid_out the_parts the_list entries an_entry administrators nt restricted list_bytes entry_bytes
+    behind_header fixed_bytes sid_bytes le_bytes be_bytes
 parts_length = refl
 
 descriptor_length : length (descriptor_bytes wider_list) ≡ 92
@@ -146,7 +156,12 @@ element_short tag body = elim (cases_Bool (nat_lt (length body) 128)) [
 
 number_short : (tag n : ℕ) → length (number_element tag n) ≤ 18
 unfolding number_element number_bytes
-number_short tag n = omega (arith, element_short tag (be_bytes (width (2 * n)) n), length-be_bytes (width (2 * n)) n, (width_within (2 * n)).1)
+number_short tag n = omega (
+  arith,
+  element_short tag (be_bytes (width (2 * n)) n),
+  length-be_bytes (width (2 * n)) n,
+  (width_within (2 * n)).1,
+)
 
 attribute_short : length attribute_of_change ≤ 172
 unfolding attribute_of_change
@@ -182,10 +197,19 @@ unfolding modify_request
 request_short =
     let name : length (codes "DC=sample") ≡ 9 = refl in
     let body = element_bytes 4 (codes "DC=sample") ++ changes in
-    omega (arith, element_short 0x66 body, length-append (element_bytes 4 (codes "DC=sample")) changes, element_short 4 (codes "DC=sample"), changes_short, name)
+    omega (
+      arith,
+      element_short 0x66 body,
+      length-append (element_bytes 4 (codes "DC=sample")) changes,
+      element_short
+          4 (codes "DC=sample"),
+      changes_short,
+      name,
+    )
 
 control_length : length list_alone ≡ 36
-unfolding list_alone critical_flag list_flag element_bytes header length_bytes number_element number_bytes width be_bytes
+unfolding list_alone critical_flag list_flag element_bytes header length_bytes number_element number_bytes width
+    be_bytes
 control_length = refl
 
 pub modify_few : length modify_message ≤ max_body

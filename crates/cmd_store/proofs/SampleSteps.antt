@@ -1,5 +1,6 @@
 -- `adsd sample`, from what it loaded and from what it did with it.
-use Rattle.std.proofs.Common.{◌≡◌, ◌∙◌, ◌⊎◌, inl, inr, ⊎_elim, ℕ, ◌≤◌, List, Option, Some, None, Result, Ok, Err, refl, sym, subst, arith}
+use Rattle.std.proofs.Common.{◌≡◌, ◌∙◌, ◌⊎◌, inl, inr, ⊎_elim, ℕ, ◌≤◌, List, Option, Some, None, Result, Ok, Err}
+use Rattle.std.proofs.Common.{refl, sym, subst, arith}
 use Rattle.std.specs.Option.{IfSome}
 use Rattle.std.proofs.lemmas.Bool.{cases_lt}
 use Rattle.site_io.specs.Counts.{HasRisen}
@@ -17,8 +18,11 @@ use Rattle.cmd_call.specs.Call.{IsTold}
 use Rattle.cmd_call.specs.Outcome.{IsEarly, IsOfStore}
 use Rattle.cmd_call.specs.Store.{AreEmpty, IsTaken, KeepsSlots, IsSiteHealthy, HasFailed, Says}
 use Rattle.cmd_call.specs.declared.outcome.Outcome.{Outcome}
-use Rattle.cmd_call.specs.declared.outcome.Outcome.TheVariants.{Done, NotOfForm, NoCommand, NoStore, NoObject, TooMany, SourceFailed, SiteFailed, NoMemory}
-use Rattle.cmd_call.proofs.Moments.{told_back, stays_same, stays_on, emits_on, part_on, rises_from, IsLawful, says_nothing, looks_quiet, goes_not, keeps_not, quiet_not, looks_keep, keeps_on, keeps_said}
+use Rattle.cmd_call.specs.declared.outcome.Outcome.TheVariants.{Done, NotOfForm, NoCommand, NoStore, NoObject}
+use Rattle.cmd_call.specs.declared.outcome.Outcome.TheVariants.{TooMany, SourceFailed, SiteFailed, NoMemory}
+use Rattle.cmd_call.proofs.Moments.{told_back, stays_same, stays_on, emits_on, part_on, rises_from, IsLawful}
+use Rattle.cmd_call.proofs.Moments.{says_nothing, looks_quiet, goes_not, keeps_not, quiet_not, looks_keep, keeps_on}
+use Rattle.cmd_call.proofs.Moments.{keeps_said}
 use Rattle.cmd_store.specs.Load.{LoadsAs, NoDirectory}
 use Rattle.cmd_store.proofs.KeepSteps.{crash_by, not_both}
 use Rattle.cmd_store.proofs.LoadSteps.{ends_as}
@@ -73,23 +77,34 @@ module _ {S : Type 0} (site : SiteGhosts S) where
 
   -- ---- the text is that of a directory
 
-  pub of_directory : (n : ℕ) (old new : S) (dir : Directory) (outcome : Outcome) → LoadsAs dir (ldif n) → Samples site dir (sent n) old new outcome
+  pub of_directory : (n : ℕ) (old new : S) (dir : Directory) (outcome : Outcome) → LoadsAs dir (ldif n)
+      → Samples site dir (sent n) old new outcome
       → SamplesEmpty site n old new outcome
   of_directory n old new dir outcome loads samples = record {
-    done = λ is. record { dir = dir; loads = loads; text = samples.text is; store = samples.store is; every_crash = samples.every_crash is };
+    done = λ is. record {
+      dir = dir;
+      loads = loads;
+      text = samples.text is;
+      store = samples.store is;
+      every_crash
+          = samples.every_crash is;
+    };
     refused = λ is. absurd (subst IsOfStore is samples.only);
     taken = λ is. let taken = samples.taken is in record { slots = taken.0; line = taken.1 };
     complete = λ _ empty healthy. ⊎_elim
         (λ done. inl done)
         (λ more. ⊎_elim (λ taken. absurd (not_both (site.reads old) empty (samples.taken taken).0))
-        (λ last. ⊎_elim (λ failed. absurd (no_healthy old new (samples.failed failed).0 healthy)) (λ memory. inr memory) last) more)
+        (λ last. ⊎_elim (λ failed. absurd (no_healthy old new (samples.failed failed).0 healthy))
+        (λ memory. inr memory) last) more)
         (ends_as outcome samples.only);
     refuses = λ none _ _. absurd (no_other n dir loads none);
     partly = λ is. partly (samples.failed is).1;
     quiet = λ is. samples.quiet (early_store outcome samples.only is);
     unwritten = unwritten;
-    crash = λ other is empty. subst (λ (d : Directory). IfSome (site.emitted old) (λ said. (t : ℕ) (images : Images) (out : List ℕ) → site.now old ≤ t
-        → site.left new t images out → (out ≡ said) ⊎ IsStoreOf images (sampled d n))) (one_directory n dir other loads is) (samples.crash empty);
+    crash = λ other is empty. subst (λ (d : Directory). IfSome (site.emitted old)
+        (λ said. (t : ℕ) (images : Images) (out : List ℕ) → site.now old ≤ t
+        → site.left new t images out → (out ≡ said) ⊎ IsStoreOf images (sampled d n)))
+        (one_directory n dir other loads is) (samples.crash empty);
     moments = samples.moments;
     site_failed = λ is. (samples.failed is).0;
     only = of_sample outcome samples.only;
@@ -133,7 +148,8 @@ module _ {S : Type 0} (site : SiteGhosts S) where
     quiet = λ _. stays_same (site.emitted old);
     unwritten = λ _. keeps_not site law old;
     crash = λ dir _ _. crash_by site (sampled dir n) old old (site.emitted old) refl
-        (λ said is t images out le left. inl (says_nothing site law old old said (quiet_not site law old) is t images out le left));
+        (λ said is t images out le left. inl (says_nothing site law old old said (quiet_not site law old) is t images
+        out le left));
     moments = goes_not site old;
     site_failed = λ no. absurd cc;
     only = tt;
@@ -143,7 +159,8 @@ module _ {S : Type 0} (site : SiteGhosts S) where
 
   healthy_from : (x y z : S) → OnlyLooks site x y → IsSiteHealthy site x z → IsSiteHealthy site y z
   healthy_from x y z looks healthy = record {
-    slots = λ risen. healthy.slots (rises_from (site.slot_faults x) (site.slot_faults y) (site.slot_faults z) looks.never_falls risen);
+    slots = λ risen. healthy.slots (rises_from (site.slot_faults x) (site.slot_faults y) (site.slot_faults z)
+        looks.never_falls risen);
     output = λ risen. healthy.output (subst (λ (k : ℕ). HasRisen k (site.out_faults z)) looks.out_faults risen);
   }
 
@@ -159,16 +176,19 @@ module _ {S : Type 0} (site : SiteGhosts S) where
   never_taken (Some held) empty (inr b) = omega (arith, b, empty.1)
 
   pub failed_behind : (x y z : S) → OnlyLooks site x y → HasFailed site y z → HasFailed site x z
-  failed_behind x y z looks (inl slots) = inl (rises_from (site.slot_faults x) (site.slot_faults y) (site.slot_faults z) looks.never_falls slots)
+  failed_behind x y z looks (inl slots) = inl
+      (rises_from (site.slot_faults x) (site.slot_faults y) (site.slot_faults z) looks.never_falls slots)
   failed_behind x y z looks (inr out) = inr (subst (λ (k : ℕ). HasRisen k (site.out_faults z)) looks.out_faults out)
 
-  pub samples_behind : IsLawful site → (n : ℕ) (x y z : S) (outcome : Outcome) → OnlyLooks site x y → IfSome (site.reads x) AreEmpty
+  pub samples_behind : IsLawful site → (n : ℕ) (x y z : S) (outcome : Outcome) → OnlyLooks site x y
+      → IfSome (site.reads x) AreEmpty
       → SamplesEmpty site n y z outcome → SampleDoes site n x z outcome
   samples_behind law n x y z outcome looks empty samples = record {
     done = λ is. let done = samples.done is in record {
       dir = done.dir;
       loads = done.loads;
-      text = emits_on (site.emitted x) (site.emitted y) (site.emitted z) (sample_text done.dir (sent n)) looks.output done.text;
+      text = emits_on (site.emitted x) (site.emitted y) (site.emitted z) (sample_text done.dir (sent n)) looks.output
+          done.text;
       store = done.store;
       every_crash = done.every_crash;
     };
@@ -177,16 +197,21 @@ module _ {S : Type 0} (site : SiteGhosts S) where
       slots = told_back IsTaken (site.reads x) (site.reads y) looks.held taken.slots;
       line = emits_on (site.emitted x) (site.emitted y) (site.emitted z) (store_line Taken) looks.output taken.line;
     };
-    complete = λ is here healthy. samples.complete is (told_at AreEmpty (site.reads x) (site.reads y) looks.held here) (healthy_from x y z looks healthy);
-    refuses = λ is here healthy. samples.refuses is (told_at AreEmpty (site.reads x) (site.reads y) looks.held here) (healthy_from x y z looks healthy);
+    complete = λ is here healthy. samples.complete is (told_at AreEmpty (site.reads x) (site.reads y) looks.held here)
+        (healthy_from x y z looks healthy);
+    refuses = λ is here healthy. samples.refuses is (told_at AreEmpty (site.reads x) (site.reads y) looks.held here)
+        (healthy_from x y z looks healthy);
     sees = λ taken _. absurd (never_taken (site.reads x) empty taken);
     keeps = λ taken. absurd (never_taken (site.reads x) empty taken);
     partly = λ is. partly (samples.partly is);
     quiet = λ is. stays_on (site.emitted x) (site.emitted y) (site.emitted z) looks.output (samples.quiet is);
     unwritten = λ is. keeps_on site x y z looks samples.moments (samples.unwritten is);
-    crash = λ dir is here. crash_by site (sampled dir n) x z (site.emitted x) refl (λ said told t images out le left. ⊎_elim
-        (λ lt. inl (says_nothing site law x y said (looks_quiet site x y looks) told t images out le ((samples.moments.earlier t images out lt).0 left)))
-        (λ ge. told_said said (site.emitted x) (site.emitted y) looks.output told (λ s. (t : ℕ) (images : Images) (out : List ℕ) → site.now y ≤ t
+    crash = λ dir is here. crash_by site (sampled dir n) x z (site.emitted x) refl
+        (λ said told t images out le left. ⊎_elim
+        (λ lt. inl (says_nothing site law x y said (looks_quiet site x y looks) told t images out le
+        ((samples.moments.earlier t images out lt).0 left)))
+        (λ ge. told_said said (site.emitted x) (site.emitted y) looks.output told
+        (λ s. (t : ℕ) (images : Images) (out : List ℕ) → site.now y ≤ t
         → site.left z t images out → (out ≡ s) ⊎ IsStoreOf images (sampled dir n))
         (samples.crash dir is (told_at AreEmpty (site.reads x) (site.reads y) looks.held here)) t images out ge left)
         (cases_lt t (site.now y)));
@@ -195,13 +220,19 @@ module _ {S : Type 0} (site : SiteGhosts S) where
     where
       partly : IsPartlyTold site n y z → IsPartlyTold site n x z
       partly (inl nothing) = inl (stays_on (site.emitted x) (site.emitted y) (site.emitted z) looks.output nothing)
-      partly (inr (inl line)) = inr (inl (line.0, line.1, part_on (site.emitted x) (site.emitted y) (site.emitted z) (sample_text line.0 (sent n)) looks.output line.2))
+      partly (inr (inl line)) = inr (inl (
+        line.0,
+        line.1,
+        part_on (site.emitted x) (site.emitted y) (site.emitted z)
+            (sample_text line.0 (sent n)) looks.output line.2,
+      ))
       partly (inr (inr taken)) = inr (inr (
         told_back IsTaken (site.reads x) (site.reads y) looks.held taken.0,
         part_on (site.emitted x) (site.emitted y) (site.emitted z) (store_line Taken) looks.output taken.1,
       ))
 
-      told_said : (said : List ℕ) (r0 r1 : Option (List ℕ)) → StaysTold r0 r1 → r0 ≡ Some said → (P : List ℕ → Type 0) → IfSome r1 P → P said
+      told_said : (said : List ℕ) (r0 r1 : Option (List ℕ)) → StaysTold r0 r1 → r0 ≡ Some said → (P : List ℕ → Type 0)
+          → IfSome r1 P → P said
       told_said said None r1 same is P p = absurd cc
       told_said said (Some a) None same is P p = absurd same
       told_said said (Some a) (Some b) same is P p = subst P (same ∙ inside a is) p
@@ -211,13 +242,18 @@ module _ {S : Type 0} (site : SiteGhosts S) where
 
   -- ---- a slot isn't empty
 
-  pub of_taken : IsLawful site → (n : ℕ) (x y z : S) (outcome : Outcome) → OnlyLooks site x y → IfSome (site.reads x) IsTaken
+  pub of_taken : IsLawful site → (n : ℕ) (x y z : S) (outcome : Outcome) → OnlyLooks site x y
+      → IfSome (site.reads x) IsTaken
       → Says site y z (store_line Taken) NoStore outcome → SampleDoes site n x z outcome
   of_taken law n x y z outcome looks taken says = ⊎_elim
       (λ done. subst (SampleDoes site n x z) (sym done.0) (record {
         done = λ no. absurd cc;
         refused = λ no. absurd cc;
-        taken = λ _. record { slots = taken; line = emits_on (site.emitted x) (site.emitted y) (site.emitted z) (store_line Taken) looks.output done.1 };
+        taken = λ _. record {
+          slots = taken;
+          line = emits_on (site.emitted x) (site.emitted y) (site.emitted z)
+              (store_line Taken) looks.output done.1;
+        };
         complete = λ _ empty _. absurd (not_both (site.reads x) empty taken);
         refuses = λ _ empty _. absurd (not_both (site.reads x) empty taken);
         sees = λ _ _. refl;
@@ -234,9 +270,14 @@ module _ {S : Type 0} (site : SiteGhosts S) where
         taken = λ no. absurd cc;
         complete = λ _ empty _. absurd (not_both (site.reads x) empty taken);
         refuses = λ _ empty _. absurd (not_both (site.reads x) empty taken);
-        sees = λ _ healthy. absurd (healthy.output (subst (λ (k : ℕ). HasRisen k (site.out_faults z)) looks.out_faults failed.2));
+        sees = λ _ healthy. absurd (healthy.output
+            (subst (λ (k : ℕ). HasRisen k (site.out_faults z)) looks.out_faults failed.2));
         keeps = λ _. keeps;
-        partly = λ _. inr (inr (taken, part_on (site.emitted x) (site.emitted y) (site.emitted z) (store_line Taken) looks.output failed.1));
+        partly = λ _. inr (inr (
+          taken,
+          part_on (site.emitted x) (site.emitted y) (site.emitted z) (store_line Taken)
+              looks.output failed.1,
+        ));
         quiet = λ no. absurd no;
         unwritten = λ _. keeps;
         crash = λ dir _ empty. absurd (not_both (site.reads x) empty taken);
@@ -245,11 +286,13 @@ module _ {S : Type 0} (site : SiteGhosts S) where
       says.ended
     where
       keeps : KeepsSlots site x z
-      keeps = keeps_said site x y z (store_line Taken) looks.held looks.images looks.moments.later says.held says.moments says.images
+      keeps = keeps_said site x y z (store_line Taken) looks.held looks.images looks.moments.later says.held
+          says.moments says.images
 
   -- ---- the site failed before
 
-  pub of_failed : IsLawful site → (n : ℕ) (x y : S) → OnlyLooks site x y → HasRisen (site.slot_faults x) (site.slot_faults y) → SampleDoes site n x y SiteFailed
+  pub of_failed : IsLawful site → (n : ℕ) (x y : S) → OnlyLooks site x y → HasRisen (site.slot_faults x)
+      (site.slot_faults y) → SampleDoes site n x y SiteFailed
   of_failed law n x y looks risen = record {
     done = λ no. absurd cc;
     refused = λ no. absurd cc;
@@ -262,6 +305,7 @@ module _ {S : Type 0} (site : SiteGhosts S) where
     quiet = λ no. absurd no;
     unwritten = λ _. looks_keep site x y looks;
     crash = λ dir _ _. crash_by site (sampled dir n) x y (site.emitted x) refl
-        (λ said is t images out le left. inl (says_nothing site law x y said (looks_quiet site x y looks) is t images out le left));
+        (λ said is t images out le left. inl (says_nothing site law x y said (looks_quiet site x y looks) is t images
+        out le left));
     only = tt;
   }

@@ -1,5 +1,6 @@
 -- `adsd settle`, from what the slots are opened as, what the steps made of them, and what was emitted.
-use Rattle.std.proofs.Common.{◌≡◌, ◌∙◌, ◌⊎◌, inl, inr, ⊎_elim, ℕ, zero, suc, ◌^◌, ◌<◌, ◌≤◌, List, [], Option, Some, None, Err, false, refl, sym, ap, subst, arith}
+use Rattle.std.proofs.Common.{◌≡◌, ◌∙◌, ◌⊎◌, inl, inr, ⊎_elim, ℕ, zero, suc, ◌^◌, ◌<◌, ◌≤◌, List, [], Option, Some}
+use Rattle.std.proofs.Common.{None, Err, false, refl, sym, ap, subst, arith}
 use Rattle.std.specs.Option.{IfSome}
 use Rattle.std.proofs.lemmas.Bool.{cases_lt}
 use Rattle.site_io.specs.Counts.{HasRisen}
@@ -27,7 +28,8 @@ use Rattle.cmd_call.proofs.Telling.{unhealthy}
 use Rattle.cmd_store.specs.Opened.{NoDirStore, EachStandsFor, LeavesSynced, AllBegun}
 use Rattle.cmd_store.specs.Ready.{IsNotOne, IsOpening, IsReady, IsUnready}
 use Rattle.cmd_store.specs.Refused.{Refused}
-use Rattle.cmd_store.proofs.Refusing.{never_refused, never_with, inside, Ends, refused, failed, stopped, refusal_by, partly_said}
+use Rattle.cmd_store.proofs.Refusing.{never_refused, never_with, inside, Ends, refused, failed, stopped, refusal_by}
+use Rattle.cmd_store.proofs.Refusing.{partly_said}
 use Rattle.cmd_store.proofs.Readying.{each_ready}
 use Rattle.cmd_store.proofs.Begun.{begun_on, never_synced}
 use Rattle.cmd_store.specs.serving.Reached.{IsRecomputed}
@@ -39,9 +41,11 @@ module _ {S : Type 0} (site : SiteGhosts S) where
   Leave dir x y = LeavesSynced site (λ images out. StandsAfterSteps dir images) x y
 
   abbrev Behind : Directory → ℕ → S → Type 0
-  Behind dir synced y = (t : ℕ) (images : Images) (out : List ℕ) → synced ≤ t → site.left y t images out → StandsAfterSteps dir images
+  Behind dir synced y = (t : ℕ) (images : Images) (out : List ℕ) → synced ≤ t → site.left y t images out
+      → StandsAfterSteps dir images
 
-  -- The slots were opened as those of the directory, they are synced from a moment on, and so far nothing was emitted.
+  -- The slots were opened as those of the directory, they are synced from a moment on, and so far nothing was
+  -- emitted.
   pub record IsOpen (dir : Directory) (synced : ℕ) (x y : S) : Type 0 where
     pub store : IfSome (site.reads x) (λ held. IsStoreOf held dir)
     pub touches : TouchesSlots site x y
@@ -72,19 +76,23 @@ module _ {S : Type 0} (site : SiteGhosts S) where
     store = opening.store;
     touches = opening.touches;
     begun = opening.begun;
-    leave = told_map _ _ (site.reads x) (λ held by t images out ge left. no_step dir images (by t images out ge left)) opening.lasts;
+    leave = told_map _ _ (site.reads x) (λ held by t images out ge left. no_step dir images (by t images out ge left))
+        opening.lasts;
     idle = λ _. opening.kept;
   }
 
-  known_both : (P Q R : Type 0) (r0 r1 : Option Images) → StaysKnown r0 r1 → (P → Q → R) → IfSome r0 (λ held. P) → IfSome r1 (λ held. Q) → IfSome r0 (λ held. R)
+  known_both : (P Q R : Type 0) (r0 r1 : Option Images) → StaysKnown r0 r1 → (P → Q → R) → IfSome r0 (λ held. P)
+      → IfSome r1 (λ held. Q) → IfSome r0 (λ held. R)
   known_both P Q R None None known f p q = tt
   known_both P Q R (Some a) (Some b) known f p q = f p q
   known_both P Q R None (Some b) known f p q = absurd known
   known_both P Q R (Some a) None known f p q = absurd known
 
   -- steps were made, of which something is said
-  pub open_on : (dir : Directory) (x y z : S) → (ready : IsReady site dir x y) → (dir.pending ≡ [] → ⊥) → TouchesSlots site y z
-      → LeavesSteps dir (site.reads y) (site.now y) (site.now z) (site.left y) (site.left z) → IsOpen dir ready.synced x z
+  pub open_on : (dir : Directory) (x y z : S) → (ready : IsReady site dir x y) → (dir.pending ≡ [] → ⊥)
+      → TouchesSlots site y z
+      → LeavesSteps dir (site.reads y) (site.now y) (site.now z) (site.left y) (site.left z) → IsOpen dir ready.synced
+      x z
   open_on dir x y z ready some touches leaves = record {
     store = ready.opening.store;
     touches = touches_on site x y z ready.opening.touches touches;
@@ -92,7 +100,8 @@ module _ {S : Type 0} (site : SiteGhosts S) where
     leave = known_both _ _ _ (site.reads x) (site.reads y) ready.opening.touches.known
         (λ all by t images out ge left. ⊎_elim
         (λ lt. no_step dir images (all t images out ge ((touches.moments.earlier t images out lt).0 left)))
-        (λ later. ⊎_elim (λ began. no_step dir images (all (site.now y) images began.0 ready.come began.1)) (λ stands. stands) (by.each t images out later left))
+        (λ later. ⊎_elim (λ began. no_step dir images (all (site.now y) images began.0 ready.come began.1))
+        (λ stands. stands) (by.each t images out later left))
         (cases_lt t (site.now y)))
         ready.opening.lasts leaves;
     idle = λ none. absurd (some none);
@@ -103,7 +112,8 @@ module _ {S : Type 0} (site : SiteGhosts S) where
   no_more dir none = record { empty = none; not_before = λ m less _. absurd (omega (arith, less)) }
 
   -- no step was needed
-  pub made_none : (dir : Directory) (x y : S) → IsReady site dir x y → IsSound dir → IfSome (site.reads y) (λ held. IsStoreOf held dir) → dir.pending ≡ [] → IsMade dir 0 x y
+  pub made_none : (dir : Directory) (x y : S) → IsReady site dir x y → IsSound dir
+      → IfSome (site.reads y) (λ held. IsStoreOf held dir) → dir.pending ≡ [] → IsMade dir 0 x y
   unfolding steps
   made_none dir x y ready sound stands none = record {
     synced = ready.synced;
@@ -128,8 +138,10 @@ module _ {S : Type 0} (site : SiteGhosts S) where
   known_back P (Some a) None known p = absurd known
 
   -- steps were made
-  pub made_some : (dir new : Directory) (n : ℕ) (x y z : S) → IsReady site dir x y → IsSound dir → IsSound new → (dir.pending ≡ [] → ⊥)
-      → EmptiesAfter n dir → new ≡ steps n dir → IfSome (site.reads z) (λ held. IsStoreOf held new) → (0 < n → LastsAs site new y z) → TouchesSlots site y z
+  pub made_some : (dir new : Directory) (n : ℕ) (x y z : S) → IsReady site dir x y → IsSound dir → IsSound new
+      → (dir.pending ≡ [] → ⊥)
+      → EmptiesAfter n dir → new ≡ steps n dir → IfSome (site.reads z) (λ held. IsStoreOf held new)
+      → (0 < n → LastsAs site new y z) → TouchesSlots site y z
       → LeavesSteps dir (site.reads y) (site.now y) (site.now z) (site.left y) (site.left z) → IsMade dir n x z
   made_some dir new n x y z ready sound sound_then some empties stepped stands lasts touches leaves = record {
     synced = ready.synced;
@@ -140,7 +152,8 @@ module _ {S : Type 0} (site : SiteGhosts S) where
     sound_then = subst IsSound stepped sound_then;
     settled = subst (λ (d : Directory). IfSome (site.reads z) (λ held. IsStoreOf held d)) stepped stands;
     lasts = subst (λ (d : Directory). IfSome (site.reads x) (λ held. EachStandsFor site d z)) stepped
-        (known_back (EachStandsFor site new z) (site.reads x) (site.reads y) ready.opening.touches.known (lasts (not_none dir n empties some)));
+        (known_back (EachStandsFor site new z) (site.reads x) (site.reads y) ready.opening.touches.known
+        (lasts (not_none dir n empties some)));
   }
 
   -- ---- what holds then
@@ -156,9 +169,11 @@ module _ {S : Type 0} (site : SiteGhosts S) where
 
   -- ---- one directory
 
-  idle_is : (dir : Directory) (r : Option Images) → IfSome r (λ held. IsStoreOf held dir) → IsTold IsIdleStore r → dir.pending ≡ []
+  idle_is : (dir : Directory) (r : Option Images) → IfSome r (λ held. IsStoreOf held dir) → IsTold IsIdleStore r
+      → dir.pending ≡ []
   idle_is dir None store told = absurd told
-  idle_is dir (Some held) store told = ap (λ (d : Directory). d.pending) (one_store held dir told.0 store told.1) ∙ told.2
+  idle_is dir (Some held) store told = ap (λ (d : Directory). d.pending) (one_store held dir told.0 store told.1)
+      ∙ told.2
 
   new_is : (r : Option Images) → IsTold IsIdleStore r → IsTold IsNotOne r
   new_is None told = absurd told
@@ -167,10 +182,13 @@ module _ {S : Type 0} (site : SiteGhosts S) where
   same_leave : (y : S) (synced : ℕ) (dir other : Directory) (r : Option Images) → IfSome r (λ held. IsStoreOf held dir)
       → IsTold (λ held. IsStoreOf held other) r → IfSome r (λ held. Behind dir synced y) → Behind other synced y
   same_leave y synced dir other None store told leave = absurd told
-  same_leave y synced dir other (Some held) store told leave = subst (λ (d : Directory). Behind d synced y) (one_store held dir other store told) leave
+  same_leave y synced dir other (Some held) store told leave = subst (λ (d : Directory). Behind d synced y)
+      (one_store held dir other store told) leave
 
-  leaves_of : (x y : S) (synced : ℕ) (dir : Directory) → AllBegun site synced x y → IfSome (site.reads x) (λ held. IsStoreOf held dir)
-      → IfSome (site.reads x) (λ held. Behind dir synced y) → (other : Directory) → IsTold (λ held. IsStoreOf held other) (site.reads x) → Leave other x y
+  leaves_of : (x y : S) (synced : ℕ) (dir : Directory) → AllBegun site synced x y
+      → IfSome (site.reads x) (λ held. IsStoreOf held dir)
+      → IfSome (site.reads x) (λ held. Behind dir synced y) → (other : Directory)
+      → IsTold (λ held. IsStoreOf held other) (site.reads x) → Leave other x y
   leaves_of x y synced dir begun store leave other told = record {
     synced = synced;
     before = begun;
@@ -179,10 +197,13 @@ module _ {S : Type 0} (site : SiteGhosts S) where
 
   -- ---- nothing was emitted
 
-  no_dir : (dir : Directory) (x : S) → IfSome (site.reads x) (λ held. IsStoreOf held dir) → IsTold NoDirStore (site.reads x) → ⊥
-  no_dir dir x store none = told_clash NoDirStore (λ held. IsStoreOf held dir) (site.reads x) (λ held no is. no (dir, is)) none store
+  no_dir : (dir : Directory) (x : S) → IfSome (site.reads x) (λ held. IsStoreOf held dir)
+      → IsTold NoDirStore (site.reads x) → ⊥
+  no_dir dir x store none = told_clash NoDirStore (λ held. IsStoreOf held dir) (site.reads x)
+      (λ held no is. no (dir, is)) none store
 
-  pub settled_failed : (dir : Directory) (synced : ℕ) (x y : S) → IsOpen dir synced x y → HasRisen (site.slot_faults x) (site.slot_faults y)
+  pub settled_failed : (dir : Directory) (synced : ℕ) (x y : S) → IsOpen dir synced x y
+      → HasRisen (site.slot_faults x) (site.slot_faults y)
       → Settles site x y SiteFailed
   settled_failed dir synced x y opens risen = (
     record {
@@ -220,7 +241,8 @@ module _ {S : Type 0} (site : SiteGhosts S) where
   )
 
   -- the store wasn't made ready
-  pub settled_unready : (dir : Directory) (x y : S) (outcome : Outcome) → IsUnready site dir x y outcome → Settles site x y outcome
+  pub settled_unready : (dir : Directory) (x y : S) (outcome : Outcome) → IsUnready site dir x y outcome
+      → Settles site x y outcome
   settled_unready dir x y outcome unready =
       let opens = open_none dir unready.synced x y unready.opening in
       ⊎_elim
@@ -231,46 +253,58 @@ module _ {S : Type 0} (site : SiteGhosts S) where
   -- ---- their number was emitted
 
   -- what crashes leave after the emit is what they left before it
-  leave_said : (dir : Directory) (n synced : ℕ) (y z : S) (then outcome : Outcome) → Says site y z (steps_line n) then outcome
+  leave_said : (dir : Directory) (n synced : ℕ) (y z : S) (then outcome : Outcome) → Says site y z (steps_line n)
+      then outcome
       → EachStandsFor site (steps n dir) y → Behind dir synced y → Behind dir synced z
   leave_said dir n synced y z then outcome says each leave t images out ge left = ⊎_elim
       (λ lt. leave t images out ge ((says.moments.earlier t images out lt).0 left))
       (λ later. let so_far = says.images t images out later left in (n, each images so_far.0 so_far.2))
       (cases_lt t (site.now y))
 
-  two_told : (P Q R : Images → Type 0) (r : Option Images) → ((held : Images) → P held → Q held → R held) → IfSome r P → IfSome r Q → IfSome r R
+  two_told : (P Q R : Images → Type 0) (r : Option Images) → ((held : Images) → P held → Q held → R held) → IfSome r P
+      → IfSome r Q → IfSome r R
   two_told P Q R None f p q = tt
   two_told P Q R (Some held) f p q = f held p q
 
   -- the slots are kept by the steps, and so by the emit
-  keeps_behind : (n : ℕ) (x y z : S) (then outcome : Outcome) → site.now x ≤ site.now y → Says site y z (steps_line n) then outcome → KeepsSlots site x y → KeepsSlots site x z
+  keeps_behind : (n : ℕ) (x y z : S) (then outcome : Outcome) → site.now x ≤ site.now y → Says site y z (steps_line n)
+      then outcome → KeepsSlots site x y → KeepsSlots site x z
   keeps_behind n x y z then outcome later says keeps = record {
     held = stays_on (site.reads x) (site.reads y) (site.reads z) keeps.held says.held;
     images = λ t images out le left. ⊎_elim
         (λ lt. keeps.images t images out le ((says.moments.earlier t images out lt).0 left))
-        (λ ge. let so_far = says.images t images out ge left in keeps.images (site.now y) images so_far.0 later so_far.2)
+        (λ ge. let so_far = says.images t images out ge left in keeps.images (site.now y) images so_far.0 later
+        so_far.2)
         (cases_lt t (site.now y));
   }
 
-  open_said : (dir : Directory) (n : ℕ) (x y z : S) (then outcome : Outcome) → IsMade dir n x y → Says site y z (steps_line n) then outcome
-      → ((other : Directory) → IsTold (λ held. IsStoreOf held other) (site.reads x) → Leave other x z) × (dir.pending ≡ [] → IsTold IsNotOne (site.reads x) → KeepsSlots site x z)
+  open_said : (dir : Directory) (n : ℕ) (x y z : S) (then outcome : Outcome) → IsMade dir n x y
+      → Says site y z (steps_line n) then outcome
+      → ((other : Directory) → IsTold (λ held. IsStoreOf held other) (site.reads x) → Leave other x z)
+      × (dir.pending ≡ [] → IsTold IsNotOne (site.reads x) → KeepsSlots site x z)
   open_said dir n x y z then outcome made says =
       let later = made.so_far.touches.moments.later in (
-        leaves_of x z made.synced dir (begun_on site x y z made.synced made.come says.moments made.so_far.begun) made.so_far.store
-            (two_told _ _ _ (site.reads x) (λ held each leave. leave_said dir n made.synced y z then outcome says each leave) made.lasts made.so_far.leave),
+        leaves_of x z made.synced dir (begun_on site x y z made.synced made.come says.moments made.so_far.begun)
+            made.so_far.store
+            (two_told _ _ _ (site.reads x) (λ held each leave. leave_said dir n made.synced y z
+            then outcome says each leave) made.lasts made.so_far.leave),
         λ none kept. keeps_behind n x y z then outcome later says (made.so_far.idle none kept),
       )
 
-  crash_said : IsLawful site → (dir : Directory) (n : ℕ) (x y z : S) (then outcome : Outcome) → IsMade dir n x y → Says site y z (steps_line n) then outcome
+  crash_said : IsLawful site → (dir : Directory) (n : ℕ) (x y z : S) (then outcome : Outcome) → IsMade dir n x y
+      → Says site y z (steps_line n) then outcome
       → EachStandsFor site (steps n dir) y → (r : Option (List ℕ)) → site.emitted x ≡ r
-      → IfSome r (λ said. (t : ℕ) (images : Images) (out : List ℕ) → site.now x ≤ t → site.left z t images out → (out ≡ said) ⊎ IsStoreOf images (steps n dir))
+      → IfSome r (λ said. (t : ℕ) (images : Images) (out : List ℕ) → site.now x ≤ t → site.left z t images out
+      → (out ≡ said) ⊎ IsStoreOf images (steps n dir))
   crash_said law dir n x y z then outcome made says each None is = tt
   crash_said law dir n x y z then outcome made says each (Some said) is = λ t images out le left. ⊎_elim
-      (λ lt. inl (says_nothing site law x y said made.so_far.touches.quiet is t images out le ((says.moments.earlier t images out lt).0 left)))
+      (λ lt. inl (says_nothing site law x y said made.so_far.touches.quiet is t images out le
+      ((says.moments.earlier t images out lt).0 left)))
       (λ ge. let so_far = says.images t images out ge left in inr (each images so_far.0 so_far.2))
       (cases_lt t (site.now y))
 
-  settled_from : IsLawful site → (dir : Directory) (n : ℕ) (x y z : S) (then outcome : Outcome) → IsMade dir n x y → Says site y z (steps_line n) then outcome
+  settled_from : IsLawful site → (dir : Directory) (n : ℕ) (x y z : S) (then outcome : Outcome) → IsMade dir n x y
+      → Says site y z (steps_line n) then outcome
       → Emits (site.emitted y) (site.emitted z) (steps_line n) → IsSettledFrom site dir x z
   settled_from law dir n x y z then outcome made says line = record {
     n = n;
@@ -279,12 +313,15 @@ module _ {S : Type 0} (site : SiteGhosts S) where
     recomputed = recomputed_then dir n made.sound_then made.empties;
     line = emits_on (site.emitted x) (site.emitted y) (site.emitted z) (steps_line n) made.so_far.touches.output line;
     settled = told_on (λ held. IsStoreOf held (steps n dir)) (site.reads y) (site.reads z) says.held made.settled;
-    lasts = told_map _ _ (site.reads x) (λ held each images out left. let so_far = says.images (site.now z) images out says.moments.later left in
+    lasts = told_map _ _ (site.reads x) (λ held each images out left. let so_far = says.images (site.now z) images out
+        says.moments.later left in
         each images so_far.0 so_far.2) made.lasts;
-    every_crash = told_map _ _ (site.reads x) (λ held each. crash_said law dir n x y z then outcome made says each (site.emitted x) refl) made.lasts;
+    every_crash = told_map _ _ (site.reads x)
+        (λ held each. crash_said law dir n x y z then outcome made says each (site.emitted x) refl) made.lasts;
   }
 
-  said_done : IsLawful site → (dir : Directory) (n : ℕ) (x y z : S) (then outcome : Outcome) → IsMade dir n x y → Says site y z (steps_line n) then outcome
+  said_done : IsLawful site → (dir : Directory) (n : ℕ) (x y z : S) (then outcome : Outcome) → IsMade dir n x y
+      → Says site y z (steps_line n) then outcome
       → Emits (site.emitted y) (site.emitted z) (steps_line n) → Settles site x z Done
   said_done law dir n x y z then outcome made says line =
       let store = made.so_far.store in
@@ -305,12 +342,15 @@ module _ {S : Type 0} (site : SiteGhosts S) where
         λ no. absurd cc,
       )
 
-  said_in_part : (dir : Directory) (n : ℕ) (x y z : S) (then outcome : Outcome) → IsMade dir n x y → Says site y z (steps_line n) then outcome
-      → EmitsPart (site.emitted y) (site.emitted z) (steps_line n) → HasRisen (site.out_faults y) (site.out_faults z) → Settles site x z SiteFailed
+  said_in_part : (dir : Directory) (n : ℕ) (x y z : S) (then outcome : Outcome) → IsMade dir n x y
+      → Says site y z (steps_line n) then outcome
+      → EmitsPart (site.emitted y) (site.emitted z) (steps_line n) → HasRisen (site.out_faults y) (site.out_faults z)
+      → Settles site x z SiteFailed
   said_in_part dir n x y z then outcome made says part risen =
       let store = made.so_far.store in
       let behind = open_said dir n x y z then outcome made says in
-      let here : HasRisen (site.out_faults x) (site.out_faults z) = subst (λ k. HasRisen k (site.out_faults z)) made.so_far.touches.out_faults risen in (
+      let here : HasRisen (site.out_faults x) (site.out_faults z) = subst (λ k. HasRisen k (site.out_faults z))
+      made.so_far.touches.out_faults risen in (
         record {
           done = λ no. absurd cc;
           no_store = λ no. absurd cc;
@@ -331,10 +371,13 @@ module _ {S : Type 0} (site : SiteGhosts S) where
         λ _. inr here,
       )
 
-  pub settled_told : IsLawful site → (dir : Directory) (n : ℕ) (x y z : S) (outcome : Outcome) → IsMade dir n x y → SaysUnless site y z (steps_line n) Done outcome
+  pub settled_told : IsLawful site → (dir : Directory) (n : ℕ) (x y z : S) (outcome : Outcome) → IsMade dir n x y
+      → SaysUnless site y z (steps_line n) Done outcome
       → Settles site x z outcome
   settled_told law dir n x y z outcome made (inl memory) =
-      subst (Settles site x z) (sym memory.0) (subst (λ (s : S). Settles site x s NoMemory) (sym memory.1) (settled_memory dir made.synced x y made.so_far))
+      subst (Settles site x z) (sym memory.0)
+      (subst (λ (s : S). Settles site x s NoMemory) (sym memory.1)
+      (settled_memory dir made.synced x y made.so_far))
   settled_told law dir n x y z outcome made (inr says) = ⊎_elim
       (λ done. subst (Settles site x z) (sym done.0) (said_done law dir n x y z Done outcome made says done.1))
       (λ cut. subst (Settles site x z) (sym cut.0) (said_in_part dir n x y z Done outcome made says cut.1 cut.2))
@@ -343,26 +386,33 @@ module _ {S : Type 0} (site : SiteGhosts S) where
   -- ---- no store was opened
 
   -- slots of a directory are refused for a reason outside alone, and then nothing is emitted
-  begun_none : (x z : S) (why : OpenFault) → is_outside why ≡ false → IfSome (site.reads x) (λ held. IsOpenedAs held (Err why))
+  begun_none : (x z : S) (why : OpenFault) → is_outside why ≡ false
+      → IfSome (site.reads x) (λ held. IsOpenedAs held (Err why))
       → (dir : Directory) → IsTold (λ held. IsStoreOf held dir) (site.reads x) → Leave dir x z
   begun_none x z why within opened dir told =
-      absurd (never_with (λ held. IsStoreOf held dir) (λ held is. (dir, is)) why (site.reads x) told (inside (site.reads x) why within opened))
+      absurd (never_with (λ held. IsStoreOf held dir) (λ held is. (dir, is)) why (site.reads x) told
+      (inside (site.reads x) why within opened))
 
   begun_outside : IsLawful site → (x y z : S) → OnlyLooks site x y → z ≡ y → (dir : Directory) → Leave dir x z
   begun_outside law x y z looks same dir =
       subst (Leave dir x) (sym same) (never_synced site law (λ images out. StandsAfterSteps dir images) x y looks)
 
-  begun_by : IsLawful site → (x y z : S) (why : OpenFault) (outcome : Outcome) → OnlyLooks site x y → IfSome (site.reads x) (λ held. IsOpenedAs held (Err why))
-      → Refused site y z why outcome → (dir : Directory) → IsTold (λ held. IsStoreOf held dir) (site.reads x) → Leave dir x z
+  begun_by : IsLawful site → (x y z : S) (why : OpenFault) (outcome : Outcome) → OnlyLooks site x y
+      → IfSome (site.reads x) (λ held. IsOpenedAs held (Err why))
+      → Refused site y z why outcome → (dir : Directory) → IsTold (λ held. IsStoreOf held dir) (site.reads x)
+      → Leave dir x z
   begun_by law x y z fault.Taken outcome looks opened said dir told = begun_none x z fault.Taken refl opened dir told
   begun_by law x y z fault.Empty outcome looks opened said dir told = begun_none x z fault.Empty refl opened dir told
   begun_by law x y z fault.Broken outcome looks opened said dir told = begun_none x z fault.Broken refl opened dir told
-  begun_by law x y z (fault.Row kind number) outcome looks opened said dir told = begun_none x z (fault.Row kind number) refl opened dir told
-  begun_by law x y z (fault.Unsound number) outcome looks opened said dir told = begun_none x z (fault.Unsound number) refl opened dir told
+  begun_by law x y z (fault.Row kind number) outcome looks opened said dir told
+      = begun_none x z (fault.Row kind number) refl opened dir told
+  begun_by law x y z (fault.Unsound number) outcome looks opened said dir told = begun_none x z (fault.Unsound number)
+      refl opened dir told
   begun_by law x y z fault.Site outcome looks opened said dir told = begun_outside law x y z looks said.1 dir
   begun_by law x y z fault.Memory outcome looks opened said dir told = begun_outside law x y z looks said.1 dir
 
-  ended_by : (x z : S) (outcome : Outcome) → KeepsSlots site x z → ((dir : Directory) → IsTold (λ held. IsStoreOf held dir) (site.reads x) → Leave dir x z)
+  ended_by : (x z : S) (outcome : Outcome) → KeepsSlots site x z
+      → ((dir : Directory) → IsTold (λ held. IsStoreOf held dir) (site.reads x) → Leave dir x z)
       → Ends site x z outcome → Settles site x z outcome
   ended_by x z outcome keeps begun (refused is none) = subst (Settles site x z) (sym is) (
     record {
@@ -413,8 +463,10 @@ module _ {S : Type 0} (site : SiteGhosts S) where
     λ no. absurd cc,
   )
 
-  pub settled_by : IsLawful site → (x y z : S) (why : OpenFault) (outcome : Outcome) → OnlyLooks site x y → IfSome (site.reads x) (λ held. IsOpenedAs held (Err why))
-      → (why ≡ fault.Site → HasRisen (site.slot_faults x) (site.slot_faults y)) → Refused site y z why outcome → Settles site x z outcome
+  pub settled_by : IsLawful site → (x y z : S) (why : OpenFault) (outcome : Outcome) → OnlyLooks site x y
+      → IfSome (site.reads x) (λ held. IsOpenedAs held (Err why))
+      → (why ≡ fault.Site → HasRisen (site.slot_faults x) (site.slot_faults y)) → Refused site y z why outcome
+      → Settles site x z outcome
   settled_by law x y z why outcome looks opened risen said =
       let refusal = refusal_by site x y z why outcome looks opened risen said in
       ended_by x z outcome refusal.slots (begun_by law x y z why outcome looks opened said) refusal.ends

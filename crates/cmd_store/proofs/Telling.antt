@@ -1,5 +1,6 @@
 -- Frames were served, and the numbers told.
-use Rattle.std.proofs.Common.{◌≡◌, ◌∙◌, ◌⊎◌, inl, inr, ⊎_elim, ℕ, ◌≤◌, false, List, Option, Some, None, sym, ap, subst, arith}
+use Rattle.std.proofs.Common.{◌≡◌, ◌∙◌, ◌⊎◌, inl, inr, ⊎_elim, ℕ, ◌≤◌, false, List, Option, Some, None, sym, ap}
+use Rattle.std.proofs.Common.{subst, arith}
 use Rattle.std.specs.Option.{IfSome}
 use Rattle.std.proofs.lemmas.Bool.{cases_lt}
 use Rattle.site_io.specs.Counts.{HasRisen}
@@ -16,7 +17,8 @@ use Rattle.ad_engine.specs.declared.engine.Engine.{Engine}
 use Rattle.ad_engine.proofs.Opening.{holds_has, store_of}
 use Rattle.cmd_call.specs.Store.{Emits, EmitsPart, Says}
 use Rattle.cmd_call.specs.declared.outcome.Outcome.{Outcome}
-use Rattle.cmd_call.specs.declared.outcome.Outcome.TheVariants.{Done, NotOfForm, NoCommand, NoStore, NoObject, TooMany, SourceFailed, SiteFailed, NoMemory}
+use Rattle.cmd_call.specs.declared.outcome.Outcome.TheVariants.{Done, NotOfForm, NoCommand, NoStore, NoObject}
+use Rattle.cmd_call.specs.declared.outcome.Outcome.TheVariants.{TooMany, SourceFailed, SiteFailed, NoMemory}
 use Rattle.cmd_call.proofs.Moments.{told_map, told_on, emits_on, part_on, goes_on_on}
 use Rattle.cmd_store.specs.Answers.{outputs}
 use Rattle.cmd_store.specs.Text.{sample_text, text_of}
@@ -44,20 +46,25 @@ known_then (Some x) (Some y) None first second = absurd second
 module _ {S : Type 0} (site : SiteGhosts S) where
   -- at each moment the output was one that it could be as the call began
   abbrev Quiet : Directory → List Frame → S → S → Type 0
-  Quiet dir frames x y = IfSome (site.reads x) (λ held. EachLeaves site dir x → (t : ℕ) (images : Images) (out : List ℕ) → site.now x ≤ t → site.left y t images out
+  Quiet dir frames x y = IfSome (site.reads x)
+      (λ held. EachLeaves site dir x → (t : ℕ) (images : Images) (out : List ℕ) → site.now x ≤ t
+      → site.left y t images out
       → ((began : Images) × site.left x (site.now x) began out) ⊎ IsStoreOf images (after dir frames))
 
   quiet_of : (dir : Directory) (frames : List Frame) (x y : S) → TouchesSlots site x y → Quiet dir frames x y
   quiet_of dir frames x y touches = by (site.reads x)
     where
-      by : (r : Option Images) → IfSome r (λ held. EachLeaves site dir x → (t : ℕ) (images : Images) (out : List ℕ) → site.now x ≤ t → site.left y t images out
+      by : (r : Option Images) → IfSome r (λ held. EachLeaves site dir x → (t : ℕ) (images : Images) (out : List ℕ)
+          → site.now x ≤ t → site.left y t images out
           → ((began : Images) × site.left x (site.now x) began out) ⊎ IsStoreOf images (after dir frames))
       by None = tt
       by (Some held) = λ each t images out le left. inl (touches.quiet t images out le left)
 
   -- nothing was told
-  pub told_nothing : (dir : Directory) (frames : List Frame) (x y : S) (outcome : Outcome) → TouchesSlots site x y → IsCutOff outcome
-      → (outcome ≡ SiteFailed → HasRisen (site.slot_faults x) (site.slot_faults y)) → TellsServed site dir frames x y outcome
+  pub told_nothing : (dir : Directory) (frames : List Frame) (x y : S) (outcome : Outcome) → TouchesSlots site x y
+      → IsCutOff outcome
+      → (outcome ≡ SiteFailed → HasRisen (site.slot_faults x) (site.slot_faults y)) → TellsServed site dir frames x y
+      outcome
   told_nothing dir frames x y outcome touches cut cause = record {
     done = λ is. absurd (subst IsCutOff is cut);
     store = λ is. absurd (subst IsCutOff is cut);
@@ -73,19 +80,25 @@ module _ {S : Type 0} (site : SiteGhosts S) where
   }
 
   -- the store represents the directory of the engine
-  stands_for : (engine : Engine) (dir : Directory) (y : S) → engine.dir ≡ dir → StandsIn engine (site.reads y) (site.now y) (site.left y) → engine.spent ≡ false
+  stands_for : (engine : Engine) (dir : Directory) (y : S) → engine.dir ≡ dir → StandsIn engine (site.reads y)
+      (site.now y) (site.left y) → engine.spent ≡ false
       → IfSome (site.reads y) (λ held. IsStoreOf held dir)
   stands_for engine dir y is stands unspent = told_map (HoldsDir engine) (λ held. IsStoreOf held dir) (site.reads y)
-      (λ held has. subst (IsStoreOf held) is (store_of engine.dir held has.table has.rows (stands unspent).sound (holds_has engine.store held has.table has.holds)))
+      (λ held has. subst (IsStoreOf held) is
+      (store_of engine.dir held has.table has.rows (stands unspent).sound
+      (holds_has engine.store held has.table has.holds)))
       (stands unspent).held
 
   -- the numbers were told, or a prefix of them
-  pub told_numbers : (before behind : Engine) (frames : List Frame) (answers : List (List ℕ)) (text : List ℕ) (x y z : S) (outcome : Outcome)
-      → AreServed site before behind frames answers x y → TouchesSlots site x y → text ≡ text_of answers behind.dir → Says site y z text Done outcome
+  pub told_numbers : (before behind : Engine) (frames : List Frame) (answers : List (List ℕ)) (text : List ℕ)
+      (x y z : S) (outcome : Outcome)
+      → AreServed site before behind frames answers x y → TouchesSlots site x y → text ≡ text_of answers behind.dir
+      → Says site y z text Done outcome
       → TellsServed site before.dir frames x z outcome
   told_numbers before behind frames answers text x y z outcome served touches text_is says = ⊎_elim
       (λ done. subst (TellsServed site before.dir frames x z) (sym done.0) (record {
-        done = λ _. emits_on (site.emitted x) (site.emitted y) (site.emitted z) (sample_text before.dir frames) touches.output
+        done = λ _. emits_on (site.emitted x) (site.emitted y) (site.emitted z) (sample_text before.dir frames)
+            touches.output
             (subst (λ (t : List ℕ). Emits (site.emitted y) (site.emitted z) t) same done.1);
         store = λ _. told_on (λ held. IsStoreOf held (after before.dir frames)) (site.reads y) (site.reads z) says.held
             (stands_for behind (after before.dir frames) y served.directory served.stands served.unspent);
@@ -123,17 +136,20 @@ module _ {S : Type 0} (site : SiteGhosts S) where
           ∙ ap (λ (d : Directory). text_of (outputs before.dir frames) d) served.directory
 
       goes : GoesOn (site.now x) (site.now z) (site.left x) (site.left z)
-      goes = goes_on_on (site.now x) (site.now y) (site.now z) (site.left x) (site.left y) (site.left z) touches.moments says.moments
+      goes = goes_on_on (site.now x) (site.now y) (site.now z) (site.left x) (site.left y) (site.left z)
+          touches.moments says.moments
 
       known : StaysKnown (site.reads x) (site.reads z)
       known = known_then (site.reads x) (site.reads y) (site.reads z) touches.known says.held
 
       lasts : IfSome (site.reads x) (λ held. EachLeaves site before.dir x → EachLeaves site (after before.dir frames) y)
-      lasts = told_map _ _ (site.reads x) (λ held by each. subst (λ (d : Directory). EachLeaves site d y) served.directory (by each)) served.lasts
+      lasts = told_map _ _ (site.reads x)
+          (λ held by each. subst (λ (d : Directory). EachLeaves site d y) served.directory (by each)) served.lasts
 
       every : IfSome (site.reads x) (λ held. EachLeaves site before.dir x → EachLeaves site (after before.dir frames) z)
       every = told_map _ _ (site.reads x) (λ held by each images out left.
-          let so_far = says.images (site.now z) images out says.moments.later left in by each images so_far.0 so_far.2) lasts
+          let so_far = says.images (site.now z) images out says.moments.later left in
+          by each images so_far.0 so_far.2) lasts
 
       crash : Quiet before.dir frames x z
       crash = told_map _ _ (site.reads x) (λ held by each t images out le left. ⊎_elim

@@ -13,22 +13,45 @@ use Rattle.cmd_call.specs.Call.{IsTold}
 use Rattle.cmd_call.proofs.Lengths.{sid_length}
 use Rattle.cmd_store.specs.Effective.{IsToken, NoToken, IsTokenFor, IsNoTokenFor}
 
-each_length : {A : Type 0} (Spells : A → List ℕ → Type 0) → ((x : A) (t : List ℕ) → Spells x t → length t ≤ 69) → (xs : List A) (text : List ℕ)
+each_length : {A : Type 0} (Spells : A → List ℕ → Type 0) → ((x : A) (t : List ℕ) → Spells x t → length t ≤ 69)
+    → (xs : List A) (text : List ℕ)
     → SpellsEach Spells xs text → length text ≤ 69 * length xs
 each_length Spells one [] text s = omega (arith, ap length s)
 each_length Spells one (x ∷ xs) text s =
-    omega (arith, ap length s.parts, length-append s.front s.behind, one x s.front s.spelled, each_length Spells one xs s.behind s.follows)
+    omega (
+      arith,
+      ap length s.parts,
+      length-append s.front s.behind,
+      one x s.front s.spelled,
+      each_length Spells one
+          xs s.behind s.follows,
+    )
 
 short_sid : (s : SidValue) (text : List ℕ) → SpellsSid s text → length text ≤ 69
 short_sid s text p = omega (arith, sid_length s text p)
 
 marked_length : (group : Mark × SidValue) (text : List ℕ) → SpellsMarked group text → length text ≤ 69
-marked_length group text s = omega (arith, ap length s.parts, length-append s.front s.behind, ap length s.spelled.1, sid_length group.1 s.behind s.follows)
+marked_length group text s = omega (
+  arith,
+  ap length s.parts,
+  length-append s.front s.behind,
+  ap length s.spelled.1,
+  sid_length group.1 s.behind s.follows,
+)
 
 sids_length : (sids : List SidValue) (text : List ℕ) → SpellsSids sids text → length text ≤ 70658
 sids_length sids text s =
     let w = s.text_is in
-    omega (arith, ap length w.parts, length-append w.front w.behind, ap length w.spelled.1, length-be_bytes 2 (length sids), each_length SpellsSid short_sid sids w.behind w.follows, s.count)
+    omega (
+      arith,
+      ap length w.parts,
+      length-append w.front w.behind,
+      ap length w.spelled.1,
+      length-be_bytes 2
+          (length sids),
+      each_length SpellsSid short_sid sids w.behind w.follows,
+      s.count,
+    )
 
 lists_length : (version : ℕ) (lists : Lists) (text : List ℕ) → SpellsLists version lists text → length text ≤ 141316
 lists_length version lists text (inl plain) = omega (arith, sids_length lists.groups text plain.1.groups)
@@ -77,7 +100,8 @@ token_length t text s =
     )
 
 -- more bytes came than a token has
-pub too_long : (rest left : Option (List ℕ)) → BothTold rest left (λ before after. 262144 < length before) → IsNoTokenFor rest left
+pub too_long : (rest left : Option (List ℕ)) → BothTold rest left (λ before after. 262144 < length before)
+    → IsNoTokenFor rest left
 too_long None None long = tt
 too_long (Some before) (Some after) long = λ token. omega (arith, token_length token.0 before token.1)
 too_long None (Some after) long = absurd long

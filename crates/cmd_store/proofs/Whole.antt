@@ -8,7 +8,8 @@ use Rattle.ad_load.proofs.Whole.{records_stop}
 use Rattle.cmd_store.specs.declared.loading.Given.TheVariants as given
 use Rattle.cmd_store.specs.Loading.{IsGivenFor}
 
-pub refused_whole : (rest left : Option (List ℕ)) (at : ℕ) (cause : LoadCause) → BothTold rest left (λ input behind. records_in input ≡ Err (Bad at cause))
+pub refused_whole : (rest left : Option (List ℕ)) (at : ℕ) (cause : LoadCause)
+    → BothTold rest left (λ input behind. records_in input ≡ Err (Bad at cause))
     → IsGivenFor rest left (given.Refusal at cause)
 refused_whole None None at cause told = tt
 refused_whole (Some input) (Some behind) at cause told = (tt, records_stop input (Bad at cause) told)

@@ -30,7 +30,8 @@ module _ {I S : Type 0} (source : SourceGhosts I) (site : SiteGhosts S) where
   -- For an object: what the token of the input may do there is emitted, or the input gave none.
   abbrev pub AnswersAt : Directory → ℕ → I → I → S → S → Outcome → Type 0
   AnswersAt dir number from to old new outcome =
-      ((token : Token) × IsTokenFor (source.rest from) (source.rest to) token × SaysUnless site old new (effective_text dir token number) Done outcome)
+      ((token : Token) × IsTokenFor (source.rest from) (source.rest to) token × SaysUnless site old new
+      (effective_text dir token number) Done outcome)
       ⊎ (IsUnanswered from to outcome × (new ≡ old))
 
   -- and for none: that there is none

@@ -18,7 +18,8 @@ use Rattle.ad_engine.specs.Runs.{no_tokens}
 unfoldable pub outputs_from : Directory → List (Option Token) → List Frame → List (List ℕ)
 outputs_from dir tokens [] = []
 outputs_from dir tokens (frame ∷ frames) =
-    (answer dir tokens frame).output ∷ outputs_from (answer dir tokens frame).directory (answer dir tokens frame).tokens frames
+    (answer dir tokens frame).output ∷ outputs_from (answer dir tokens frame).directory
+    (answer dir tokens frame).tokens frames
 
 abbrev pub outputs : Directory → List Frame → List (List ℕ)
 outputs dir frames = outputs_from dir no_tokens frames

@@ -21,7 +21,8 @@ use Rattle.cmd_store.specs.Stale.{stale}
 -- how many objects there are, how many are pending, how many are stale, and how many different descriptors are stored
 abbrev pub check_text : Directory → List ℕ
 check_text dir = objects_line dir ++
-    (counted (codes "pending") (length dir.pending) ++ (counted (codes "stale") (stale dir) ++ counted (codes "descriptors") (descriptor_count dir.objects)))
+    (counted (codes "pending") (length dir.pending)
+    ++ (counted (codes "stale") (stale dir) ++ counted (codes "descriptors") (descriptor_count dir.objects)))
 
 -- what may be emitted for the slots: the numbers of their directory, or why they represent none
 abbrev pub IsCheckText : Images → List ℕ → Type 0
@@ -38,15 +39,18 @@ module _ {S : Type 0} (site : SiteGhosts S) where
   -- The site failed: nothing was emitted, or a prefix of the text for the slots.
   abbrev pub IsPartlyChecked : S → S → Type 0
   IsPartlyChecked old new = StaysTold (site.emitted old) (site.emitted new)
-      ⊎ ((text : List ℕ) × IfSome (site.reads old) (λ held. IsCheckText held text) × EmitsPart (site.emitted old) (site.emitted new) text)
+      ⊎ ((text : List ℕ) × IfSome (site.reads old) (λ held. IsCheckText held text) × EmitsPart (site.emitted old)
+      (site.emitted new) text)
 
   pub record CheckDoes (old new : S) (outcome : Outcome) : Type 0 where
     pub done : outcome ≡ Done → IsChecked old new
     pub no_store : outcome ≡ NoStore → IsNoStore site old new
     -- a store that represents a directory is checked, unless the site fails or memory runs out
-    pub complete : IsTold IsDirStore (site.reads old) → IsSiteHealthy site old new → (outcome ≡ Done) ⊎ (outcome ≡ NoMemory)
+    pub complete : IsTold IsDirStore (site.reads old) → IsSiteHealthy site old new → (outcome ≡ Done)
+        ⊎ (outcome ≡ NoMemory)
     -- slots that represent no directory are refused, unless the site fails or memory runs out
-    pub refuses : IsTold NoDirStore (site.reads old) → IsSiteHealthy site old new → (outcome ≡ NoStore) ⊎ (outcome ≡ NoMemory)
+    pub refuses : IsTold NoDirStore (site.reads old) → IsSiteHealthy site old new → (outcome ≡ NoStore)
+        ⊎ (outcome ≡ NoMemory)
     pub partly : outcome ≡ SiteFailed → IsPartlyChecked old new
     pub quiet : outcome ≡ NoMemory → StaysTold (site.emitted old) (site.emitted new)
     -- no slot is written, whatever comes

@@ -11,7 +11,8 @@ use Rattle.ad_dsacls.specs.Effective.{effective_text}
 use Rattle.ad_engine.specs.Opening.{Refuses}
 use Rattle.ad_engine.specs.declared.fault.OpenFault.{OpenFault}
 use Rattle.cmd_call.specs.declared.outcome.Outcome.{Outcome}
-use Rattle.cmd_call.specs.declared.outcome.Outcome.TheVariants.{Done, NotOfForm, NoStore, NoObject, SiteFailed, NoMemory}
+use Rattle.cmd_call.specs.declared.outcome.Outcome.TheVariants.{Done, NotOfForm, NoStore, NoObject, SiteFailed}
+use Rattle.cmd_call.specs.declared.outcome.Outcome.TheVariants.{NoMemory}
 use Rattle.cmd_call.specs.Call.{IsTold}
 use Rattle.cmd_call.specs.Outcome.{IsStopped, IsOfEffective}
 use Rattle.cmd_call.specs.Store.{Emits, EmitsPart, KeepsSlots, IsSiteHealthy, IsAllHealthy}
@@ -37,11 +38,13 @@ IsNoTokenFor rest left = BothTold rest left (λ input behind. NoToken input)
 -- what may be emitted for the slots and a token: what it may do at the object of the name
 abbrev pub IsTextFor : List ℕ → Token → Images → List ℕ → Type 0
 IsTextFor name token held text =
-    (dir : Directory) × (number : ℕ) × IsStoreNamed held dir × (number_named dir name ≡ Some number) × (text ≡ effective_text dir token number)
+    (dir : Directory) × (number : ℕ) × IsStoreNamed held dir × (number_named dir name ≡ Some number)
+    × (text ≡ effective_text dir token number)
 
 -- and for slots without such an object: that there is none, or why they represent no directory
 abbrev pub IsLineFor : List ℕ → Images → List ℕ → Type 0
-IsLineFor name held text = (HasNoObject name held × (text ≡ no_object_line)) ⊎ ((fault : OpenFault) × Refuses held fault × (text ≡ store_line fault))
+IsLineFor name held text = (HasNoObject name held × (text ≡ no_object_line))
+    ⊎ ((fault : OpenFault) × Refuses held fault × (text ≡ store_line fault))
 
 module _ {I S : Type 0} (source : SourceGhosts I) (site : SiteGhosts S) where
   -- The store represents a directory, an object of it has the name, the input is a token, and what it may do at the
@@ -69,8 +72,10 @@ module _ {I S : Type 0} (source : SourceGhosts I) (site : SiteGhosts S) where
   abbrev pub IsPartlyAnswered : List ℕ → I → I → S → S → Type 0
   IsPartlyAnswered name from to old new = StaysTold (site.emitted old) (site.emitted new)
       ⊎ (((text : List ℕ) × (token : Token) × IsTokenFor (source.rest from) (source.rest to) token
-      × IfSome (site.reads old) (λ held. IsTextFor name token held text) × EmitsPart (site.emitted old) (site.emitted new) text)
-      ⊎ ((text : List ℕ) × IfSome (site.reads old) (λ held. IsLineFor name held text) × EmitsPart (site.emitted old) (site.emitted new) text))
+      × IfSome (site.reads old) (λ held. IsTextFor name token held text) × EmitsPart (site.emitted old)
+      (site.emitted new) text)
+      ⊎ ((text : List ℕ) × IfSome (site.reads old) (λ held. IsLineFor name held text) × EmitsPart (site.emitted old)
+      (site.emitted new) text))
 
   pub record EffectiveDoes (name : List ℕ) (from to : I) (old new : S) (outcome : Outcome) : Type 0 where
     pub done : outcome ≡ Done → IsAnswered name from to old new
@@ -87,10 +92,12 @@ module _ {I S : Type 0} (source : SourceGhosts I) (site : SiteGhosts S) where
     pub refuses : IsTold NoToken (source.rest from) → outcome ≡ Done → ⊥
     -- where an object has the name and the input is a token, it is answered, unless something fails outside or
     -- memory runs out
-    pub answers : IsTold (HasObject name) (site.reads old) → IsTold IsToken (source.rest from) → IsAllHealthy source site from to old new
+    pub answers : IsTold (HasObject name) (site.reads old) → IsTold IsToken (source.rest from)
+        → IsAllHealthy source site from to old new
         → (outcome ≡ Done) ⊎ (outcome ≡ NoMemory)
     -- slots that represent no directory are refused, unless the site fails or memory runs out
-    pub stands : IsTold NoDirStore (site.reads old) → IsSiteHealthy site old new → (outcome ≡ NoStore) ⊎ (outcome ≡ NoMemory)
+    pub stands : IsTold NoDirStore (site.reads old) → IsSiteHealthy site old new → (outcome ≡ NoStore)
+        ⊎ (outcome ≡ NoMemory)
     pub partly : outcome ≡ SiteFailed → IsPartlyAnswered name from to old new
     pub quiet : IsStopped outcome → StaysTold (site.emitted old) (site.emitted new)
     -- no slot is written, whatever comes

@@ -14,7 +14,8 @@ abbrev pub IsRead : Read → Result (List Record) LoadFault → Type 0
 IsRead (read.Records records) given = given ≡ Ok (map seen records.items)
 IsRead (read.Refusal at cause) given = given ≡ Err (Bad at cause)
 
--- The records are those of a text, and the input, which was read to its end, is that text; or the input has this fault.
+-- The records are those of a text, and the input, which was read to its end, is that text; or the input has this
+-- fault.
 abbrev pub IsReadOf : Option (List ℕ) → Option (List ℕ) → Read → Type 0
 IsReadOf rest left (read.Records records) = (text : List ℕ) × (records_in text ≡ Ok (map seen records.items))
     × BothTold rest left (λ input behind. (input ≡ text) × (behind ≡ []))

@@ -20,7 +20,8 @@ use Rattle.cmd_call.specs.Store.{Emits, EmitsPart, KeepsSlots, IsSiteHealthy}
 use Rattle.cmd_store.specs.Opened.{NoDirStore, IsNoStore}
 use Rattle.cmd_store.specs.Lines.{store_line}
 
--- the number of the object that has the name of the text; none where no object has it, and where the text is no name's
+-- the number of the object that has the name of the text; none where no object has it, and where the text is no
+-- name's
 abbrev pub number_named : Directory → List ℕ → Option ℕ
 number_named dir text = option_and_then (λ (dn : Dn). found dir dn.rdns) (dn_of text)
 
@@ -72,7 +73,8 @@ module _ {S : Type 0} (site : SiteGhosts S) where
   -- The site failed: nothing was emitted, or a prefix of the text for the slots.
   abbrev pub IsPartlyListed : List ℕ → S → S → Type 0
   IsPartlyListed name old new = StaysTold (site.emitted old) (site.emitted new)
-      ⊎ ((text : List ℕ) × IfSome (site.reads old) (λ held. IsListText name held text) × EmitsPart (site.emitted old) (site.emitted new) text)
+      ⊎ ((text : List ℕ) × IfSome (site.reads old) (λ held. IsListText name held text) × EmitsPart (site.emitted old)
+      (site.emitted new) text)
 
   pub record ListDoes (name : List ℕ) (old new : S) (outcome : Outcome) : Type 0 where
     pub done : outcome ≡ Done → IsListed name old new
@@ -82,9 +84,11 @@ module _ {S : Type 0} (site : SiteGhosts S) where
     pub complete : IsTold (HasObject name) (site.reads old) → outcome ≡ NoObject → ⊥
     pub misses : IsTold (HasNoObject name) (site.reads old) → outcome ≡ Done → ⊥
     -- and it is listed, unless the site fails or memory runs out
-    pub lists : IsTold (HasObject name) (site.reads old) → IsSiteHealthy site old new → (outcome ≡ Done) ⊎ (outcome ≡ NoMemory)
+    pub lists : IsTold (HasObject name) (site.reads old) → IsSiteHealthy site old new → (outcome ≡ Done)
+        ⊎ (outcome ≡ NoMemory)
     -- slots that represent no directory are refused, unless the site fails or memory runs out
-    pub refuses : IsTold NoDirStore (site.reads old) → IsSiteHealthy site old new → (outcome ≡ NoStore) ⊎ (outcome ≡ NoMemory)
+    pub refuses : IsTold NoDirStore (site.reads old) → IsSiteHealthy site old new → (outcome ≡ NoStore)
+        ⊎ (outcome ≡ NoMemory)
     pub partly : outcome ≡ SiteFailed → IsPartlyListed name old new
     pub quiet : outcome ≡ NoMemory → StaysTold (site.emitted old) (site.emitted new)
     -- no slot is written, whatever comes

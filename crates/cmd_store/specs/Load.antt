@@ -44,7 +44,8 @@ module _ {I S : Type 0} (source : SourceGhosts I) (site : SiteGhosts S) where
     pub input : BothTold (source.rest from) (source.rest to) (λ input behind. (behind ≡ []) × LoadsAs dir input)
     pub line : Emits (site.emitted old) (site.emitted new) (objects_line dir)
     pub store : IfSome (site.reads new) (λ held. IsStoreOf held dir)
-    pub every_crash : IfSome (site.reads new) (λ held. (images : Images) (out : List ℕ) → site.left new (site.now new) images out → IsStoreOf images dir)
+    pub every_crash : IfSome (site.reads new) (λ held. (images : Images) (out : List ℕ) → site.left new (site.now new)
+        images out → IsStoreOf images dir)
 
   -- The input is the text of no directory, and the line of its first fault was emitted.
   pub record IsRefused (from to : I) (old new : S) : Type 0 where
@@ -61,7 +62,8 @@ module _ {I S : Type 0} (source : SourceGhosts I) (site : SiteGhosts S) where
   -- The site failed: nothing was emitted, or a prefix of the line for the input, or for a slot that isn't empty.
   abbrev pub IsPartlyTold : I → S → S → Type 0
   IsPartlyTold from old new = StaysTold (site.emitted old) (site.emitted new)
-      ⊎ (((text : List ℕ) × IfSome (source.rest from) (λ input. IsLoadLine input text) × EmitsPart (site.emitted old) (site.emitted new) text)
+      ⊎ (((text : List ℕ) × IfSome (source.rest from) (λ input. IsLoadLine input text) × EmitsPart (site.emitted old)
+      (site.emitted new) text)
       ⊎ (IfSome (site.reads old) IsTaken × EmitsPart (site.emitted old) (site.emitted new) (store_line Taken)))
 
   pub record LoadDoes (from to : I) (old new : S) (outcome : Outcome) : Type 0 where
@@ -70,9 +72,11 @@ module _ {I S : Type 0} (source : SourceGhosts I) (site : SiteGhosts S) where
     pub taken : outcome ≡ NoStore → IsRefusedStore from to old new
     -- a directory is loaded into empty slots, and what is none is refused, unless something fails outside or memory
     -- runs out
-    pub complete : IsTold IsDirectory (source.rest from) → IsTold AreEmpty (site.reads old) → IsAllHealthy source site from to old new
+    pub complete : IsTold IsDirectory (source.rest from) → IsTold AreEmpty (site.reads old) → IsAllHealthy source site
+        from to old new
         → (outcome ≡ Done) ⊎ (outcome ≡ NoMemory)
-    pub refuses : IsTold NoDirectory (source.rest from) → IsTold AreEmpty (site.reads old) → IsAllHealthy source site from to old new
+    pub refuses : IsTold NoDirectory (source.rest from) → IsTold AreEmpty (site.reads old) → IsAllHealthy source site
+        from to old new
         → (outcome ≡ NotOfForm) ⊎ (outcome ≡ NoMemory)
     -- a slot that isn't empty is seen in any case
     pub sees : IsTold IsTaken (site.reads old) → IsSiteHealthy site old new → outcome ≡ NoStore
@@ -85,5 +89,6 @@ module _ {I S : Type 0} (source : SourceGhosts I) (site : SiteGhosts S) where
     -- Of empty slots and a directory's text: whatever a crash leaves at any moment of the call with something
     -- emitted represents the directory.
     pub crash : (dir : Directory) → IsTold (LoadsAs dir) (source.rest from) → IsTold AreEmpty (site.reads old)
-        → IfSome (site.emitted old) (λ said. (t : ℕ) (images : Images) (out : List ℕ) → site.now old ≤ t → site.left new t images out
+        → IfSome (site.emitted old) (λ said. (t : ℕ) (images : Images) (out : List ℕ) → site.now old ≤ t
+        → site.left new t images out
         → (out ≡ said) ⊎ IsStoreOf images dir)

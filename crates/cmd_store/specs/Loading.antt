@@ -10,7 +10,8 @@ use Rattle.ad_dir_model.specs.Soundness.{IsSound}
 use Rattle.ad_rows_write.specs.Rows.{IsStoreOf}
 use Rattle.ad_engine.specs.declared.fault.OpenFault.TheVariants.{Taken}
 use Rattle.cmd_call.specs.declared.outcome.Outcome.{Outcome}
-use Rattle.cmd_call.specs.declared.outcome.Outcome.TheVariants.{Done, NotOfForm, NoStore, SourceFailed, SiteFailed, NoMemory}
+use Rattle.cmd_call.specs.declared.outcome.Outcome.TheVariants.{Done, NotOfForm, NoStore, SourceFailed, SiteFailed}
+use Rattle.cmd_call.specs.declared.outcome.Outcome.TheVariants.{NoMemory}
 use Rattle.cmd_call.specs.Call.{IsTold}
 use Rattle.cmd_call.specs.Outcome.{IsStopped, WritesNothing, IsOfStore, IsOfLoad}
 use Rattle.cmd_call.specs.Store.{HasFailed, Emits, EmitsPart, AreEmpty, IsTaken, KeepsSlots, IsAllHealthy}
@@ -48,17 +49,20 @@ module _ {S : Type 0} (site : SiteGhosts S) where
   pub record IsKept (dir : Directory) (old new : S) : Type 0 where
     pub line : Emits (site.emitted old) (site.emitted new) (objects_line dir)
     pub store : IfSome (site.reads new) (λ held. IsStoreOf held dir)
-    pub every_crash : IfSome (site.reads new) (λ held. (images : Images) (out : List ℕ) → site.left new (site.now new) images out → IsStoreOf images dir)
+    pub every_crash : IfSome (site.reads new) (λ held. (images : Images) (out : List ℕ) → site.left new (site.now new)
+        images out → IsStoreOf images dir)
 
   pub record Keeps (dir : Directory) (old new : S) (outcome : Outcome) : Type 0 where
     pub done : outcome ≡ Done → IsKept dir old new
-    pub taken : outcome ≡ NoStore → IfSome (site.reads old) IsTaken × Emits (site.emitted old) (site.emitted new) (store_line Taken)
+    pub taken : outcome ≡ NoStore → IfSome (site.reads old) IsTaken × Emits (site.emitted old) (site.emitted new)
+        (store_line Taken)
     pub failed : outcome ≡ SiteFailed → HasFailed site old new × IsPartlyKept dir old new
     pub quiet : outcome ≡ NoMemory → StaysTold (site.emitted old) (site.emitted new)
     pub unwritten : WritesNothing outcome → KeepsSlots site old new
     pub moments : GoesOn (site.now old) (site.now new) (site.left old) (site.left new)
     pub crash : IsTold AreEmpty (site.reads old)
-        → IfSome (site.emitted old) (λ said. (t : ℕ) (images : Images) (out : List ℕ) → site.now old ≤ t → site.left new t images out
+        → IfSome (site.emitted old) (λ said. (t : ℕ) (images : Images) (out : List ℕ) → site.now old ≤ t
+        → site.left new t images out
         → (out ≡ said) ⊎ IsStoreOf images dir)
     pub only : IsOfStore outcome
 
@@ -67,16 +71,20 @@ module _ {I S : Type 0} (source : SourceGhosts I) (site : SiteGhosts S) where
   pub record LoadsEmpty (from to : I) (old new : S) (outcome : Outcome) : Type 0 where
     pub done : outcome ≡ Done → IsLoaded source site from to old new
     pub refused : outcome ≡ NotOfForm → IsRefused source site from to old new
-    pub taken : outcome ≡ NoStore → IfSome (site.reads old) IsTaken × Emits (site.emitted old) (site.emitted new) (store_line Taken)
-    pub complete : IsTold IsDirectory (source.rest from) → IsTold AreEmpty (site.reads old) → IsAllHealthy source site from to old new
+    pub taken : outcome ≡ NoStore → IfSome (site.reads old) IsTaken × Emits (site.emitted old) (site.emitted new)
+        (store_line Taken)
+    pub complete : IsTold IsDirectory (source.rest from) → IsTold AreEmpty (site.reads old) → IsAllHealthy source site
+        from to old new
         → (outcome ≡ Done) ⊎ (outcome ≡ NoMemory)
-    pub refuses : IsTold NoDirectory (source.rest from) → IsTold AreEmpty (site.reads old) → IsAllHealthy source site from to old new
+    pub refuses : IsTold NoDirectory (source.rest from) → IsTold AreEmpty (site.reads old) → IsAllHealthy source site
+        from to old new
         → (outcome ≡ NotOfForm) ⊎ (outcome ≡ NoMemory)
     pub partly : outcome ≡ SiteFailed → IsPartlyTold source site from old new
     pub quiet : IsStopped outcome → StaysTold (site.emitted old) (site.emitted new)
     pub unwritten : WritesNothing outcome → KeepsSlots site old new
     pub crash : (dir : Directory) → IsTold (LoadsAs dir) (source.rest from) → IsTold AreEmpty (site.reads old)
-        → IfSome (site.emitted old) (λ said. (t : ℕ) (images : Images) (out : List ℕ) → site.now old ≤ t → site.left new t images out
+        → IfSome (site.emitted old) (λ said. (t : ℕ) (images : Images) (out : List ℕ) → site.now old ≤ t
+        → site.left new t images out
         → (out ≡ said) ⊎ IsStoreOf images dir)
     pub moments : GoesOn (site.now old) (site.now new) (site.left old) (site.left new)
     pub source_failed : outcome ≡ SourceFailed → HasRisen (source.faults from) (source.faults to)

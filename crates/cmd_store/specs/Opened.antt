@@ -29,7 +29,8 @@ module _ {S : Type 0} (site : SiteGhosts S) where
 
   -- It does so at each moment before this one.
   abbrev pub AllBegun : ℕ → S → S → Type 0
-  AllBegun synced old new = (t : ℕ) (images : Images) (text : List ℕ) → site.now old ≤ t → t < synced → site.left new t images text → IsAsBegun old images text
+  AllBegun synced old new = (t : ℕ) (images : Images) (text : List ℕ) → site.now old ≤ t → t < synced
+      → site.left new t images text → IsAsBegun old images text
 
   -- What a crash leaves during a call that syncs the slots before anything is emitted: up to the sync what it could
   -- leave as the call began, and from then on what meets P, of the crash states and of all that was emitted. Where

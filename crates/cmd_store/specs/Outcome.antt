@@ -1,6 +1,7 @@
 -- How `adsd sample` ends.
 use Rattle.cmd_call.specs.declared.outcome.Outcome.{Outcome}
-use Rattle.cmd_call.specs.declared.outcome.Outcome.TheVariants.{Done, NotOfForm, NoCommand, NoStore, NoObject, TooMany, SourceFailed, SiteFailed, NoMemory}
+use Rattle.cmd_call.specs.declared.outcome.Outcome.TheVariants.{Done, NotOfForm, NoCommand, NoStore, NoObject}
+use Rattle.cmd_call.specs.declared.outcome.Outcome.TheVariants.{TooMany, SourceFailed, SiteFailed, NoMemory}
 
 abbrev pub IsOfSample : Outcome → Type 0
 IsOfSample Done = Unit {0}

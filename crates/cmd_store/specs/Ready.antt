@@ -25,7 +25,8 @@ module _ {S : Type 0} (site : SiteGhosts S) where
     pub touches : TouchesSlots site old new
     pub later : site.now old ≤ synced
     pub begun : AllBegun site synced old new
-    pub lasts : IfSome (site.reads old) (λ held. (t : ℕ) (images : Images) (text : List ℕ) → synced ≤ t → site.left new t images text → IsStoreOf images dir)
+    pub lasts : IfSome (site.reads old) (λ held. (t : ℕ) (images : Images) (text : List ℕ) → synced ≤ t
+        → site.left new t images text → IsStoreOf images dir)
     pub kept : IsTold IsNotOne (site.reads old) → KeepsSlots site old new
 
   -- and that moment has come
@@ -43,8 +44,10 @@ module _ {S : Type 0} (site : SiteGhosts S) where
 
   -- the same since any earlier moment from which on the slots, which represented the directory, were only looked at
   abbrev pub IsReadySince : Directory → S → S → Type 0
-  IsReadySince dir opened new = (old : S) → OnlyLooks site old opened → IfSome (site.reads old) (λ held. IsStoreOf held dir) → IsReady dir old new
+  IsReadySince dir opened new = (old : S) → OnlyLooks site old opened → IfSome (site.reads old)
+      (λ held. IsStoreOf held dir) → IsReady dir old new
 
   abbrev pub IsUnreadySince : Directory → S → S → Outcome → Type 0
-  IsUnreadySince dir opened new outcome = (old : S) → OnlyLooks site old opened → IfSome (site.reads old) (λ held. IsStoreOf held dir)
+  IsUnreadySince dir opened new outcome = (old : S) → OnlyLooks site old opened → IfSome (site.reads old)
+      (λ held. IsStoreOf held dir)
       → IsUnready dir old new outcome

@@ -37,7 +37,8 @@ module _ {S : Type 0} (site : SiteGhosts S) where
     pub loads : LoadsAs dir (ldif n)
     pub text : Emits (site.emitted old) (site.emitted new) (sample_text dir (sent n))
     pub store : IfSome (site.reads new) (λ held. IsStoreOf held (sampled dir n))
-    pub every_crash : IfSome (site.reads new) (λ held. (images : Images) (out : List ℕ) → site.left new (site.now new) images out
+    pub every_crash : IfSome (site.reads new) (λ held. (images : Images) (out : List ℕ) → site.left new (site.now new)
+        images out
         → IsStoreOf images (sampled dir n))
 
   -- A slot isn't empty.
@@ -48,7 +49,8 @@ module _ {S : Type 0} (site : SiteGhosts S) where
   -- The site failed: nothing was emitted, or a prefix of the numbers, or of the line for a slot that isn't empty.
   abbrev pub IsPartlyTold : ℕ → S → S → Type 0
   IsPartlyTold n old new = StaysTold (site.emitted old) (site.emitted new)
-      ⊎ (((dir : Directory) × LoadsAs dir (ldif n) × EmitsPart (site.emitted old) (site.emitted new) (sample_text dir (sent n)))
+      ⊎ (((dir : Directory) × LoadsAs dir (ldif n) × EmitsPart (site.emitted old) (site.emitted new)
+      (sample_text dir (sent n)))
       ⊎ (IfSome (site.reads old) IsTaken × EmitsPart (site.emitted old) (site.emitted new) (store_line Taken)))
 
   pub record SampleDoes (n : ℕ) (old new : S) (outcome : Outcome) : Type 0 where
@@ -71,6 +73,7 @@ module _ {S : Type 0} (site : SiteGhosts S) where
     -- Of empty slots: whatever a crash leaves at any moment of the call with something emitted represents the
     -- directory after all frames.
     pub crash : (dir : Directory) → LoadsAs dir (ldif n) → IsTold AreEmpty (site.reads old)
-        → IfSome (site.emitted old) (λ said. (t : ℕ) (images : Images) (out : List ℕ) → site.now old ≤ t → site.left new t images out
+        → IfSome (site.emitted old) (λ said. (t : ℕ) (images : Images) (out : List ℕ) → site.now old ≤ t
+        → site.left new t images out
         → (out ≡ said) ⊎ IsStoreOf images (sampled dir n))
     pub only : IsOfSample outcome

@@ -20,7 +20,8 @@ use Rattle.cmd_call.specs.Call.{IsTold}
 use Rattle.cmd_call.specs.Outcome.{IsEarly, IsOfStore}
 use Rattle.cmd_call.specs.Store.{Emits, EmitsPart, AreEmpty, IsTaken, KeepsSlots, IsSiteHealthy, HasFailed}
 use Rattle.cmd_call.specs.declared.outcome.Outcome.{Outcome}
-use Rattle.cmd_call.specs.declared.outcome.Outcome.TheVariants.{Done, NotOfForm, NoCommand, NoStore, NoObject, TooMany, SourceFailed, SiteFailed, NoMemory}
+use Rattle.cmd_call.specs.declared.outcome.Outcome.TheVariants.{Done, NotOfForm, NoCommand, NoStore, NoObject}
+use Rattle.cmd_call.specs.declared.outcome.Outcome.TheVariants.{TooMany, SourceFailed, SiteFailed, NoMemory}
 use Rattle.cmd_store.specs.Load.{LoadsAs, IsDirectory, NoDirectory}
 use Rattle.cmd_store.specs.Lines.{store_line}
 use Rattle.cmd_store.specs.Answers.{outputs}
@@ -89,24 +90,29 @@ module _ {S : Type 0} (site : SiteGhosts S) where
     pub lasts : LastsOn site before.dir behind.dir old new
 
   -- All frames were, from an engine on without tokens.
-  pub record AreServed (before behind : Engine) (frames : List Frame) (answers : List (List ℕ)) (old new : S) : Type 0 where
-    pub answers_are : answers ≡ outputs before.dir frames
-    pub directory : behind.dir ≡ after before.dir frames
-    pub stands : StandsIn behind (site.reads new) (site.now new) (site.left new)
-    pub unspent : behind.spent ≡ false
-    pub lasts : LastsOn site before.dir behind.dir old new
+  pub record AreServed (before behind : Engine) (frames : List Frame) (answers : List (List ℕ)) (old new : S) : Type 0
+    where
+      pub answers_are : answers ≡ outputs before.dir frames
+      pub directory : behind.dir ≡ after before.dir frames
+      pub stands : StandsIn behind (site.reads new) (site.now new) (site.left new)
+      pub unspent : behind.spent ≡ false
+      pub lasts : LastsOn site before.dir behind.dir old new
 
   -- Frames were served since the slots were touched first, and the numbers emitted, or something failed before that.
   pub record TellsServed (dir : Directory) (frames : List Frame) (old new : S) (outcome : Outcome) : Type 0 where
     pub done : outcome ≡ Done → Emits (site.emitted old) (site.emitted new) (sample_text dir frames)
     pub store : outcome ≡ Done → IfSome (site.reads new) (λ held. IsStoreOf held (after dir frames))
-    pub every_crash : outcome ≡ Done → IfSome (site.reads old) (λ held. EachLeaves dir old → EachLeaves (after dir frames) new)
+    pub every_crash : outcome ≡ Done → IfSome (site.reads old)
+        (λ held. EachLeaves dir old → EachLeaves (after dir frames) new)
     pub quiet : outcome ≡ NoMemory → StaysTold (site.emitted old) (site.emitted new)
     pub failed : outcome ≡ SiteFailed → HasFailed site old new
-        × (StaysTold (site.emitted old) (site.emitted new) ⊎ EmitsPart (site.emitted old) (site.emitted new) (sample_text dir frames))
+        × (StaysTold (site.emitted old) (site.emitted new) ⊎ EmitsPart (site.emitted old) (site.emitted new)
+        (sample_text dir frames))
     -- a crash leaves an output that it could leave then, or the directory after the frames
-    pub crash : IfSome (site.reads old) (λ held. EachLeaves dir old → (t : ℕ) (images : Images) (out : List ℕ) → site.now old ≤ t
-        → site.left new t images out → ((began : Images) × site.left old (site.now old) began out) ⊎ IsStoreOf images (after dir frames))
+    pub crash : IfSome (site.reads old) (λ held. EachLeaves dir old → (t : ℕ) (images : Images) (out : List ℕ)
+        → site.now old ≤ t
+        → site.left new t images out → ((began : Images) × site.left old (site.now old) began out)
+        ⊎ IsStoreOf images (after dir frames))
     pub known : StaysKnown (site.reads old) (site.reads new)
     pub moments : GoesOn (site.now old) (site.now new) (site.left old) (site.left new)
     pub slot_faults : site.slot_faults old ≤ site.slot_faults new
@@ -118,12 +124,14 @@ module _ {S : Type 0} (site : SiteGhosts S) where
     pub text : outcome ≡ Done → Emits (site.emitted old) (site.emitted new) (sample_text dir frames)
     pub store : outcome ≡ Done → IfSome (site.reads new) (λ held. IsStoreOf held (after dir frames))
     pub every_crash : outcome ≡ Done → IfSome (site.reads new) (λ held. EachLeaves (after dir frames) new)
-    pub taken : outcome ≡ NoStore → IfSome (site.reads old) IsTaken × Emits (site.emitted old) (site.emitted new) (store_line Taken)
+    pub taken : outcome ≡ NoStore → IfSome (site.reads old) IsTaken × Emits (site.emitted old) (site.emitted new)
+        (store_line Taken)
     pub failed : outcome ≡ SiteFailed → HasFailed site old new × IsPartlySampled dir frames old new
     pub quiet : outcome ≡ NoMemory → StaysTold (site.emitted old) (site.emitted new)
     pub unwritten : outcome ≡ NoStore → KeepsSlots site old new
     pub moments : GoesOn (site.now old) (site.now new) (site.left old) (site.left new)
-    pub crash : IsTold AreEmpty (site.reads old) → IfSome (site.emitted old) (λ said. (t : ℕ) (images : Images) (out : List ℕ)
+    pub crash : IsTold AreEmpty (site.reads old) → IfSome (site.emitted old)
+        (λ said. (t : ℕ) (images : Images) (out : List ℕ)
         → site.now old ≤ t → site.left new t images out → (out ≡ said) ⊎ IsStoreOf images (after dir frames))
     pub only : IsOfStore outcome
 
@@ -140,7 +148,8 @@ module _ {S : Type 0} (site : SiteGhosts S) where
     pub quiet : IsEarly outcome → StaysTold (site.emitted old) (site.emitted new)
     pub unwritten : (outcome ≡ NotOfForm) ⊎ (outcome ≡ NoStore) → KeepsSlots site old new
     pub crash : (dir : Directory) → LoadsAs dir (ldif n) → IsTold AreEmpty (site.reads old)
-        → IfSome (site.emitted old) (λ said. (t : ℕ) (images : Images) (out : List ℕ) → site.now old ≤ t → site.left new t images out
+        → IfSome (site.emitted old) (λ said. (t : ℕ) (images : Images) (out : List ℕ) → site.now old ≤ t
+        → site.left new t images out
         → (out ≡ said) ⊎ IsStoreOf images (sampled dir n))
     pub moments : GoesOn (site.now old) (site.now new) (site.left old) (site.left new)
     pub site_failed : outcome ≡ SiteFailed → HasFailed site old new

@@ -33,13 +33,14 @@ IsIdleStore held = (dir : Directory) × IsStoreOf held dir × (dir.pending ≡ [
 -- what may be emitted for the slots: how many steps there are until nothing is pending, or why they represent no
 -- directory
 abbrev pub IsSettleText : Images → List ℕ → Type 0
-IsSettleText held text = ((dir : Directory) × (n : ℕ) × IsStoreOf held dir × EmptiesAfter n dir × (text ≡ steps_line n)) ⊎
+IsSettleText held text = ((dir : Directory) × (n : ℕ) × IsStoreOf held dir × EmptiesAfter n dir
+    × (text ≡ steps_line n)) ⊎
     ((fault : OpenFault) × Refuses held fault × (text ≡ store_line fault))
 
 module _ {S : Type 0} (site : SiteGhosts S) where
-  -- The store represents the directory after the steps by which nothing is pending any more, whose number was emitted. Each crash
-  -- from then on, and each with something emitted, leaves that directory. There were fewer than 2^24 steps, and after them each
-  -- object has the descriptor that is recomputed from the root.
+  -- The store represents the directory after the steps by which nothing is pending any more, whose number was
+  -- emitted. Each crash from then on, and each with something emitted, leaves that directory. There were fewer than
+  -- 2^24 steps, and after them each object has the descriptor that is recomputed from the root.
   pub record IsSettledFrom (dir : Directory) (old new : S) : Type 0 where
     pub n : ℕ
     pub empties : EmptiesAfter n dir
@@ -54,12 +55,14 @@ module _ {S : Type 0} (site : SiteGhosts S) where
 
   -- the store represented a directory, and was settled
   abbrev pub IsSettled : S → S → Type 0
-  IsSettled old new = (dir : Directory) × IfSome (site.reads old) (λ held. IsStoreOf held dir) × IsSettledFrom dir old new
+  IsSettled old new = (dir : Directory) × IfSome (site.reads old) (λ held. IsStoreOf held dir)
+      × IsSettledFrom dir old new
 
   -- The site failed: nothing was emitted, or a prefix of the text for the slots.
   abbrev pub IsPartlySettled : S → S → Type 0
   IsPartlySettled old new = StaysTold (site.emitted old) (site.emitted new)
-      ⊎ ((text : List ℕ) × IfSome (site.reads old) (λ held. IsSettleText held text) × EmitsPart (site.emitted old) (site.emitted new) text)
+      ⊎ ((text : List ℕ) × IfSome (site.reads old) (λ held. IsSettleText held text) × EmitsPart (site.emitted old)
+      (site.emitted new) text)
 
   pub record SettleDoes (old new : S) (outcome : Outcome) : Type 0 where
     pub done : outcome ≡ Done → IsSettled old new
@@ -67,7 +70,8 @@ module _ {S : Type 0} (site : SiteGhosts S) where
     -- slots that represent a directory are settled, and others refused, unless the site fails or memory runs out
     pub complete : IsTold IsDirStore (site.reads old) → IsSiteHealthy site old new
         → (outcome ≡ Done) ⊎ (outcome ≡ NoMemory)
-    pub refuses : IsTold NoDirStore (site.reads old) → IsSiteHealthy site old new → (outcome ≡ NoStore) ⊎ (outcome ≡ NoMemory)
+    pub refuses : IsTold NoDirStore (site.reads old) → IsSiteHealthy site old new → (outcome ≡ NoStore)
+        ⊎ (outcome ≡ NoMemory)
     pub partly : outcome ≡ SiteFailed → IsPartlySettled old new
     pub quiet : outcome ≡ NoMemory → StaysTold (site.emitted old) (site.emitted new)
     -- no slot is written that represents no directory, and none of a store of version 2 of which nothing is pending
@@ -89,7 +93,8 @@ module _ {S : Type 0} (site : SiteGhosts S) where
 
   -- the same since any earlier moment from which on the slots, which represented the directory, were only looked at
   abbrev pub IsSettledSince : Directory → S → S → Outcome → Type 0
-  IsSettledSince dir opened new outcome = (old : S) → OnlyLooks site old opened → IfSome (site.reads old) (λ held. IsStoreOf held dir)
+  IsSettledSince dir opened new outcome = (old : S) → OnlyLooks site old opened → IfSome (site.reads old)
+      (λ held. IsStoreOf held dir)
       → Settles old new outcome
 
   -- and since one from which on the store was made ready

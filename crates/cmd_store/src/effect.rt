@@ -50,9 +50,12 @@ fn token_of(alloc: Global, bytes: &[u8]) -> Result<Token, Outcome>
 
 // The token that the whole input encodes.
 fn token_of_input<I: Source>(alloc: Global, source: &mut I) -> Result<Token, Outcome>
-    ensures token { IfOk result (λ token. IsTokenFor (I.rest source.old) (I.rest source.new) token) }
-    ensures refused { IsErrOf result Outcome.NotOfForm → IsNoTokenFor (I.rest source.old) (I.rest source.new) }
-    ensures source_failed { IsErrOf result Outcome.SourceFailed → HasRisen (I.faults source.old) (I.faults source.new) }
+    ensures token { IfOk result (λ token. IsTokenFor (I.rest source.old) (I.rest source.new)
+        token) }
+    ensures refused { IsErrOf result Outcome.NotOfForm → IsNoTokenFor (I.rest source.old)
+        (I.rest source.new) }
+    ensures source_failed { IsErrOf result Outcome.SourceFailed → HasRisen (I.faults source.old)
+        (I.faults source.new) }
     ensures only { IfErr result IsEarly }
 {
     let bytes = match read_whole(alloc, source, MAX_TOKEN_BYTES) {
@@ -67,7 +70,8 @@ fn token_of_input<I: Source>(alloc: Global, source: &mut I) -> Result<Token, Out
 // Emits what a token may do at an object.
 fn tell<S: Site>(alloc: Global, site: &mut S, dir: &Dir, token: &Token, number: u32) -> Outcome
     requires { is_live dir.now.objects number ≡ true }
-    ensures { SaysUnless S.Site site.old site.new (effective_text dir.now token.now number) Done result }
+    ensures { SaysUnless S.Site site.old site.new (effective_text dir.now token.now number) Done
+        result }
 {
     match ad_dsacls::effective(alloc, dir, token, number) {
         Ok(text) => say(site, &text, Outcome::Done),
@@ -84,7 +88,8 @@ fn answer<I: Source, S: Site>(
     number: u32,
 ) -> Outcome
     requires { is_live dir.now.objects number ≡ true }
-    ensures { AnswersAt I.Source S.Site dir.now number source.old source.new site.old site.new result }
+    ensures { AnswersAt I.Source S.Site dir.now number source.old source.new site.old site.new
+        result }
 {
     match token_of_input(alloc, source) {
         Ok(token) => tell(alloc, site, dir, &token, number),
@@ -100,7 +105,8 @@ fn answer_in<I: Source, S: Site>(
     dir: &Dir,
     name: &[u8],
 ) -> Outcome
-    ensures said { AnswersFor I.Source S.Site dir.now (number_named dir.now name.now) source.old source.new site.old site.new result }
+    ensures said { AnswersFor I.Source S.Site dir.now (number_named dir.now name.now) source.old
+        source.new site.old site.new result }
     ensures suffix { AreRdns dir.now.meta.suffix }
 {
     has_suffix(dir);
@@ -120,8 +126,10 @@ pub fn effective<I: Source, S: Site>(
     site: &mut S,
     name: &str,
 ) -> Outcome
-    ensures does { EffectiveDoes I.Source S.Site name.now source.old source.new site.old site.new result }
-    ensures source_failed { result ≡ SourceFailed → HasRisen (I.faults source.old) (I.faults source.new) }
+    ensures does { EffectiveDoes I.Source S.Site name.now source.old source.new site.old site.new
+        result }
+    ensures source_failed { result ≡ SourceFailed → HasRisen (I.faults source.old)
+        (I.faults source.new) }
     ensures site_failed { result ≡ SiteFailed → HasFailed S.Site site.old site.new }
 {
     match Engine::resume(alloc, site) {

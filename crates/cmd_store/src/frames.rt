@@ -69,7 +69,8 @@ fn answer_frame<S: Site>(site: &mut S, engine: &mut Engine, frame: &Frame) -> Re
 
 /// How it ends after the last frame that may be.
 pub fn at_last<I: Source>(source: &mut I) -> Outcome
-    ensures { IsEnd (I.rest source.old) (I.rest source.new) (I.faults source.old) (I.faults source.new) result }
+    ensures { IsEnd (I.rest source.old) (I.rest source.new) (I.faults source.old)
+        (I.faults source.new) result }
 {
     let mut byte = [0u8; 1];
     match source.take(&mut byte[..]) {
@@ -89,7 +90,8 @@ fn serve_frames<I: Source, S: Site>(
     requires stands { StandsIn engine.old (S.reads site.old) (S.now site.old) (S.left site.old) }
     requires unspent { engine.old.spent ≡ false }
     requires tokens { engine.old.tokens ≡ [] }
-    ensures { IsServedReady I.Source S.Site engine.old.dir source.old source.new site.old site.new result }
+    ensures { IsServedReady I.Source S.Site engine.old.dir source.old source.new site.old site.new
+        result }
 {
     for _ in 0..MAX_FRAMES {
         match next_frame(alloc, source) {
@@ -114,7 +116,8 @@ fn serve_opened<I: Source, S: Site>(
     requires stands { StandsIn engine.old (S.reads site.old) (S.now site.old) (S.left site.old) }
     requires unspent { engine.old.spent ≡ false }
     requires tokens { engine.old.tokens ≡ [] }
-    ensures { IsServedSince I.Source S.Site engine.old.dir source.old source.new site.old site.new result }
+    ensures { IsServedSince I.Source S.Site engine.old.dir source.old source.new site.old site.new
+        result }
 {
     match make_ready(site, engine) {
         Ok(()) => serve_frames(alloc, source, site, engine),
@@ -131,7 +134,8 @@ fn serve_opened<I: Source, S: Site>(
 /// represent no directory nothing is emitted, and no slot is written.
 pub fn serve<I: Source, S: Site>(alloc: Global, source: &mut I, site: &mut S) -> Outcome
     ensures does { ServeDoes I.Source S.Site source.old source.new site.old site.new result }
-    ensures source_failed { result ≡ SourceFailed → HasRisen (I.faults source.old) (I.faults source.new) }
+    ensures source_failed { result ≡ SourceFailed → HasRisen (I.faults source.old)
+        (I.faults source.new) }
     ensures site_failed { result ≡ SiteFailed → HasFailed S.Site site.old site.new }
 {
     match Engine::resume(alloc, site) {

@@ -45,7 +45,8 @@ fn ended(alloc: Global, pieces: Pieces) -> Result<Read, AllocError>
 pub(crate) fn read_input<I: Source>(alloc: Global, source: &mut I) -> Result<Read, Outcome>
     ensures read { IfOk result (λ read. IsReadOf (I.rest source.old) (I.rest source.new) read) }
     ensures few { IfOk result AreFew }
-    ensures source_failed { IsErrOf result Outcome.SourceFailed → HasRisen (I.faults source.old) (I.faults source.new) }
+    ensures source_failed { IsErrOf result Outcome.SourceFailed → HasRisen (I.faults source.old)
+        (I.faults source.new) }
     ensures only { IfErr result IsStopped }
 {
     let mut chunk = room(alloc)?;

@@ -63,7 +63,8 @@ pub fn tell_none<S: Site>(site: &mut S) -> Outcome
 
 // Emits the listing of the object that has the name, or that none has it.
 fn list_in<S: Site>(alloc: Global, site: &mut S, dir: &Dir, name: &[u8]) -> Outcome
-    ensures said { SaysUnless S.Site site.old site.new (list_text dir.now name.now) (list_outcome dir.now name.now) result }
+    ensures said { SaysUnless S.Site site.old site.new (list_text dir.now name.now)
+        (list_outcome dir.now name.now) result }
     ensures suffix { AreRdns dir.now.meta.suffix }
 {
     has_suffix(dir);

@@ -35,7 +35,8 @@ pub enum Given {
 fn given_by(alloc: Global, records: Vec<Record>) -> Result<Given, AllocError>
     requires read { (text : List ℕ) × (records_in text ≡ Ok (map seen records.items)) }
     requires few { length records.items ≤ 67108864 }
-    ensures given { IfOk result (λ given. (text : List ℕ) → records_in text ≡ Ok (map seen records.items) → IsGiven given text) }
+    ensures given { IfOk result (λ given. (text : List ℕ) → records_in text
+        ≡ Ok (map seen records.items) → IsGiven given text) }
     ensures sound { IfOk result HasSound }
 {
     match parts_of(alloc, records) {
@@ -47,9 +48,11 @@ fn given_by(alloc: Global, records: Vec<Record>) -> Result<Given, AllocError>
 
 // What the whole input gives.
 fn given_by_input<I: Source>(alloc: Global, source: &mut I) -> Result<Given, Outcome>
-    ensures given { IfOk result (λ given. IsGivenFor (I.rest source.old) (I.rest source.new) given) }
+    ensures given { IfOk result (λ given. IsGivenFor (I.rest source.old) (I.rest source.new)
+        given) }
     ensures sound { IfOk result HasSound }
-    ensures source_failed { IsErrOf result Outcome.SourceFailed → HasRisen (I.faults source.old) (I.faults source.new) }
+    ensures source_failed { IsErrOf result Outcome.SourceFailed → HasRisen (I.faults source.old)
+        (I.faults source.new) }
     ensures only { IfErr result IsStopped }
 {
     match read_input(alloc, source)? {
@@ -114,7 +117,8 @@ fn load_empty<I: Source, S: Site>(alloc: Global, source: &mut I, site: &mut S) -
 /// is the text of no directory the line of its first fault is emitted, `line <n> <cause>`, and no slot is written.
 pub fn load<I: Source, S: Site>(alloc: Global, source: &mut I, site: &mut S) -> Outcome
     ensures does { LoadDoes I.Source S.Site source.old source.new site.old site.new result }
-    ensures source_failed { result ≡ SourceFailed → HasRisen (I.faults source.old) (I.faults source.new) }
+    ensures source_failed { result ≡ SourceFailed → HasRisen (I.faults source.old)
+        (I.faults source.new) }
     ensures site_failed { result ≡ SiteFailed → HasFailed S.Site site.old site.new }
     ensures only { IsOfLoad result }
 {

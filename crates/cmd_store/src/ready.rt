@@ -14,9 +14,11 @@ use site_io::Site;
 fn migrate_synced<S: Site>(site: &mut S, engine: &mut Engine) -> Result<(), Outcome>
     requires stands { StandsIn engine.old (S.reads site.old) (S.now site.old) (S.left site.old) }
     requires unspent { engine.old.spent ≡ false }
-    requires lasts { IfSome (S.reads site.old) (λ held. EachStandsFor S.Site engine.old.dir site.old) }
+    requires lasts { IfSome (S.reads site.old)
+        (λ held. EachStandsFor S.Site engine.old.dir site.old) }
     ensures ready { OnOk result (IsReadySince S.Site engine.old.dir site.old site.new) }
-    ensures stands { OnOk result (StandsIn engine.new (S.reads site.new) (S.now site.new) (S.left site.new)) }
+    ensures stands { OnOk result (StandsIn engine.new (S.reads site.new) (S.now site.new)
+        (S.left site.new)) }
     ensures unspent { OnOk result (engine.new.spent ≡ false) }
     ensures dir { engine.new.dir ≡ engine.old.dir }
     ensures tokens { engine.new.tokens ≡ engine.old.tokens }
@@ -35,7 +37,8 @@ pub(crate) fn make_ready<S: Site>(site: &mut S, engine: &mut Engine) -> Result<(
     requires stands { StandsIn engine.old (S.reads site.old) (S.now site.old) (S.left site.old) }
     requires unspent { engine.old.spent ≡ false }
     ensures ready { OnOk result (IsReadySince S.Site engine.old.dir site.old site.new) }
-    ensures stands { OnOk result (StandsIn engine.new (S.reads site.new) (S.now site.new) (S.left site.new)) }
+    ensures stands { OnOk result (StandsIn engine.new (S.reads site.new) (S.now site.new)
+        (S.left site.new)) }
     ensures unspent { OnOk result (engine.new.spent ≡ false) }
     ensures dir { engine.new.dir ≡ engine.old.dir }
     ensures tokens { engine.new.tokens ≡ engine.old.tokens }

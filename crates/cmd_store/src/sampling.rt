@@ -8,7 +8,8 @@ ghost use Rattle.ad_engine.specs.Standing.{StandsIn};
 ghost use Rattle.cmd_call.specs.Store.{HasFailed};
 ghost use Rattle.cmd_call.specs.declared.outcome.Outcome.TheVariants.{SiteFailed};
 ghost use Rattle.cmd_store.specs.Sample.{sent, SampleDoes};
-ghost use Rattle.cmd_store.specs.SampleServing.{IsGiven, IsCutOff, IsServed, AreServed, TellsServed, Samples, SamplesEmpty};
+ghost use Rattle.cmd_store.specs.SampleServing.{IsGiven, IsCutOff, IsServed, AreServed, TellsServed, Samples};
+ghost use Rattle.cmd_store.specs.SampleServing.{SamplesEmpty};
 
 use crate::TAKEN;
 use crate::answers::text_of;
@@ -27,10 +28,12 @@ use std::alloc::{AllocError, Global};
 fn serve_one<S: Site>(site: &mut S, engine: &mut Engine, frame: &Frame) -> Result<Bytes, Outcome>
     requires stands { StandsIn engine.old (S.reads site.old) (S.now site.old) (S.left site.old) }
     requires unspent { engine.old.spent ≡ false }
-    ensures served { IfOk result (λ output. IsServed S.Site engine.old engine.new frame.now output site.old site.new) }
+    ensures served { IfOk result (λ output. IsServed S.Site engine.old engine.new frame.now output
+        site.old site.new) }
     ensures outside { TouchesSlots S.Site site.old site.new }
     ensures cut { IfErr result IsCutOff }
-    ensures cause { IsErrOf result Outcome.SiteFailed → HasRisen (S.slot_faults site.old) (S.slot_faults site.new) }
+    ensures cause { IsErrOf result Outcome.SiteFailed → HasRisen (S.slot_faults site.old)
+        (S.slot_faults site.new) }
 {
     match engine.serve_frame(site, frame) {
         Ok(output) => Ok(Bytes::from_vec(output)),
@@ -57,10 +60,12 @@ fn serve_all<S: Site>(
     requires stands { StandsIn engine.old (S.reads site.old) (S.now site.old) (S.left site.old) }
     requires unspent { engine.old.spent ≡ false }
     requires tokens { engine.old.tokens ≡ [] }
-    ensures served { IfOk result (λ answers. AreServed S.Site engine.old engine.new frames.now answers.items site.old site.new) }
+    ensures served { IfOk result (λ answers. AreServed S.Site engine.old engine.new frames.now
+        answers.items site.old site.new) }
     ensures outside { TouchesSlots S.Site site.old site.new }
     ensures cut { IfErr result IsCutOff }
-    ensures cause { IsErrOf result Outcome.SiteFailed → HasRisen (S.slot_faults site.old) (S.slot_faults site.new) }
+    ensures cause { IsErrOf result Outcome.SiteFailed → HasRisen (S.slot_faults site.old)
+        (S.slot_faults site.new) }
 {
     let mut answers = Vec::new(alloc);
     for frame in frames {

@@ -41,7 +41,8 @@ fn below(
 ) -> Result<NormalSd, AllocError>
     requires live { is_live dir.now.objects number ≡ true }
     requires class { class.0 < length (classes_of dir.now.schema) }
-    ensures { IfOk result (λ sd. sd ≡ whole above.now (sd_at dir.now.objects number) (guid_at dir.now.schema class.0)) }
+    ensures { IfOk result (λ sd. sd ≡ whole above.now (sd_at dir.now.objects number)
+        (guid_at dir.now.schema class.0)) }
 {
     let guid = guid_of(dir.schema(), class);
     let sd = whole(alloc, above.view(), live_sd(dir, number), guid)?;

@@ -28,7 +28,8 @@ pub(crate) fn stored<S: Site>(alloc: Global, site: &mut S, dir: Parts) -> Result
     requires { IsSound dir }
     ensures held { OnOk result (IfSome (S.reads site.new) (λ held. IsStoreOf held dir)) }
     ensures every_crash { OnOk result (IfSome (S.reads site.new) (λ held.
-        (images : Images) (out : List ℕ) → S.left site.new (S.now site.new) images out → IsStoreOf images dir)) }
+        (images : Images) (out : List ℕ) → S.left site.new (S.now site.new) images out
+        → IsStoreOf images dir)) }
     ensures creating { IsCreating S.Site site.old site.new result }
 {
     let rows = rows_of(alloc, dir)?;

@@ -26,11 +26,14 @@ use Rattle.cmd_who.specs.Asking.{outcome_of, TellsIn}
 
 -- slots that represent a directory are no others
 stands_clash : (dir : Directory) (r : Option Images) → IfSome r (λ held. IsStoreOf held dir) → IsTold NoDirStore r → ⊥
-stands_clash dir r stands none = told_clash NoDirStore (λ held. IsStoreOf held dir) r (λ held no is. no (dir, is)) none stands
+stands_clash dir r stands none = told_clash NoDirStore (λ held. IsStoreOf held dir) r (λ held no is. no (dir, is))
+    none stands
 
 -- the one directory
-same_dir : (r : Option Images) (a b : Directory) → IsTold (λ held. IsStoreOf held a) r → IfSome r (λ held. IsStoreOf held b) → a ≡ b
-same_dir r a b told stands = told_meets (λ held. IsStoreOf held a) (λ held. IsStoreOf held b) r (λ held of_a of_b. one_store held a b of_a of_b) told stands
+same_dir : (r : Option Images) (a b : Directory) → IsTold (λ held. IsStoreOf held a) r
+    → IfSome r (λ held. IsStoreOf held b) → a ≡ b
+same_dir r a b told stands = told_meets (λ held. IsStoreOf held a) (λ held. IsStoreOf held b) r
+    (λ held of_a of_b. one_store held a b of_a of_b) told stands
 
 -- no question is both answered and refused
 abbrev pub Excludes : Question → Type 0
@@ -61,7 +64,8 @@ module _ {S : Type 0} (site : SiteGhosts S) (asks : Question) (excludes : Exclud
   )
 
   -- the site failed
-  asked_failed : (x z : S) → KeepsSlots site x z → HasFailed site x z → IsPartlyAsked site asks x z → Asks x z SiteFailed
+  asked_failed : (x z : S) → KeepsSlots site x z → HasFailed site x z → IsPartlyAsked site asks x z
+      → Asks x z SiteFailed
   asked_failed x z keeps cause partly = (
     record {
       done = λ no. absurd cc;
@@ -83,7 +87,8 @@ module _ {S : Type 0} (site : SiteGhosts S) (asks : Question) (excludes : Exclud
 
   -- what it tells was emitted
   asked_whole : (x z : S) (dir : Directory) (answered : Bool) (text : List ℕ) → asks dir answered text
-      → IfSome (site.reads x) (λ held. IsStoreOf held dir) → KeepsSlots site x z → Emits (site.emitted x) (site.emitted z) text
+      → IfSome (site.reads x) (λ held. IsStoreOf held dir) → KeepsSlots site x z
+      → Emits (site.emitted x) (site.emitted z) text
       → Asks x z (outcome_of answered)
   asked_whole x z dir true text told stands keeps said = (
     record {
@@ -121,18 +126,22 @@ module _ {S : Type 0} (site : SiteGhosts S) (asks : Question) (excludes : Exclud
   )
 
   asked_so : (x z : S) (dir : Directory) (answered : Bool) (text : List ℕ) (outcome : Outcome) → asks dir answered text
-      → IfSome (site.reads x) (λ held. IsStoreOf held dir) → KeepsSlots site x z → Tells site x z text (outcome_of answered) outcome → Asks x z outcome
+      → IfSome (site.reads x) (λ held. IsStoreOf held dir) → KeepsSlots site x z
+      → Tells site x z text (outcome_of answered) outcome → Asks x z outcome
   asked_so x z dir answered text outcome told stands keeps (whole is said) =
       subst (Asks x z) (sym is) (asked_whole x z dir answered text told stands keeps said)
-  asked_so x z dir answered text outcome told stands keeps (part is risen said) = subst (Asks x z) (sym is) (asked_failed x z keeps (inr risen) (inr (
-    text,
-    told_map (λ held. IsStoreOf held dir) (λ held. IsTextFor asks held text) (site.reads x)
-        (λ held store. inl (dir, answered, store, told)) stands,
-    said,
-  )))
-  asked_so x z dir answered text outcome told stands keeps (nothing is quiet) = subst (Asks x z) (sym is) (asked_memory x z keeps quiet)
+  asked_so x z dir answered text outcome told stands keeps (part is risen said) = subst (Asks x z) (sym is)
+      (asked_failed x z keeps (inr risen) (inr (
+        text,
+        told_map (λ held. IsStoreOf held dir) (λ held. IsTextFor asks held text) (site.reads x)
+            (λ held store. inl (dir, answered, store, told)) stands,
+        said,
+      )))
+  asked_so x z dir answered text outcome told stands keeps (nothing is quiet) = subst (Asks x z) (sym is)
+      (asked_memory x z keeps quiet)
 
-  pub asked_told : (x y z : S) (dir : Directory) (outcome : Outcome) → OnlyLooks site x y → IfSome (site.reads x) (λ held. IsStoreOf held dir)
+  pub asked_told : (x y z : S) (dir : Directory) (outcome : Outcome) → OnlyLooks site x y
+      → IfSome (site.reads x) (λ held. IsStoreOf held dir)
       → TellsIn site asks dir y z outcome → Asks x z outcome
   asked_told x y z dir outcome looks stands (inl (answered, text, told, said)) =
       let telling = telling_by site x y z text (outcome_of answered) outcome looks said in
@@ -165,8 +174,10 @@ module _ {S : Type 0} (site : SiteGhosts S) (asks : Question) (excludes : Exclud
   asked_not x z outcome keeps (stopped is quiet) = subst (Asks x z) (sym is) (asked_memory x z keeps quiet)
 
   -- no store was opened, for whatever reason
-  pub asked_by : (x y z : S) (why : OpenFault) (outcome : Outcome) → OnlyLooks site x y → IfSome (site.reads x) (λ held. IsOpenedAs held (Err why))
-      → (why ≡ slots.Site → HasRisen (site.slot_faults x) (site.slot_faults y)) → Refused site y z why outcome → Asks x z outcome
+  pub asked_by : (x y z : S) (why : OpenFault) (outcome : Outcome) → OnlyLooks site x y
+      → IfSome (site.reads x) (λ held. IsOpenedAs held (Err why))
+      → (why ≡ slots.Site → HasRisen (site.slot_faults x) (site.slot_faults y)) → Refused site y z why outcome
+      → Asks x z outcome
   asked_by x y z why outcome looks opened risen said =
       let refusal = refusal_by site x y z why outcome looks opened risen said in
       asked_not x z outcome refusal.slots refusal.ends

@@ -16,5 +16,6 @@ module _ {S : Type 0} (site : SiteGhosts S) where
   -- Of a directory: what it tells is emitted, or nothing for want of memory.
   abbrev pub TellsIn : Question → Directory → S → S → Outcome → Type 0
   TellsIn asks dir old new outcome =
-      ((answered : Bool) × (text : List ℕ) × asks dir answered text × SaysUnless site old new text (outcome_of answered) outcome)
+      ((answered : Bool) × (text : List ℕ) × asks dir answered text × SaysUnless site old new text
+      (outcome_of answered) outcome)
       ⊎ ((outcome ≡ NoMemory) × (new ≡ old))

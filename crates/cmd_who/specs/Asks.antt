@@ -38,21 +38,26 @@ module _ {S : Type 0} (site : SiteGhosts S) where
   -- The site failed: nothing was emitted, or a prefix of the text for the slots.
   abbrev pub IsPartlyAsked : Question → S → S → Type 0
   IsPartlyAsked asks old new = StaysTold (site.emitted old) (site.emitted new)
-      ⊎ ((text : List ℕ) × IfSome (site.reads old) (λ held. IsTextFor asks held text) × EmitsPart (site.emitted old) (site.emitted new) text)
+      ⊎ ((text : List ℕ) × IfSome (site.reads old) (λ held. IsTextFor asks held text) × EmitsPart (site.emitted old)
+      (site.emitted new) text)
 
   pub record AsksDoes (asks : Question) (old new : S) (outcome : Outcome) : Type 0 where
     pub done : outcome ≡ Done → IsAsked asks true old new
     pub no_object : outcome ≡ NoObject → IsAsked asks false old new
     pub no_store : outcome ≡ NoStore → IsNoStore site old new
     -- an answer that there is is never denied, and one that there isn't is never given
-    pub complete : (dir : Directory) (text : List ℕ) → IsTold (λ held. IsStoreOf held dir) (site.reads old) → asks dir true text
+    pub complete : (dir : Directory) (text : List ℕ) → IsTold (λ held. IsStoreOf held dir) (site.reads old)
+        → asks dir true text
         → outcome ≡ NoObject → ⊥
-    pub misses : (dir : Directory) (text : List ℕ) → IsTold (λ held. IsStoreOf held dir) (site.reads old) → asks dir false text
+    pub misses : (dir : Directory) (text : List ℕ) → IsTold (λ held. IsStoreOf held dir) (site.reads old)
+        → asks dir false text
         → outcome ≡ Done → ⊥
     -- one of the two comes where the slots represent a directory, unless the site fails or memory runs out
-    pub answers : IsTold IsDirStore (site.reads old) → IsSiteHealthy site old new → (outcome ≡ Done) ⊎ ((outcome ≡ NoObject) ⊎ (outcome ≡ NoMemory))
+    pub answers : IsTold IsDirStore (site.reads old) → IsSiteHealthy site old new → (outcome ≡ Done)
+        ⊎ ((outcome ≡ NoObject) ⊎ (outcome ≡ NoMemory))
     -- slots that represent no directory are refused, unless the site fails or memory runs out
-    pub refuses : IsTold NoDirStore (site.reads old) → IsSiteHealthy site old new → (outcome ≡ NoStore) ⊎ (outcome ≡ NoMemory)
+    pub refuses : IsTold NoDirStore (site.reads old) → IsSiteHealthy site old new → (outcome ≡ NoStore)
+        ⊎ (outcome ≡ NoMemory)
     pub partly : outcome ≡ SiteFailed → IsPartlyAsked asks old new
     pub quiet : outcome ≡ NoMemory → StaysTold (site.emitted old) (site.emitted new)
     -- no slot is written, whatever comes

@@ -34,7 +34,8 @@ fn tell_token<S: Site>(
     name: &str,
     sids: &[String],
 ) -> Outcome
-    ensures { TellsIn S.Site (λ (dir : Directory). TokenTold dir name.now (map string_bytes sids.now)) dir.now site.old site.new result }
+    ensures { TellsIn S.Site (λ (dir : Directory). TokenTold dir name.now
+        (map string_bytes sids.now)) dir.now site.old site.new result }
 {
     match ad_who::token(alloc, dir, name, sids) {
         Ok(told) => say(site, &told.text, outcome_of(told.answered)),
@@ -42,9 +43,9 @@ fn tell_token<S: Site>(
     }
 }
 
-/// Opens the store and emits the token that its directory gives the object of a name, with further identifiers in it: a line each of
-/// its user, owner, primary group, groups and privileges. Where it gives none, a line says why, and where the slots represent no
-/// directory the line that says why is emitted. No slot is written.
+/// Opens the store and emits the token that its directory gives the object of a name, with further identifiers in it:
+/// a line each of its user, owner, primary group, groups and privileges. Where it gives none, a line says why, and
+/// where the slots represent no directory the line that says why is emitted. No slot is written.
 pub fn token<S: Site>(alloc: Global, site: &mut S, name: &str, sids: &[String]) -> Outcome
     ensures does { TokenDoes S.Site name.now (map string_bytes sids.now) site.old site.new result }
     ensures site_failed { result ≡ SiteFailed → HasFailed S.Site site.old site.new }
@@ -57,7 +58,8 @@ pub fn token<S: Site>(alloc: Global, site: &mut S, name: &str, sids: &[String]) 
 
 // Emits who has a right on the object of a name.
 fn tell_who<S: Site>(alloc: Global, site: &mut S, dir: &Dir, right: &str, name: &str) -> Outcome
-    ensures { TellsIn S.Site (λ (dir : Directory). WhoTold dir right.now name.now) dir.now site.old site.new result }
+    ensures { TellsIn S.Site (λ (dir : Directory). WhoTold dir right.now name.now) dir.now site.old
+        site.new result }
 {
     match ad_who::who(alloc, dir, right, name) {
         Ok(told) => say(site, &told.text, outcome_of(told.answered)),
@@ -65,9 +67,9 @@ fn tell_who<S: Site>(alloc: Global, site: &mut S, dir: &Dir, right: &str, name: 
     }
 }
 
-/// Opens the store and emits who has a right on the object of a name: a line for each principal to whose token it is granted, by
-/// rising numbers, with what decides, its identifier and its name. Where that can't be told, a line says why, and where the slots
-/// represent no directory the line that says why is emitted. No slot is written.
+/// Opens the store and emits who has a right on the object of a name: a line for each principal to whose token it is
+/// granted, by rising numbers, with what decides, its identifier and its name. Where that can't be told, a line says
+/// why, and where the slots represent no directory the line that says why is emitted. No slot is written.
 pub fn who<S: Site>(alloc: Global, site: &mut S, right: &str, name: &str) -> Outcome
     ensures does { WhoDoes S.Site right.now name.now site.old site.new result }
     ensures site_failed { result ≡ SiteFailed → HasFailed S.Site site.old site.new }
@@ -87,7 +89,8 @@ fn tell_can<S: Site>(
     right: &str,
     base: &str,
 ) -> Outcome
-    ensures { TellsIn S.Site (λ (dir : Directory). CanTold dir name.now right.now base.now) dir.now site.old site.new result }
+    ensures { TellsIn S.Site (λ (dir : Directory). CanTold dir name.now right.now base.now) dir.now
+        site.old site.new result }
 {
     match ad_who::can(alloc, dir, name, right, base) {
         Ok(told) => say(site, &told.text, outcome_of(told.answered)),
@@ -95,9 +98,10 @@ fn tell_can<S: Site>(
     }
 }
 
-/// Opens the store and emits on which objects the token of the object of a name has a right: a line for each at or below a base on
-/// which it is granted, by rising numbers, with what decides and its name. An empty base is the root. Where that can't be told, a line
-/// says why, and where the slots represent no directory the line that says why is emitted. No slot is written.
+/// Opens the store and emits on which objects the token of the object of a name has a right: a line for each at or
+/// below a base on which it is granted, by rising numbers, with what decides and its name. An empty base is the root.
+/// Where that can't be told, a line says why, and where the slots represent no directory the line that says why is
+/// emitted. No slot is written.
 pub fn can<S: Site>(alloc: Global, site: &mut S, name: &str, right: &str, base: &str) -> Outcome
     ensures does { CanDoes S.Site name.now right.now base.now site.old site.new result }
     ensures site_failed { result ≡ SiteFailed → HasFailed S.Site site.old site.new }

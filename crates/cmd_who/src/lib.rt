@@ -1,5 +1,5 @@
-//! The commands `token`, `who` and `can`: the token of a principal, who has a right on an object, and on which objects a principal has
-//! a right, by a store that isn't written.
+//! The commands `token`, `who` and `can`: the token of a principal, who has a right on an object, and on which
+//! objects a principal has a right, by a store that isn't written.
 //!
 //! # Example
 //!

@@ -1,5 +1,6 @@
 -- Making a store.
-use Rattle.std.proofs.Common.{◌≡◌, ℕ, ◌+◌, ◌<◌, ◌^◌, List, [], ◌∷◌, ◌++◌, length, length-append, Option, Some, None, false, sym, ◌∙◌, ap, subst, arith}
+use Rattle.std.proofs.Common.{◌≡◌, ℕ, ◌+◌, ◌<◌, ◌^◌, List, [], ◌∷◌, ◌++◌, length, length-append, Option, Some, None}
+use Rattle.std.proofs.Common.{false, sym, ◌∙◌, ap, subst, arith}
 use Rattle.std.specs.Option.{IfSome}
 use Rattle.site_io.specs.Told.{BothTold}
 use Rattle.site_io.specs.Disk.{Images}
@@ -21,35 +22,48 @@ cleared_some held mid after first second = (
   subst IsClosed (sym (ap (λ (i : Images). i.b) second ∙ ap (λ (i : Images). i.b) first)) (put_closed held.b),
 )
 
-pub cleared : (r0 r1 r2 : Option Images) → BothTold r0 r1 (Puts B 0 (0 ∷ [])) → BothTold r1 r2 (Puts A 0 (0 ∷ [])) → IfSome r2 BothClosed
+pub cleared : (r0 r1 r2 : Option Images) → BothTold r0 r1 (Puts B 0 (0 ∷ [])) → BothTold r1 r2 (Puts A 0 (0 ∷ []))
+    → IfSome r2 BothClosed
 cleared r0 r1 None first second = tt
 cleared r0 None (Some after) first second = absurd second
 cleared None (Some mid) (Some after) first second = absurd first
 cleared (Some held) (Some mid) (Some after) first second = cleared_some held mid after first second
 
-filled_some : (body : List ℕ) (held mid after : Images) → length body < 2 ^ 64 → BothClosed held → Puts A 1 (snapshot 1 body) held mid → Puts A 0 (1 ∷ []) mid after → Rests Two A 1 (snapshot_end body) false after (body ∷ [])
+filled_some : (body : List ℕ) (held mid after : Images) → length body < 2 ^ 64 → BothClosed held
+    → Puts A 1 (snapshot 1 body) held mid → Puts A 0 (1 ∷ []) mid after → Rests Two A 1 (snapshot_end body) false
+    after (body ∷ [])
 filled_some body held mid after fits closed first second =
-    let fresh : Fresh mid.a 1 body = subst (λ (l : List ℕ). Fresh l 1 body) (sym (ap (λ (i : Images). i.a) first)) (put_fresh 1 body held.a closed.0) in
+    let fresh : Fresh mid.a 1 body = subst (λ (l : List ℕ). Fresh l 1 body) (sym (ap (λ (i : Images). i.a) first))
+    (put_fresh 1 body held.a closed.0) in
     record {
-      has = subst (λ (l : List ℕ). HasRecords l 2 1 (snapshot_end body) (body ∷ [])) (sym (ap (λ (i : Images). i.a) second)) (put_opened 1 body mid.a fits fresh);
+      has = subst (λ (l : List ℕ). HasRecords l 2 1 (snapshot_end body) (body ∷ []))
+          (sym (ap (λ (i : Images). i.a) second)) (put_opened 1 body mid.a fits fresh);
       rest = subst IsClosed (sym (ap (λ (i : Images). i.b) second ∙ ap (λ (i : Images). i.b) first)) closed.1;
       above = omega arith;
       below = omega arith;
     }
 
-pub filled : (body : List ℕ) (r0 r1 r2 : Option Images) → length body < 2 ^ 64 → IfSome r0 BothClosed → BothTold r0 r1 (Puts A 1 (snapshot 1 body)) → BothTold r1 r2 (Puts A 0 (1 ∷ []))
+pub filled : (body : List ℕ) (r0 r1 r2 : Option Images) → length body < 2 ^ 64 → IfSome r0 BothClosed
+    → BothTold r0 r1 (Puts A 1 (snapshot 1 body)) → BothTold r1 r2 (Puts A 0 (1 ∷ []))
     → IfSome r2 (λ held. Rests Two A 1 (snapshot_end body) false held (body ∷ []))
 filled body r0 r1 None fits closed first second = tt
 filled body r0 None (Some after) fits closed first second = absurd second
 filled body None (Some mid) (Some after) fits closed first second = absurd first
-filled body (Some held) (Some mid) (Some after) fits closed first second = filled_some body held mid after fits closed first second
+filled body (Some held) (Some mid) (Some after) fits closed first second = filled_some body held mid after fits closed
+    first second
 
 -- Each crash has the body, where all of it is durable.
-pub crash_made : (body : List ℕ) (r : Option Images) (n : ℕ) (l : ℕ → Images → List ℕ → Type 0) → IfSome r (λ held. Rests Two A 1 (snapshot_end body) false held (body ∷ [])) → LastsWhole r n l
+pub crash_made : (body : List ℕ) (r : Option Images) (n : ℕ) (l : ℕ → Images → List ℕ → Type 0)
+    → IfSome r (λ held. Rests Two A 1 (snapshot_end body) false held (body ∷ [])) → LastsWhole r n l
     → IfSome r (λ held. (images : Images) (out : List ℕ) → l n images out → HasBodies images (body ∷ []))
 crash_made body None n l made lasts = tt
 crash_made body (Some held) n l made lasts = λ images out here.
-    subst (λ i. HasBodies i (body ∷ [])) (sym (held_whole held n l lasts.0 lasts.1 images out here)) (rests_has Two A 1 (snapshot_end body) false held (body ∷ []) made)
+    subst (λ i. HasBodies i (body ∷ [])) (sym (held_whole held n l lasts.0 lasts.1 images out here))
+    (rests_has Two A 1 (snapshot_end body) false held (body ∷ []) made)
 
 pub length_snapshot : (generation : ℕ) (body : List ℕ) → length (snapshot generation body) ≡ 22 + length body + 1
-length_snapshot generation body = omega (arith, length-append (head 2 generation ++ 1 ∷ recorded body) (0 ∷ []), length-append (head 2 generation) (1 ∷ recorded body))
+length_snapshot generation body = omega (
+  arith,
+  length-append (head 2 generation ++ 1 ∷ recorded body) (0 ∷ []),
+  length-append (head 2 generation) (1 ∷ recorded body),
+)

@@ -26,7 +26,8 @@ stays_known (Some x) (Some y) same = tt
 stays_known None (Some y) same = absurd same
 stays_known (Some x) None same = absurd same
 
-quiet_on : (n0 n1 n2 : ℕ) (l0 l1 l2 : ℕ → Images → List ℕ → Type 0) → EmitsNothing n0 l0 l1 → GoesOn n0 n1 l0 l1 → GoesOn n1 n2 l1 l2 → EmitsNothing n1 l1 l2 → EmitsNothing n0 l0 l2
+quiet_on : (n0 n1 n2 : ℕ) (l0 l1 l2 : ℕ → Images → List ℕ → Type 0) → EmitsNothing n0 l0 l1 → GoesOn n0 n1 l0 l1
+    → GoesOn n1 n2 l1 l2 → EmitsNothing n1 l1 l2 → EmitsNothing n0 l0 l2
 quiet_on n0 n1 n2 l0 l1 l2 first goes second_goes second t images out le left = ⊎_elim
     (λ lt. first t images out le ((second_goes.earlier t images out lt).0 left))
     (λ ge. let began = second t images out ge left in first n1 began.0 out goes.later began.1)
@@ -38,7 +39,8 @@ module _ {S : Type 0} (s : Ghosts S) where
     known = known_on (s.reads x) (s.reads y) (s.reads z) first.known second.known;
     output = stays_on (s.emitted x) (s.emitted y) (s.emitted z) first.output second.output;
     moments = goes_on_on (s.now x) (s.now y) (s.now z) (s.left x) (s.left y) (s.left z) first.moments second.moments;
-    quiet = quiet_on (s.now x) (s.now y) (s.now z) (s.left x) (s.left y) (s.left z) first.quiet first.moments second.moments second.quiet;
+    quiet = quiet_on (s.now x) (s.now y) (s.now z) (s.left x) (s.left y) (s.left z) first.quiet first.moments
+        second.moments second.quiet;
     never_falls = omega (arith, first.never_falls, second.never_falls);
     out_faults = second.out_faults ∙ first.out_faults;
   }
@@ -59,20 +61,24 @@ module _ {S : Type 0} (s : Ghosts S) where
   stays_same (Some x) = λ i. x
 
   -- no call at all
-  pub looks_not : (x : S) → ((t : ℕ) (images : Images) (out : List ℕ) → s.left x t images out → t ≤ s.now x) → OnlyLooks s x x
+  pub looks_not : (x : S) → ((t : ℕ) (images : Images) (out : List ℕ) → s.left x t images out → t ≤ s.now x)
+      → OnlyLooks s x x
   looks_not x until = record {
     held = stays_same (s.reads x);
     output = stays_same (s.emitted x);
     moments = record { later = omega arith; earlier = λ t images out lt. (λ left. left, λ left. left) };
-    images = λ t images out le left. let here : t ≡ s.now x = omega (arith, le, until t images out left) in subst (λ k. s.left x k images out) here left;
+    images = λ t images out le left. let here : t ≡ s.now x = omega (arith, le, until t images out left)
+        in subst (λ k. s.left x k images out) here left;
     never_falls = omega arith;
     out_faults = λ i. s.out_faults x;
   }
 
-  pub touches_not : (x : S) → ((t : ℕ) (images : Images) (out : List ℕ) → s.left x t images out → t ≤ s.now x) → TouchesSlots s x x
+  pub touches_not : (x : S) → ((t : ℕ) (images : Images) (out : List ℕ) → s.left x t images out → t ≤ s.now x)
+      → TouchesSlots s x x
   touches_not x until = looks_touch x x (looks_not x until)
 
-held_still : (slot : Slot) (r0 r1 : Option Images) (n0 n1 : ℕ) (l0 l1 : ℕ → Images → List ℕ → Type 0) (bytes : List ℕ) → StaysTold r0 r1 → n0 ≤ n1 → LeavesEmitted bytes n0 l0 l1 → LeavesHeld slot r0 n0 l0 → LeavesHeld slot r1 n1 l1
+held_still : (slot : Slot) (r0 r1 : Option Images) (n0 n1 : ℕ) (l0 l1 : ℕ → Images → List ℕ → Type 0) (bytes : List ℕ)
+    → StaysTold r0 r1 → n0 ≤ n1 → LeavesEmitted bytes n0 l0 l1 → LeavesHeld slot r0 n0 l0 → LeavesHeld slot r1 n1 l1
 held_still slot None None n0 n1 l0 l1 bytes told later emits held = tt
 held_still slot (Some x) (Some y) n0 n1 l0 l1 bytes told later emits held = λ images out left.
     let began = emits n1 images out later left in
@@ -81,13 +87,24 @@ held_still slot None (Some y) n0 n1 l0 l1 bytes told later emits held = absurd t
 held_still slot (Some x) None n0 n1 l0 l1 bytes told later emits held = absurd told
 
 -- An emit keeps a log standing.
-pub emit_stands : (log : Log) (r0 r1 : Option Images) (n0 n1 : ℕ) (l0 l1 : ℕ → Images → List ℕ → Type 0) (bytes : List ℕ) → StandsIn log r0 n0 l0 → StaysTold r0 r1 → n0 ≤ n1 → LeavesEmitted bytes n0 l0 l1 → StandsIn log r1 n1 l1
+pub emit_stands : (log : Log) (r0 r1 : Option Images) (n0 n1 : ℕ) (l0 l1 : ℕ → Images → List ℕ → Type 0)
+    (bytes : List ℕ) → StandsIn log r0 n0 l0 → StaysTold r0 r1 → n0 ≤ n1 → LeavesEmitted bytes n0 l0 l1
+    → StandsIn log r1 n1 l1
 emit_stands log r0 r1 n0 n1 l0 l1 bytes stands told later emits = λ unspent.
-    let now = stands unspent in
-    (rest_told r0 r1 told now.0, λ settled. (held_still A r0 r1 n0 n1 l0 l1 bytes told later emits (now.1 settled).0, held_still B r0 r1 n0 n1 l0 l1 bytes told later emits (now.1 settled).1))
+    let now = stands unspent in (
+      rest_told r0 r1 told now.0,
+      λ settled. (
+        held_still A r0 r1 n0 n1 l0 l1 bytes told later emits (now.1 settled).0,
+        held_still B r0 r1 n0 n1 l0 l1 bytes
+            told later emits (now.1 settled).1,
+      ),
+    )
   where
-    rest_told : (r0 r1 : Option Images) → StaysTold r0 r1 → IfSome r0 (λ held. (bodies : List (List ℕ)) × RestsIn log held bodies) → IfSome r1 (λ held. (bodies : List (List ℕ)) × RestsIn log held bodies)
+    rest_told : (r0 r1 : Option Images) → StaysTold r0 r1
+        → IfSome r0 (λ held. (bodies : List (List ℕ)) × RestsIn log held bodies)
+        → IfSome r1 (λ held. (bodies : List (List ℕ)) × RestsIn log held bodies)
     rest_told None None told rests = tt
-    rest_told (Some x) (Some y) told rests = subst (λ held. (bodies : List (List ℕ)) × RestsIn log held bodies) (sym told) rests
+    rest_told (Some x) (Some y) told rests = subst (λ held. (bodies : List (List ℕ)) × RestsIn log held bodies)
+        (sym told) rests
     rest_told None (Some y) told rests = absurd told
     rest_told (Some x) None told rests = absurd told

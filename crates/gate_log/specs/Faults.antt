@@ -5,7 +5,8 @@ use Rattle.gate_log.specs.declared.fault.LogFault.TheVariants.{Taken, Empty, Bro
 
 -- no other fault than want of memory and a failure of the site
 abbrev pub OnlySiteOrMemory : {T : Type 0} → Result T LogFault → Type 0
-OnlySiteOrMemory result = ¬ IsErrOf result Taken × ¬ IsErrOf result Empty × ¬ IsErrOf result Broken × ¬ IsErrOf result Spent
+OnlySiteOrMemory result = ¬ IsErrOf result Taken × ¬ IsErrOf result Empty × ¬ IsErrOf result Broken
+    × ¬ IsErrOf result Spent
 
 -- besides these, that the log is poisoned
 abbrev pub OnlySpent : {T : Type 0} → Result T LogFault → Type 0

@@ -21,8 +21,8 @@ AreRecords [] bytes = bytes ≡ []
 AreRecords (body ∷ bodies) bytes = (size rest : List ℕ) × (length size ≡ 8) × (from_be_bytes w64 size ≡ length body)
     × (bytes ≡ 1 ∷ size ++ body ++ rest) × AreRecords bodies rest
 
--- An open slot of a version and a generation whose records have these bodies. The first closed gate ends them, at this
--- place; what follows it is anything.
+-- An open slot of a version and a generation whose records have these bodies. The first closed gate ends them, at
+-- this place; what follows it is anything.
 pub record HasRecords (bytes : List ℕ) (version generation end : ℕ) (bodies : List (List ℕ)) : Type 0 where
   pub records : List ℕ
   pub gate : ℕ

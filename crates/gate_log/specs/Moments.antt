@@ -7,7 +7,8 @@ use Rattle.site_io.specs.declared.slot.Slot.TheVariants.{A, B}
 pub record Leaves (before after : ℕ) (old new : ℕ → Images → List ℕ → Type 0) (P : Images → Type 0) : Type 0 where
   pub moments : GoesOn before after old new
   pub each : (t : ℕ) (images : Images) (out : List ℕ) → before ≤ t → new t images out → P images
-  pub output : (t : ℕ) (images : Images) (out : List ℕ) → before ≤ t → new t images out → (began : Images) × old before began out
+  pub output : (t : ℕ) (images : Images) (out : List ℕ) → before ≤ t → new t images out → (began : Images)
+      × old before began out
 
 -- A crash now leaves what a read gives.
 abbrev pub LastsWhole : Option Images → ℕ → (ℕ → Images → List ℕ → Type 0) → Type 0

@@ -1,5 +1,6 @@
 -- Reading slots and their records.
-use Rattle.std.specs.Prelude.{◌≡◌, ◌≢◌, ◌⊎◌, ℕ, ◌≤◌, ◌<◌, ◌^◌, List, [], ◌∷◌, ◌++◌, length, take, drop, map, Option, Some, None, Vec}
+use Rattle.std.specs.Prelude.{◌≡◌, ◌≢◌, ◌⊎◌, ℕ, ◌≤◌, ◌<◌, ◌^◌, List, [], ◌∷◌, ◌++◌, length, take, drop, map, Option}
+use Rattle.std.specs.Prelude.{Some, None, Vec}
 use Rattle.std.specs.Int.{from_be_bytes, w64}
 use Rattle.std.specs.declared.alloc.Global.{Global}
 use Rattle.site_io.specs.Disk.{Images}
@@ -34,7 +35,8 @@ BeginRecords (body ∷ bodies) bytes = (size rest : List ℕ) × (length size �
 
 -- a slot that a store of version 2 may have: closed, or open with a head
 abbrev pub IsSlotOfTwo : List ℕ → Type 0
-IsSlotOfTwo bytes = IsClosed bytes ⊎ ((generation : ℕ) × (rest : List ℕ) × (0 < generation) × (generation < 2 ^ 64) × (bytes ≡ opened 2 generation rest))
+IsSlotOfTwo bytes = IsClosed bytes ⊎ ((generation : ℕ) × (rest : List ℕ) × (0 < generation) × (generation < 2 ^ 64)
+    × (bytes ≡ opened 2 generation rest))
 
 -- an open slot of version 2 and a generation
 pub record IsOpened (bytes : List ℕ) (generation : ℕ) : Type 0 where

@@ -26,7 +26,8 @@ abbrev pub Closes : Bool → Slot → Images → Images → Type 0
 Closes asked slot old new = new ≡ (if asked then with_slot slot old (put 0 (0 ∷ []) (at_slot slot old)) else old)
 
 -- after the first two steps: the live slot is as it was, and in the other a snapshot stands behind a closed gate
-pub record Prepared (version : Version) (live : Slot) (generation end : ℕ) (held : Images) (bodies : List (List ℕ)) (body : List ℕ) : Type 0 where
+pub record Prepared (version : Version) (live : Slot) (generation end : ℕ) (held : Images) (bodies : List (List ℕ))
+    (body : List ℕ) : Type 0 where
   pub rests : Rests version live generation end false held bodies
   pub fresh : Fresh (at_slot (other live) held) (generation + 1) body
 
@@ -36,7 +37,8 @@ IsOneAt One live generation = (live ≡ A) × (generation ≡ 1)
 IsOneAt Two live generation = Unit {0}
 
 -- after the third: the other slot is open, and has the one body
-pub record Switched (version : Version) (live : Slot) (generation end : ℕ) (held : Images) (bodies : List (List ℕ)) (body : List ℕ) : Type 0 where
+pub record Switched (version : Version) (live : Slot) (generation end : ℕ) (held : Images) (bodies : List (List ℕ))
+    (body : List ℕ) : Type 0 where
   pub old : HasRecords (at_slot live held) (number_of version) generation end bodies
   pub new : HasRecords (at_slot (other live) held) 2 (generation + 1) (snapshot_end body) (body ∷ [])
   pub one : IsOneAt version live generation

@@ -17,7 +17,8 @@ IsClosed bytes = (gate : ℕ) × (rest : List ℕ) × (gate ≢ 1) × (bytes ≡
 
 -- an open slot of version 2 and a lower generation
 abbrev pub IsOlder : ℕ → List ℕ → Type 0
-IsOlder generation bytes = (lower : ℕ) × (rest : List ℕ) × (0 < lower) × (lower < generation) × (bytes ≡ opened 2 lower rest)
+IsOlder generation bytes = (lower : ℕ) × (rest : List ℕ) × (0 < lower) × (lower < generation)
+    × (bytes ≡ opened 2 lower rest)
 
 -- Version 1: slot A alone. Version 2: the open slot of the greater generation; the other is closed or older.
 abbrev pub HasBodiesOne : Images → List (List ℕ) → Type 0
@@ -72,7 +73,8 @@ OtherRests Two live generation true bytes = IsOlder generation bytes
 OtherRests Two live generation false bytes = IsClosed bytes
 
 -- the slots hold what a log knows of them, and these bodies
-pub record Rests (version : Version) (live : Slot) (generation end : ℕ) (other_open : Bool) (held : Images) (bodies : List (List ℕ)) : Type 0 where
+pub record Rests (version : Version) (live : Slot) (generation end : ℕ) (other_open : Bool) (held : Images)
+    (bodies : List (List ℕ)) : Type 0 where
   pub has : HasRecords (at_slot live held) (number_of version) generation end bodies
   pub rest : OtherRests version live generation other_open (at_slot (other live) held)
   pub above : 0 < generation

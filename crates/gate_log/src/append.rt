@@ -1,6 +1,7 @@
 //! Adding a record.
 
-ghost use Rattle.std.specs.Prelude.{◌≡◌, ℕ, List, Bool, ◌+◌, ◌*◌, ◌^◌, ◌≤◌, ◌<◌, ◌++◌, ◌∷◌, [], length, IfSome, IfOk, OnOk, IsErr};
+ghost use Rattle.std.specs.Prelude.{◌≡◌, ℕ, List, Bool, ◌+◌, ◌*◌, ◌^◌, ◌≤◌, ◌<◌, ◌++◌, ◌∷◌, [], length, IfSome, IfOk};
+ghost use Rattle.std.specs.Prelude.{OnOk, IsErr};
 ghost use Rattle.site_io.specs.Counts.{HasRisen};
 ghost use Rattle.site_io.specs.Told.{BothTold, StaysTold};
 ghost use Rattle.site_io.specs.Disk.{at_slot};
@@ -38,15 +39,20 @@ pub(crate) fn put_record<S: Site>(
 ) -> Result<(), Failed>
     requires spelled { bytes.now ≡ recorded body.now ++ 0 ∷ [] }
     requires small { end ≤ 2 ^ 63 }
-    requires rests { IfSome (S.reads site.old) (λ held. (version generation : ℕ) × (bodies : List (List ℕ))
+    requires rests { IfSome (S.reads site.old)
+        (λ held. (version generation : ℕ) × (bodies : List (List ℕ))
         × HasRecords (at_slot live held) version generation end bodies) }
     requires lasts { LastsWhole (S.reads site.old) (S.now site.old) (S.left site.old) }
     ensures added { OnOk result (BothTold (S.reads site.old) (S.reads site.new) (λ before after.
-        (version : Version) (generation : ℕ) (is_open : Bool) (bodies : List (List ℕ)) → Rests version live generation end is_open before bodies
-        → Rests version live generation (end + 9 + length body.now) is_open after (bodies ++ body.now ∷ []))) }
+        (version : Version) (generation : ℕ) (is_open : Bool) (bodies : List (List ℕ))
+        → Rests version live generation end is_open before bodies
+        → Rests version live generation (end + 9 + length body.now) is_open after
+        (bodies ++ body.now ∷ []))) }
     ensures any_moment { IfSome (S.reads site.old) (λ held.
-        (version : Version) (generation : ℕ) (is_open : Bool) (bodies : List (List ℕ)) → Rests version live generation end is_open held bodies
-        → Leaves (S.now site.old) (S.now site.new) (S.left site.old) (S.left site.new) (OldOrNew bodies body.now)) }
+        (version : Version) (generation : ℕ) (is_open : Bool) (bodies : List (List ℕ))
+        → Rests version live generation end is_open held bodies
+        → Leaves (S.now site.old) (S.now site.new) (S.left site.old) (S.left site.new)
+        (OldOrNew bodies body.now)) }
     ensures lasts { OnOk result (LastsWhole (S.reads site.new) (S.now site.new) (S.left site.new)) }
     ensures end { OnOk result (end + 9 + length body.now < 2 ^ 63) }
     ensures outside { TouchesSlots S.Site site.old site.new }

@@ -1,6 +1,7 @@
 //! Making a store.
 
-ghost use Rattle.std.specs.Prelude.{◌≡◌, ◌⊎◌, ◌<◌, ◌≤◌, ◌^◌, ◌∷◌, [], ℕ, List, false, length, drop, IfSome, IfOk, OnOk, IsErr, IsErrOf, MatchBool};
+ghost use Rattle.std.specs.Prelude.{◌≡◌, ◌⊎◌, ◌<◌, ◌≤◌, ◌^◌, ◌∷◌, [], ℕ, List, false, length, drop, IfSome, IfOk};
+ghost use Rattle.std.specs.Prelude.{OnOk, IsErr, IsErrOf, MatchBool};
 ghost use Rattle.site_io.specs.Counts.{HasRisen};
 ghost use Rattle.site_io.specs.Told.{StaysTold};
 ghost use Rattle.site_io.specs.Disk.{LeavesSame};
@@ -22,7 +23,8 @@ use std::alloc::Global;
 
 /// The first part: both slots get a closed gate. Until then a crash may leave anything in them.
 pub(crate) fn clear<S: Site>(site: &mut S) -> Result<(), Failed>
-    ensures closed { OnOk result (IfSome (S.reads site.new) (λ held. IsClosed held.a × IsClosed held.b)) }
+    ensures closed { OnOk result (IfSome (S.reads site.new)
+        (λ held. IsClosed held.a × IsClosed held.b)) }
     ensures lasts { OnOk result (LastsWhole (S.reads site.new) (S.now site.new) (S.left site.new)) }
     ensures outside { TouchesSlots S.Site site.old site.new }
     ensures cause { IsErr result → HasRisen (S.slot_faults site.old) (S.slot_faults site.new) }
@@ -36,7 +38,8 @@ pub(crate) fn fill<S: Site>(site: &mut S, body: &[u8], bytes: &[u8]) -> Result<(
     requires spelled { bytes.now ≡ snapshot 1 body.now }
     requires closed { IfSome (S.reads site.old) (λ held. IsClosed held.a × IsClosed held.b) }
     requires lasts { LastsWhole (S.reads site.old) (S.now site.old) (S.left site.old) }
-    ensures made { OnOk result (IfSome (S.reads site.new) (λ held. Rests Two A 1 (snapshot_end body.now) false held (body.now ∷ []))) }
+    ensures made { OnOk result (IfSome (S.reads site.new)
+        (λ held. Rests Two A 1 (snapshot_end body.now) false held (body.now ∷ []))) }
     ensures lasts { OnOk result (LastsWhole (S.reads site.new) (S.now site.new) (S.left site.new)) }
     ensures small { OnOk result (snapshot_end body.now ≤ 2 ^ 63) }
     ensures outside { TouchesSlots S.Site site.old site.new }
@@ -57,22 +60,31 @@ impl Log {
     /// `Taken` where a slot isn't empty, and `Memory` where there is no memory, before anything is written. `Site`
     /// where the site failed, which its count tells.
     pub fn create<S: Site>(alloc: Global, site: &mut S, body: &[u8]) -> Result<Log, LogFault>
-        ensures created { IfOk result (λ log. IfSome (S.reads site.new) (λ held. RestsIn log held (body.now ∷ []))) }
-        ensures stands { IfOk result (λ log. StandsIn log (S.reads site.new) (S.now site.new) (S.left site.new)) }
+        ensures created { IfOk result
+            (λ log. IfSome (S.reads site.new) (λ held. RestsIn log held (body.now ∷ []))) }
+        ensures stands { IfOk result
+            (λ log. StandsIn log (S.reads site.new) (S.now site.new) (S.left site.new)) }
         ensures every_crash { OnOk result (IfSome (S.reads site.new) (λ held.
-            (images : _) (out : List ℕ) → S.left site.new (S.now site.new) images out → HasBodies images (body.now ∷ []))) }
+            (images : _) (out : List ℕ) → S.left site.new (S.now site.new) images out
+            → HasBodies images (body.now ∷ []))) }
         ensures generation { IfOk result (λ log. (log.generation ≡ 1) × (log.version ≡ Two)) }
-        ensures counts { IfOk result (λ log. (log.first ≡ Some (length body.now)) × (log.behind ≡ 0)) }
+        ensures counts { IfOk result
+            (λ log. (log.first ≡ Some (length body.now)) × (log.behind ≡ 0)) }
         ensures unspent { IfOk result (λ log. log.spent ≡ false) }
-        ensures empty { OnOk result (IfSome (S.reads site.old) (λ held. (length held.a ≡ 0) × (length held.b ≡ 0))) }
-        ensures taken { IsErrOf result LogFault.Taken → IfSome (S.reads site.old) (λ held. (0 < length held.a) ⊎ (0 < length held.b)) }
-        ensures taken_only { IfSome (S.reads site.old) (λ held. (0 < length held.a) ⊎ (0 < length held.b)
+        ensures empty { OnOk result
+            (IfSome (S.reads site.old) (λ held. (length held.a ≡ 0) × (length held.b ≡ 0))) }
+        ensures taken { IsErrOf result LogFault.Taken → IfSome (S.reads site.old)
+            (λ held. (0 < length held.a) ⊎ (0 < length held.b)) }
+        ensures taken_only { IfSome (S.reads site.old)
+            (λ held. (0 < length held.a) ⊎ (0 < length held.b)
             → IsErrOf result LogFault.Taken ⊎ IsErrOf result LogFault.Site) }
         ensures unwritten { (IsErrOf result LogFault.Taken ⊎ IsErrOf result LogFault.Memory)
-            → StaysTold (S.reads site.old) (S.reads site.new) × LeavesSame (S.now site.old) (S.left site.old) (S.left site.new) }
+            → StaysTold (S.reads site.old) (S.reads site.new) × LeavesSame (S.now site.old)
+            (S.left site.old) (S.left site.new) }
         ensures faults { OnlyTaken result }
         ensures outside { TouchesSlots S.Site site.old site.new }
-        ensures cause { IsErrOf result LogFault.Site → HasRisen (S.slot_faults site.old) (S.slot_faults site.new) }
+        ensures cause { IsErrOf result LogFault.Site → HasRisen (S.slot_faults site.old)
+            (S.slot_faults site.new) }
     {
         if !are_empty(site)? {
             return Err(LogFault::Taken);
@@ -88,22 +100,32 @@ impl Log {
     /// Those of [`create`](Log::create).
     pub fn create_in<S: Site>(alloc: Global, site: &mut S, bytes: Vec<u8>) -> Result<Log, LogFault>
         requires { 22 ≤ length bytes.items }
-        ensures created { IfOk result (λ log. IfSome (S.reads site.new) (λ held. RestsIn log held (drop 22 bytes.items ∷ []))) }
-        ensures stands { IfOk result (λ log. StandsIn log (S.reads site.new) (S.now site.new) (S.left site.new)) }
+        ensures created { IfOk result
+            (λ log. IfSome (S.reads site.new)
+            (λ held. RestsIn log held (drop 22 bytes.items ∷ []))) }
+        ensures stands { IfOk result
+            (λ log. StandsIn log (S.reads site.new) (S.now site.new) (S.left site.new)) }
         ensures every_crash { OnOk result (IfSome (S.reads site.new) (λ held.
-            (images : _) (out : List ℕ) → S.left site.new (S.now site.new) images out → HasBodies images (drop 22 bytes.items ∷ []))) }
+            (images : _) (out : List ℕ) → S.left site.new (S.now site.new) images out
+            → HasBodies images (drop 22 bytes.items ∷ []))) }
         ensures generation { IfOk result (λ log. (log.generation ≡ 1) × (log.version ≡ Two)) }
-        ensures counts { IfOk result (λ log. (log.first ≡ Some (length (drop 22 bytes.items))) × (log.behind ≡ 0)) }
+        ensures counts { IfOk result (λ log. (log.first ≡ Some (length (drop 22 bytes.items)))
+            × (log.behind ≡ 0)) }
         ensures unspent { IfOk result (λ log. log.spent ≡ false) }
-        ensures empty { OnOk result (IfSome (S.reads site.old) (λ held. (length held.a ≡ 0) × (length held.b ≡ 0))) }
-        ensures taken { IsErrOf result LogFault.Taken → IfSome (S.reads site.old) (λ held. (0 < length held.a) ⊎ (0 < length held.b)) }
-        ensures taken_only { IfSome (S.reads site.old) (λ held. (0 < length held.a) ⊎ (0 < length held.b)
+        ensures empty { OnOk result
+            (IfSome (S.reads site.old) (λ held. (length held.a ≡ 0) × (length held.b ≡ 0))) }
+        ensures taken { IsErrOf result LogFault.Taken → IfSome (S.reads site.old)
+            (λ held. (0 < length held.a) ⊎ (0 < length held.b)) }
+        ensures taken_only { IfSome (S.reads site.old)
+            (λ held. (0 < length held.a) ⊎ (0 < length held.b)
             → IsErrOf result LogFault.Taken ⊎ IsErrOf result LogFault.Site) }
         ensures unwritten { (IsErrOf result LogFault.Taken ⊎ IsErrOf result LogFault.Memory)
-            → StaysTold (S.reads site.old) (S.reads site.new) × LeavesSame (S.now site.old) (S.left site.old) (S.left site.new) }
+            → StaysTold (S.reads site.old) (S.reads site.new) × LeavesSame (S.now site.old)
+            (S.left site.old) (S.left site.new) }
         ensures faults { OnlyTaken result }
         ensures outside { TouchesSlots S.Site site.old site.new }
-        ensures cause { IsErrOf result LogFault.Site → HasRisen (S.slot_faults site.old) (S.slot_faults site.new) }
+        ensures cause { IsErrOf result LogFault.Site → HasRisen (S.slot_faults site.old)
+            (S.slot_faults site.new) }
     {
         if !are_empty(site)? {
             return Err(LogFault::Taken);
@@ -115,12 +137,16 @@ impl Log {
     // Makes a store in two slots, whatever they hold. The bytes are those of a slot with this body behind its gate.
     fn begin<S: Site>(alloc: Global, site: &mut S, body: &[u8], bytes: &[u8]) -> Result<Log, Failed>
         requires { bytes.now ≡ snapshot 1 body.now }
-        ensures created { IfOk result (λ log. IfSome (S.reads site.new) (λ held. RestsIn log held (body.now ∷ []))) }
-        ensures stands { IfOk result (λ log. StandsIn log (S.reads site.new) (S.now site.new) (S.left site.new)) }
+        ensures created { IfOk result
+            (λ log. IfSome (S.reads site.new) (λ held. RestsIn log held (body.now ∷ []))) }
+        ensures stands { IfOk result
+            (λ log. StandsIn log (S.reads site.new) (S.now site.new) (S.left site.new)) }
         ensures every_crash { OnOk result (IfSome (S.reads site.new) (λ held.
-            (images : _) (out : List ℕ) → S.left site.new (S.now site.new) images out → HasBodies images (body.now ∷ []))) }
+            (images : _) (out : List ℕ) → S.left site.new (S.now site.new) images out
+            → HasBodies images (body.now ∷ []))) }
         ensures generation { IfOk result (λ log. (log.generation ≡ 1) × (log.version ≡ Two)) }
-        ensures counts { IfOk result (λ log. (log.first ≡ Some (length body.now)) × (log.behind ≡ 0)) }
+        ensures counts { IfOk result
+            (λ log. (log.first ≡ Some (length body.now)) × (log.behind ≡ 0)) }
         ensures unspent { IfOk result (λ log. log.spent ≡ false) }
         ensures outside { TouchesSlots S.Site site.old site.new }
         ensures cause { IsErr result → HasRisen (S.slot_faults site.old) (S.slot_faults site.new) }

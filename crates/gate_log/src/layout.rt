@@ -17,7 +17,8 @@ pub(crate) const RECORD: usize = 9;
 /// Where the records of a slot begin.
 pub(crate) const RECORDS: usize = 14;
 
-/// How many bytes a body has before it that is made in the memory of its slot: the slot's head, a gate, and the length.
+/// How many bytes a body has before it that is made in the memory of its slot: the slot's head, a gate, and the
+/// length.
 pub const ROOM: usize = 22;
 
 /// Where the records end of a slot that has one, whose body is this long.

@@ -1,6 +1,7 @@
 //! A log of bodies in two slots.
 
-ghost use Rattle.std.specs.Prelude.{◌≡◌, ◌⊎◌, ◌^◌, ◌↔◌, ◌++◌, ◌∷◌, [], List, ℕ, ◌+◌, ◌<◌, length, true, false, ◌≤◌, drop};
+ghost use Rattle.std.specs.Prelude.{◌≡◌, ◌⊎◌, ◌^◌, ◌↔◌, ◌++◌, ◌∷◌, [], List, ℕ, ◌+◌, ◌<◌, length, true, false, ◌≤◌};
+ghost use Rattle.std.specs.Prelude.{drop};
 ghost use Rattle.std.specs.Prelude.{IfSome, OnOk, IsErr, IsErrOf, unwrap_or};
 ghost use Rattle.gate_log.specs.Counts.{Counts, first_with, behind_with};
 ghost use Rattle.gate_log.specs.declared.version.Version.TheVariants.{One, Two};
@@ -16,7 +17,8 @@ use std::alloc::Global;
 
 /// A log of bodies in the two slots of a site. It holds no body, but the offset of the next record.
 ///
-/// Each call on it is to be made over the site with which the log was made, whose slots no one else has changed since.
+/// Each call on it is to be made over the site with which the log was made, whose slots no one else has changed
+/// since.
 #[derive(Debug, Drop)]
 pub struct Log {
     pub(crate) alloc: Global,
@@ -93,17 +95,22 @@ impl Log {
     pub fn sync<S: Site>(&mut self, site: &mut S) -> Result<(), LogFault>
         requires { StandsIn self.old (S.reads site.old) (S.now site.old) (S.left site.old) }
         ensures stands { StandsIn self.new (S.reads site.new) (S.now site.new) (S.left site.new) }
-        ensures lasts { OnOk result (LastsWhole (S.reads site.new) (S.now site.new) (S.left site.new)) }
-        ensures bodies { (held : Images) (bodies : List (List ℕ)) → RestsIn self.old held bodies → RestsIn self.new held bodies }
+        ensures lasts { OnOk result
+            (LastsWhole (S.reads site.new) (S.now site.new) (S.left site.new)) }
+        ensures bodies { (held : Images) (bodies : List (List ℕ)) → RestsIn self.old held bodies
+            → RestsIn self.new held bodies }
         ensures counts { (self.new.first ≡ self.old.first) × (self.new.behind ≡ self.old.behind) }
         ensures generation { self.new.generation ≡ self.old.generation }
         ensures version { self.new.version ≡ self.old.version }
         ensures spent { IsErrOf result LogFault.Spent ↔ self.old.spent ≡ true }
-        ensures marks { self.new.spent ≡ true ↔ (self.old.spent ≡ true) ⊎ IsErrOf result LogFault.Site }
-        ensures nothing { IsErrOf result LogFault.Spent → (self.new ≡ self.old) × (site.new ≡ site.old) }
+        ensures marks { self.new.spent ≡ true ↔ (self.old.spent ≡ true)
+            ⊎ IsErrOf result LogFault.Site }
+        ensures nothing { IsErrOf result LogFault.Spent → (self.new ≡ self.old)
+            × (site.new ≡ site.old) }
         ensures faults { OnlySite result }
         ensures outside { OnlyLooks S.Site site.old site.new }
-        ensures cause { IsErrOf result LogFault.Site → HasRisen (S.slot_faults site.old) (S.slot_faults site.new) }
+        ensures cause { IsErrOf result LogFault.Site → HasRisen (S.slot_faults site.old)
+            (S.slot_faults site.new) }
     {
         if self.spent {
             return Err(LogFault::Spent);
@@ -127,23 +134,33 @@ impl Log {
         requires { StandsIn self.old (S.reads site.old) (S.now site.old) (S.left site.old) }
         ensures stands { StandsIn self.new (S.reads site.new) (S.now site.new) (S.left site.new) }
         ensures added { OnOk result (BothTold (S.reads site.old) (S.reads site.new) (λ before after.
-            (bodies : List (List ℕ)) → RestsIn self.old before bodies → RestsIn self.new after (bodies ++ body.now ∷ []))) }
-        ensures every_crash { OnOk result (IfSome (S.reads site.old) (λ held. (bodies : List (List ℕ)) → RestsIn self.old held bodies
-            → (images : _) (out : List ℕ) → S.left site.new (S.now site.new) images out → HasBodies images (bodies ++ body.now ∷ []))) }
-        ensures any_moment { IfSome (S.reads site.old) (λ held. (bodies : List (List ℕ)) → RestsIn self.old held bodies
+            (bodies : List (List ℕ)) → RestsIn self.old before bodies
+            → RestsIn self.new after (bodies ++ body.now ∷ []))) }
+        ensures every_crash { OnOk result
+            (IfSome (S.reads site.old)
+            (λ held. (bodies : List (List ℕ)) → RestsIn self.old held bodies
+            → (images : _) (out : List ℕ) → S.left site.new (S.now site.new) images out
+            → HasBodies images (bodies ++ body.now ∷ []))) }
+        ensures any_moment { IfSome (S.reads site.old)
+            (λ held. (bodies : List (List ℕ)) → RestsIn self.old held bodies
             → Leaves (S.now site.old) (S.now site.new) (S.left site.old) (S.left site.new)
-            (λ images. Began (S.now site.old) (S.left site.old) images ⊎ OldOrNew bodies body.now images)) }
+            (λ images. Began (S.now site.old) (S.left site.old) images ⊎ OldOrNew bodies body.now
+            images)) }
         ensures counts { OnOk result ((self.new.first ≡ first_with self.old.first (length body.now))
             × (self.new.behind ≡ behind_with self.old.first self.old.behind (length body.now))) }
-        ensures kept { IsErr result → (self.new.first ≡ self.old.first) × (self.new.behind ≡ self.old.behind) }
+        ensures kept { IsErr result → (self.new.first ≡ self.old.first)
+            × (self.new.behind ≡ self.old.behind) }
         ensures generation { self.new.generation ≡ self.old.generation }
         ensures version { self.new.version ≡ self.old.version }
         ensures spent { IsErrOf result LogFault.Spent ↔ self.old.spent ≡ true }
-        ensures marks { self.new.spent ≡ true ↔ (self.old.spent ≡ true) ⊎ IsErrOf result LogFault.Site }
-        ensures nothing { (IsErrOf result LogFault.Spent ⊎ IsErrOf result LogFault.Memory) → (self.new ≡ self.old) × (site.new ≡ site.old) }
+        ensures marks { self.new.spent ≡ true ↔ (self.old.spent ≡ true)
+            ⊎ IsErrOf result LogFault.Site }
+        ensures nothing { (IsErrOf result LogFault.Spent ⊎ IsErrOf result LogFault.Memory)
+            → (self.new ≡ self.old) × (site.new ≡ site.old) }
         ensures faults { OnlySpent result }
         ensures outside { TouchesSlots S.Site site.old site.new }
-        ensures cause { IsErrOf result LogFault.Site → HasRisen (S.slot_faults site.old) (S.slot_faults site.new) }
+        ensures cause { IsErrOf result LogFault.Site → HasRisen (S.slot_faults site.old)
+            (S.slot_faults site.new) }
     {
         if self.spent {
             return Err(LogFault::Spent);
@@ -162,14 +179,19 @@ impl Log {
         requires unspent { self.old.spent ≡ false }
         requires spelled { bytes.now ≡ recorded body.now ++ 0 ∷ [] }
         ensures added { OnOk result (BothTold (S.reads site.old) (S.reads site.new) (λ before after.
-            (bodies : List (List ℕ)) → RestsIn self.old before bodies → RestsIn self.new after (bodies ++ body.now ∷ []))) }
-        ensures any_moment { IfSome (S.reads site.old) (λ held. (bodies : List (List ℕ)) → RestsIn self.old held bodies
+            (bodies : List (List ℕ)) → RestsIn self.old before bodies
+            → RestsIn self.new after (bodies ++ body.now ∷ []))) }
+        ensures any_moment { IfSome (S.reads site.old)
+            (λ held. (bodies : List (List ℕ)) → RestsIn self.old held bodies
             → Leaves (S.now site.old) (S.now site.new) (S.left site.old) (S.left site.new)
-            (λ images. Began (S.now site.old) (S.left site.old) images ⊎ OldOrNew bodies body.now images)) }
-        ensures lasts { OnOk result (LastsWhole (S.reads site.new) (S.now site.new) (S.left site.new)) }
+            (λ images. Began (S.now site.old) (S.left site.old) images ⊎ OldOrNew bodies body.now
+            images)) }
+        ensures lasts { OnOk result
+            (LastsWhole (S.reads site.new) (S.now site.new) (S.left site.new)) }
         ensures counts { OnOk result ((self.new.first ≡ first_with self.old.first (length body.now))
             × (self.new.behind ≡ behind_with self.old.first self.old.behind (length body.now))) }
-        ensures kept { IsErr result → (self.new.first ≡ self.old.first) × (self.new.behind ≡ self.old.behind) }
+        ensures kept { IsErr result → (self.new.first ≡ self.old.first)
+            × (self.new.behind ≡ self.old.behind) }
         ensures generation { self.new.generation ≡ self.old.generation }
         ensures version { self.new.version ≡ self.old.version }
         ensures spent { self.new.spent ≡ self.old.spent }
@@ -199,23 +221,35 @@ impl Log {
         requires stands { StandsIn self.old (S.reads site.old) (S.now site.old) (S.left site.old) }
         requires below { self.old.generation + 1 < 2 ^ 64 }
         ensures stands { StandsIn self.new (S.reads site.new) (S.now site.new) (S.left site.new) }
-        ensures rewritten { OnOk result (BothTold (S.reads site.old) (S.reads site.new) (λ before after.
-            (bodies : List (List ℕ)) → RestsIn self.old before bodies → RestsIn self.new after (body.now ∷ []))) }
-        ensures every_crash { OnOk result (IfSome (S.reads site.old) (λ held. (bodies : List (List ℕ)) → RestsIn self.old held bodies
-            → (images : _) (out : List ℕ) → S.left site.new (S.now site.new) images out → HasBodies images (body.now ∷ []))) }
-        ensures any_moment { IfSome (S.reads site.old) (λ held. (bodies : List (List ℕ)) → RestsIn self.old held bodies
+        ensures rewritten { OnOk result
+            (BothTold (S.reads site.old) (S.reads site.new) (λ before after.
+            (bodies : List (List ℕ)) → RestsIn self.old before bodies
+            → RestsIn self.new after (body.now ∷ []))) }
+        ensures every_crash { OnOk result
+            (IfSome (S.reads site.old)
+            (λ held. (bodies : List (List ℕ)) → RestsIn self.old held bodies
+            → (images : _) (out : List ℕ) → S.left site.new (S.now site.new) images out
+            → HasBodies images (body.now ∷ []))) }
+        ensures any_moment { IfSome (S.reads site.old)
+            (λ held. (bodies : List (List ℕ)) → RestsIn self.old held bodies
             → Leaves (S.now site.old) (S.now site.new) (S.left site.old) (S.left site.new)
-            (λ images. Began (S.now site.old) (S.left site.old) images ⊎ OldOrWhole bodies body.now images)) }
-        ensures counts { OnOk result ((self.new.first ≡ Some (length body.now)) × (self.new.behind ≡ 0)) }
-        ensures kept { IsErr result → (self.new.first ≡ self.old.first) × (self.new.behind ≡ self.old.behind) }
+            (λ images. Began (S.now site.old) (S.left site.old) images ⊎ OldOrWhole bodies body.now
+            images)) }
+        ensures counts { OnOk result
+            ((self.new.first ≡ Some (length body.now)) × (self.new.behind ≡ 0)) }
+        ensures kept { IsErr result → (self.new.first ≡ self.old.first)
+            × (self.new.behind ≡ self.old.behind) }
         ensures generation { OnOk result (self.new.generation ≡ self.old.generation + 1) }
         ensures version { OnOk result (self.new.version ≡ Two) }
         ensures spent { IsErrOf result LogFault.Spent ↔ self.old.spent ≡ true }
-        ensures marks { self.new.spent ≡ true ↔ (self.old.spent ≡ true) ⊎ IsErrOf result LogFault.Site }
-        ensures nothing { (IsErrOf result LogFault.Spent ⊎ IsErrOf result LogFault.Memory) → (self.new ≡ self.old) × (site.new ≡ site.old) }
+        ensures marks { self.new.spent ≡ true ↔ (self.old.spent ≡ true)
+            ⊎ IsErrOf result LogFault.Site }
+        ensures nothing { (IsErrOf result LogFault.Spent ⊎ IsErrOf result LogFault.Memory)
+            → (self.new ≡ self.old) × (site.new ≡ site.old) }
         ensures faults { OnlySpent result }
         ensures outside { TouchesSlots S.Site site.old site.new }
-        ensures cause { IsErrOf result LogFault.Site → HasRisen (S.slot_faults site.old) (S.slot_faults site.new) }
+        ensures cause { IsErrOf result LogFault.Site → HasRisen (S.slot_faults site.old)
+            (S.slot_faults site.new) }
     {
         if self.spent {
             return Err(LogFault::Spent);
@@ -238,23 +272,35 @@ impl Log {
         requires stands { StandsIn self.old (S.reads site.old) (S.now site.old) (S.left site.old) }
         requires below { self.old.generation + 1 < 2 ^ 64 }
         ensures stands { StandsIn self.new (S.reads site.new) (S.now site.new) (S.left site.new) }
-        ensures rewritten { OnOk result (BothTold (S.reads site.old) (S.reads site.new) (λ before after.
-            (bodies : List (List ℕ)) → RestsIn self.old before bodies → RestsIn self.new after (drop 22 bytes.items ∷ []))) }
-        ensures every_crash { OnOk result (IfSome (S.reads site.old) (λ held. (bodies : List (List ℕ)) → RestsIn self.old held bodies
-            → (images : _) (out : List ℕ) → S.left site.new (S.now site.new) images out → HasBodies images (drop 22 bytes.items ∷ []))) }
-        ensures any_moment { IfSome (S.reads site.old) (λ held. (bodies : List (List ℕ)) → RestsIn self.old held bodies
+        ensures rewritten { OnOk result
+            (BothTold (S.reads site.old) (S.reads site.new) (λ before after.
+            (bodies : List (List ℕ)) → RestsIn self.old before bodies
+            → RestsIn self.new after (drop 22 bytes.items ∷ []))) }
+        ensures every_crash { OnOk result
+            (IfSome (S.reads site.old)
+            (λ held. (bodies : List (List ℕ)) → RestsIn self.old held bodies
+            → (images : _) (out : List ℕ) → S.left site.new (S.now site.new) images out
+            → HasBodies images (drop 22 bytes.items ∷ []))) }
+        ensures any_moment { IfSome (S.reads site.old)
+            (λ held. (bodies : List (List ℕ)) → RestsIn self.old held bodies
             → Leaves (S.now site.old) (S.now site.new) (S.left site.old) (S.left site.new)
-            (λ images. Began (S.now site.old) (S.left site.old) images ⊎ OldOrWhole bodies (drop 22 bytes.items) images)) }
-        ensures counts { OnOk result ((self.new.first ≡ Some (length (drop 22 bytes.items))) × (self.new.behind ≡ 0)) }
-        ensures kept { IsErr result → (self.new.first ≡ self.old.first) × (self.new.behind ≡ self.old.behind) }
+            (λ images. Began (S.now site.old) (S.left site.old) images
+            ⊎ OldOrWhole bodies (drop 22 bytes.items) images)) }
+        ensures counts { OnOk result ((self.new.first ≡ Some (length (drop 22 bytes.items)))
+            × (self.new.behind ≡ 0)) }
+        ensures kept { IsErr result → (self.new.first ≡ self.old.first)
+            × (self.new.behind ≡ self.old.behind) }
         ensures generation { OnOk result (self.new.generation ≡ self.old.generation + 1) }
         ensures version { OnOk result (self.new.version ≡ Two) }
         ensures spent { IsErrOf result LogFault.Spent ↔ self.old.spent ≡ true }
-        ensures marks { self.new.spent ≡ true ↔ (self.old.spent ≡ true) ⊎ IsErrOf result LogFault.Site }
-        ensures nothing { (IsErrOf result LogFault.Spent ⊎ IsErrOf result LogFault.Memory) → (self.new ≡ self.old) × (site.new ≡ site.old) }
+        ensures marks { self.new.spent ≡ true ↔ (self.old.spent ≡ true)
+            ⊎ IsErrOf result LogFault.Site }
+        ensures nothing { (IsErrOf result LogFault.Spent ⊎ IsErrOf result LogFault.Memory)
+            → (self.new ≡ self.old) × (site.new ≡ site.old) }
         ensures faults { OnlySpent result }
         ensures outside { TouchesSlots S.Site site.old site.new }
-        ensures cause { IsErrOf result LogFault.Site → HasRisen (S.slot_faults site.old) (S.slot_faults site.new) }
+        ensures cause { IsErrOf result LogFault.Site → HasRisen (S.slot_faults site.old)
+            (S.slot_faults site.new) }
     {
         if self.spent {
             return Err(LogFault::Spent);
@@ -273,14 +319,21 @@ impl Log {
         requires unspent { self.old.spent ≡ false }
         requires below { self.old.generation + 1 < 2 ^ 64 }
         requires spelled { bytes.now ≡ snapshot (self.old.generation + 1) body.now }
-        ensures rewritten { OnOk result (BothTold (S.reads site.old) (S.reads site.new) (λ before after.
-            (bodies : List (List ℕ)) → RestsIn self.old before bodies → RestsIn self.new after (body.now ∷ []))) }
-        ensures any_moment { IfSome (S.reads site.old) (λ held. (bodies : List (List ℕ)) → RestsIn self.old held bodies
+        ensures rewritten { OnOk result
+            (BothTold (S.reads site.old) (S.reads site.new) (λ before after.
+            (bodies : List (List ℕ)) → RestsIn self.old before bodies
+            → RestsIn self.new after (body.now ∷ []))) }
+        ensures any_moment { IfSome (S.reads site.old)
+            (λ held. (bodies : List (List ℕ)) → RestsIn self.old held bodies
             → Leaves (S.now site.old) (S.now site.new) (S.left site.old) (S.left site.new)
-            (λ images. Began (S.now site.old) (S.left site.old) images ⊎ OldOrWhole bodies body.now images)) }
-        ensures lasts { OnOk result (LastsWhole (S.reads site.new) (S.now site.new) (S.left site.new)) }
-        ensures counts { OnOk result ((self.new.first ≡ Some (length body.now)) × (self.new.behind ≡ 0)) }
-        ensures kept { IsErr result → (self.new.first ≡ self.old.first) × (self.new.behind ≡ self.old.behind) }
+            (λ images. Began (S.now site.old) (S.left site.old) images ⊎ OldOrWhole bodies body.now
+            images)) }
+        ensures lasts { OnOk result
+            (LastsWhole (S.reads site.new) (S.now site.new) (S.left site.new)) }
+        ensures counts { OnOk result
+            ((self.new.first ≡ Some (length body.now)) × (self.new.behind ≡ 0)) }
+        ensures kept { IsErr result → (self.new.first ≡ self.old.first)
+            × (self.new.behind ≡ self.old.behind) }
         ensures generation { OnOk result (self.new.generation ≡ self.old.generation + 1) }
         ensures version { OnOk result (self.new.version ≡ Two) }
         ensures spent { self.new.spent ≡ self.old.spent }
@@ -314,9 +367,11 @@ impl Log {
 // One body more: the length of the first, and that of those after it.
 pub(crate) fn counted(first: Option<u64>, behind: u64, more: u64) -> (Option<u64>, u64)
     requires { behind + more < 2 ^ 64 }
-    ensures counts { (bodies : List (List ℕ)) (body : List ℕ) → more ≡ length body → Counts first behind bodies
+    ensures counts { (bodies : List (List ℕ)) (body : List ℕ) → more ≡ length body
+        → Counts first behind bodies
         → Counts result.0 result.1 (bodies ++ body ∷ []) }
-    ensures exact { (result.0 ≡ first_with first more) × (result.1 ≡ behind_with first behind more) }
+    ensures exact { (result.0 ≡ first_with first more)
+        × (result.1 ≡ behind_with first behind more) }
     ensures within { result.1 ≤ behind + more }
 {
     match first {

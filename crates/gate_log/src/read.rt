@@ -23,10 +23,12 @@ pub(crate) fn read_slot<S: Site>(
     site: &mut S,
     slot: Slot,
 ) -> Result<Vec<u8>, LogFault>
-    ensures bytes { IfOk result (λ bytes. IfSome (S.reads site.old) (λ held. bytes.items ≡ at_slot slot held)) }
+    ensures bytes { IfOk result (λ bytes. IfSome (S.reads site.old)
+        (λ held. bytes.items ≡ at_slot slot held)) }
     ensures outside { OnlyLooks S.Site site.old site.new }
     ensures only { OnlySiteOrMemory result }
-    ensures cause { IsErrOf result LogFault.Site → HasRisen (S.slot_faults site.old) (S.slot_faults site.new) }
+    ensures cause { IsErrOf result LogFault.Site → HasRisen (S.slot_faults site.old)
+        (S.slot_faults site.new) }
 {
     let length = site.length(slot)?;
     let mut bytes = vec![in alloc; 0u8; length as usize]?;
@@ -40,7 +42,8 @@ pub(crate) fn head_of(bytes: &[u8]) -> Option<(u8, u64)>
     ensures head { IfSome result (λ head. bytes.now ≡ opened head.0 head.1 (drop 14 bytes.now)) }
     ensures long { IfSome result (λ head. 14 ≤ length bytes.now) }
     ensures range { IfSome result (λ head. head.1 < 2 ^ 64) }
-    ensures none { IfNone result ((version generation : ℕ) (rest : List ℕ) → ¬ (bytes.now ≡ opened version generation rest)) }
+    ensures none { IfNone result ((version generation : ℕ) (rest : List ℕ)
+        → ¬ (bytes.now ≡ opened version generation rest)) }
 {
     if bytes.len() < RECORDS {
         return None;
@@ -76,7 +79,8 @@ fn number_of(bytes: &[u8]) -> u64
 /// The record at the beginning, or none where its gate is closed.
 fn record_at(alloc: Global, rest: &[u8]) -> Result<Option<Vec<u8>>, LogFault>
     ensures record { IfOk result (λ found. BeginsRecord rest.now found) }
-    ensures broken { IsErrOf result LogFault.Broken → (bodies : List (List ℕ)) → ¬ BeginRecords bodies rest.now }
+    ensures broken { IsErrOf result LogFault.Broken → (bodies : List (List ℕ))
+        → ¬ BeginRecords bodies rest.now }
     ensures only { OnlyBroken result }
 {
     let Some((gate, tail)) = rest.split_first() else {
@@ -107,10 +111,13 @@ pub(crate) struct Records {
 
 /// The records after a head.
 pub(crate) fn records_of(alloc: Global, bytes: &[u8]) -> Result<Records, LogFault>
-    ensures records { IfOk result (λ found. EndsRecords bytes.now (bodies_of found.bodies.items) found.end) }
-    ensures counts { IfOk result (λ found. Counts found.first found.behind (bodies_of found.bodies.items)) }
+    ensures records { IfOk result (λ found. EndsRecords bytes.now (bodies_of found.bodies.items)
+        found.end) }
+    ensures counts { IfOk result (λ found. Counts found.first found.behind
+        (bodies_of found.bodies.items)) }
     ensures within { IfOk result (λ found. found.behind ≤ found.end) }
-    ensures broken { IsErrOf result LogFault.Broken → (bodies : List (List ℕ)) → ¬ BeginRecords bodies bytes.now }
+    ensures broken { IsErrOf result LogFault.Broken → (bodies : List (List ℕ))
+        → ¬ BeginRecords bodies bytes.now }
     ensures only { OnlyBroken result }
 {
     let mut bodies = Vec::new(alloc);

@@ -10,7 +10,8 @@ ghost use Rattle.gate_log.specs.Faults.{OnlyBroken, OnlyNoStore};
 ghost use Rattle.gate_log.specs.Layout.{opened, HasRecords};
 ghost use Rattle.site_io.specs.Outside.{OnlyLooks};
 ghost use Rattle.gate_log.specs.Reading.{bodies_of, AreHeads, IsNewer, IsOpened, IsSlotOfTwo};
-ghost use Rattle.gate_log.specs.Store.{other, number_of, HasBodies, HasBodiesTwo, IsBrokenStore, IsClosed, IsEmptyStore, IsOne, IsOpen, OtherRests};
+ghost use Rattle.gate_log.specs.Store.{other, number_of, HasBodies, HasBodiesTwo, IsBrokenStore, IsClosed};
+ghost use Rattle.gate_log.specs.Store.{IsEmptyStore, IsOne, IsOpen, OtherRests};
 ghost use Rattle.gate_log.specs.StoreOfLog.{RestsIn, StandsIn};
 ghost use Rattle.gate_log.specs.declared.version.Version.TheVariants.{One, Two};
 
@@ -30,21 +31,31 @@ impl Log {
     /// `Empty` where neither slot is open, and `Broken` where one is open and the slots represent no bodies. `Site`
     /// where the site failed, which its count tells, and `Memory` where there is no memory.
     pub fn resume<S: Site>(alloc: Global, site: &mut S) -> Result<(Log, Vec<Vec<u8>>), LogFault>
-        ensures bodies { IfOk result (λ found. IfSome (S.reads site.old) (λ held. RestsIn found.0 held (bodies_of found.1.items))) }
-        ensures store { IfOk result (λ found. IfSome (S.reads site.old) (λ held. HasBodies held (bodies_of found.1.items))) }
+        ensures bodies { IfOk result
+            (λ found. IfSome (S.reads site.old)
+            (λ held. RestsIn found.0 held (bodies_of found.1.items))) }
+        ensures store { IfOk result
+            (λ found. IfSome (S.reads site.old)
+            (λ held. HasBodies held (bodies_of found.1.items))) }
         ensures only { IfOk result (λ found. IfSome (S.reads site.old)
-            (λ held. (others : List (List ℕ)) → HasBodies held others → others ≡ bodies_of found.1.items)) }
-        ensures counts { IfOk result (λ found. Counts found.0.first found.0.behind (bodies_of found.1.items)) }
+            (λ held. (others : List (List ℕ)) → HasBodies held others → others
+            ≡ bodies_of found.1.items)) }
+        ensures counts { IfOk result
+            (λ found. Counts found.0.first found.0.behind (bodies_of found.1.items)) }
         ensures empty { IsErrOf result LogFault.Empty → IfSome (S.reads site.old) IsEmptyStore }
         ensures broken { IsErrOf result LogFault.Broken → IfSome (S.reads site.old) IsBrokenStore }
-        ensures complete { IfSome (S.reads site.old) (λ held. (bodies : List (List ℕ)) → HasBodies held bodies
+        ensures complete { IfSome (S.reads site.old)
+            (λ held. (bodies : List (List ℕ)) → HasBodies held bodies
             → ¬ IsErrOf result LogFault.Empty × ¬ IsErrOf result LogFault.Broken) }
-        ensures complete_empty { IfSome (S.reads site.old) (λ held. IsEmptyStore held → IsErr result × ¬ IsErrOf result LogFault.Broken) }
-        ensures stands { IfOk result (λ found. StandsIn found.0 (S.reads site.new) (S.now site.new) (S.left site.new)) }
+        ensures complete_empty { IfSome (S.reads site.old)
+            (λ held. IsEmptyStore held → IsErr result × ¬ IsErrOf result LogFault.Broken) }
+        ensures stands { IfOk result
+            (λ found. StandsIn found.0 (S.reads site.new) (S.now site.new) (S.left site.new)) }
         ensures unspent { IfOk result (λ found. found.0.spent ≡ false) }
         ensures faults { OnlyNoStore result }
         ensures outside { OnlyLooks S.Site site.old site.new }
-        ensures cause { IsErrOf result LogFault.Site → HasRisen (S.slot_faults site.old) (S.slot_faults site.new) }
+        ensures cause { IsErrOf result LogFault.Site → HasRisen (S.slot_faults site.old)
+            (S.slot_faults site.new) }
     {
         let mut a = [0u8; RECORDS];
         let in_a = read_full(site, Slot::A, 0, &mut a)?;
@@ -83,14 +94,17 @@ struct Live {
 // Which slot is live in a store of version 2, by what the slots begin with: the open one of the greater generation.
 fn live_of(a: &[u8], b: &[u8]) -> Result<Live, LogFault>
     ensures live { IfOk result (λ live. (images : Images) → AreHeads a.now b.now images
-        → OtherRests Two live.slot live.generation live.other_open (at_slot (other live.slot) images) × IsOpened (at_slot live.slot images) live.generation) }
+        → OtherRests Two live.slot live.generation live.other_open
+        (at_slot (other live.slot) images) × IsOpened (at_slot live.slot images)
+        live.generation) }
     ensures none { IfOk result (λ live. (images : Images) → AreHeads a.now b.now images
         → ((end : ℕ) (bodies : List (List ℕ)) → ¬ HasRecords
         (at_slot live.slot images) 2 live.generation end bodies) → (bodies : List (List ℕ))
         → ¬ HasBodiesTwo images bodies) }
     ensures empty { IsErrOf result LogFault.Empty → IsEmptyStore (images_of a.now b.now) }
     ensures full { ¬ IsErrOf result LogFault.Empty → ¬ IsEmptyStore (images_of a.now b.now) }
-    ensures broken { IsErrOf result LogFault.Broken → (images : Images) → AreHeads a.now b.now images
+    ensures broken { IsErrOf result LogFault.Broken → (images : Images)
+        → AreHeads a.now b.now images
         → (bodies : List (List ℕ)) → ¬ HasBodiesTwo images bodies }
     ensures range { IfOk result (λ live. (0 < live.generation) × (live.generation < 2 ^ 64)) }
     ensures faults { IsErr result → IsErrOf result LogFault.Empty ⊎ IsErrOf result LogFault.Broken }
@@ -118,7 +132,8 @@ fn live_of(a: &[u8], b: &[u8]) -> Result<Live, LogFault>
 
 // The newer of two open slots, by their generations.
 fn newer_of(in_a: u64, in_b: u64) -> Result<Live, LogFault>
-    ensures newer { IfOk result (λ live. (live.other_open ≡ true) × IsNewer live.slot live.generation in_a in_b) }
+    ensures newer { IfOk result (λ live. (live.other_open ≡ true)
+        × IsNewer live.slot live.generation in_a in_b) }
     ensures same { IsErr result → (in_a ≡ in_b) × IsErrOf result LogFault.Broken }
 {
     if in_a > in_b {
@@ -146,7 +161,8 @@ fn is_open(bytes: &[u8]) -> bool
 
 // The generation of an open slot of version 2, or none where the slot is closed.
 fn generation_of(bytes: &[u8]) -> Result<Option<u64>, LogFault>
-    ensures slot { IfOk result (λ found. MatchOption found (IsClosed bytes.now) (λ generation. IsOpened bytes.now generation)) }
+    ensures slot { IfOk result (λ found. MatchOption found (IsClosed bytes.now)
+        (λ generation. IsOpened bytes.now generation)) }
     ensures only { IsErr result → IsErrOf result LogFault.Broken }
     ensures broken { IsErr result → ¬ IsSlotOfTwo bytes.now }
 {
@@ -185,13 +201,16 @@ fn open<S: Site>(
     ensures records { IfOk result (λ found. IfSome (S.reads site.old)
         (λ held. HasRecords (at_slot live held) (number_of version) generation found.0.end
         (bodies_of found.1.items))) }
-    ensures counts { IfOk result (λ found. Counts found.0.first found.0.behind (bodies_of found.1.items)) }
+    ensures counts { IfOk result (λ found. Counts found.0.first found.0.behind
+        (bodies_of found.1.items)) }
     ensures log { IfOk result (λ found. (found.0.version ≡ version) × (found.0.live ≡ live)
         × (found.0.generation ≡ generation) × (found.0.other_open ≡ other_open)) }
     ensures unsettled { IfOk result (λ found. (found.0.settled ≡ false) × (found.0.spent ≡ false)) }
-    ensures only { ¬ IsErrOf result LogFault.Taken × ¬ IsErrOf result LogFault.Empty × ¬ IsErrOf result LogFault.Spent }
+    ensures only { ¬ IsErrOf result LogFault.Taken × ¬ IsErrOf result LogFault.Empty
+        × ¬ IsErrOf result LogFault.Spent }
     ensures outside { OnlyLooks S.Site site.old site.new }
-    ensures cause { IsErrOf result LogFault.Site → HasRisen (S.slot_faults site.old) (S.slot_faults site.new) }
+    ensures cause { IsErrOf result LogFault.Site → HasRisen (S.slot_faults site.old)
+        (S.slot_faults site.new) }
 {
     let bytes = read_slot(alloc, site, live)?;
     live_log(alloc, &bytes, version, live, generation, other_open)
@@ -208,9 +227,12 @@ fn live_log(
 ) -> Result<(Log, Vec<Vec<u8>>), LogFault>
     requires above { 0 < generation }
     requires first { version ≡ One → generation ≡ 1 }
-    ensures broken { IsErrOf result LogFault.Broken → (end : ℕ) (bodies : List (List ℕ)) → ¬ HasRecords bytes.now (number_of version) generation end bodies }
-    ensures records { IfOk result (λ found. HasRecords bytes.now (number_of version) generation found.0.end (bodies_of found.1.items)) }
-    ensures counts { IfOk result (λ found. Counts found.0.first found.0.behind (bodies_of found.1.items)) }
+    ensures broken { IsErrOf result LogFault.Broken → (end : ℕ) (bodies : List (List ℕ))
+        → ¬ HasRecords bytes.now (number_of version) generation end bodies }
+    ensures records { IfOk result (λ found. HasRecords bytes.now (number_of version) generation
+        found.0.end (bodies_of found.1.items)) }
+    ensures counts { IfOk result (λ found. Counts found.0.first found.0.behind
+        (bodies_of found.1.items)) }
     ensures log { IfOk result (λ found. (found.0.version ≡ version) × (found.0.live ≡ live)
         × (found.0.generation ≡ generation) × (found.0.other_open ≡ other_open)) }
     ensures unsettled { IfOk result (λ found. (found.0.settled ≡ false) × (found.0.spent ≡ false)) }
@@ -237,7 +259,8 @@ fn live_log(
 
 // Whether a slot is open, and of this version and generation.
 fn begins_with(bytes: &[u8], version: u8, generation: u64) -> bool
-    ensures head { MatchBool result ((bytes.now ≡ opened version generation (drop 14 bytes.now)) × (14 ≤ length bytes.now))
+    ensures head { MatchBool result ((bytes.now ≡ opened version generation (drop 14 bytes.now))
+        × (14 ≤ length bytes.now))
         ((rest : List ℕ) → ¬ (bytes.now ≡ opened version generation rest)) }
 {
     match head_of(bytes) {

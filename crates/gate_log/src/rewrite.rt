@@ -1,6 +1,7 @@
 //! Putting one body in the place of all, in the slot that isn't live.
 
-ghost use Rattle.std.specs.Prelude.{◌≡◌, ◌≤◌, ℕ, List, ◌+◌, ◌^◌, ◌<◌, ◌∷◌, [], ◌++◌, length, drop, IfSome, IfOk, OnOk, IsErr, MatchBool};
+ghost use Rattle.std.specs.Prelude.{◌≡◌, ◌≤◌, ℕ, List, ◌+◌, ◌^◌, ◌<◌, ◌∷◌, [], ◌++◌, length, drop, IfSome, IfOk};
+ghost use Rattle.std.specs.Prelude.{OnOk, IsErr, MatchBool};
 ghost use Rattle.site_io.specs.Counts.{HasRisen};
 ghost use Rattle.site_io.specs.Told.{BothTold, StaysTold};
 ghost use Rattle.site_io.specs.Disk.{GoesOn, LeavesSame, LeavesTorn};
@@ -82,15 +83,18 @@ pub(crate) fn headed(alloc: Global, generation: u64, bytes: Vec<u8>) -> Result<V
 /// The body in these bytes.
 pub(crate) fn body_in(whole: &[u8]) -> &[u8]
     requires { 23 ≤ length whole.now }
-    ensures { (generation : ℕ) (body : List ℕ) → whole.now ≡ snapshot generation body → result.now ≡ body }
+    ensures { (generation : ℕ) (body : List ℕ) → whole.now ≡ snapshot generation body → result.now
+        ≡ body }
 {
     &whole[ROOM..whole.len() - 1]
 }
 
 /// Closes the gate of a slot, where that is asked.
 fn close<S: Site>(site: &mut S, slot: Slot, asked: bool) -> Result<(), Failed>
-    ensures held { OnOk result (BothTold (S.reads site.old) (S.reads site.new) (Closes asked slot)) }
-    ensures images { MatchBool asked (LeavesTorn slot 0 1 (S.now site.old) (S.left site.old) (S.left site.new))
+    ensures held { OnOk result (BothTold (S.reads site.old) (S.reads site.new)
+        (Closes asked slot)) }
+    ensures images { MatchBool asked
+        (LeavesTorn slot 0 1 (S.now site.old) (S.left site.old) (S.left site.new))
         (LeavesSame (S.now site.old) (S.left site.old) (S.left site.new)) }
     ensures lasts { OnOk result (LastsWhole (S.reads site.old) (S.now site.old) (S.left site.old)
         → LastsWhole (S.reads site.new) (S.now site.new) (S.left site.new)) }
@@ -142,14 +146,18 @@ pub(crate) fn prepare<S: Site>(
     bytes: &[u8],
 ) -> Result<(), Failed>
     requires spelled { bytes.now ≡ snapshot (generation + 1) body.now }
-    requires rests { IfSome (S.reads site.old) (λ held. (end : ℕ) × (bodies : List (List ℕ)) × Rests version live generation end other_open held bodies) }
+    requires rests { IfSome (S.reads site.old) (λ held. (end : ℕ) × (bodies : List (List ℕ))
+        × Rests version live generation end other_open held bodies) }
     requires lasts { LastsWhole (S.reads site.old) (S.now site.old) (S.left site.old) }
     ensures prepared { OnOk result (BothTold (S.reads site.old) (S.reads site.new) (λ before after.
-        (end : ℕ) (bodies : List (List ℕ)) → Rests version live generation end other_open before bodies
+        (end : ℕ) (bodies : List (List ℕ)) → Rests version live generation end other_open before
+        bodies
         → Prepared version live generation end after bodies body.now)) }
     ensures any_moment { IfSome (S.reads site.old) (λ held.
-        (end : ℕ) (bodies : List (List ℕ)) → Rests version live generation end other_open held bodies
-        → Leaves (S.now site.old) (S.now site.new) (S.left site.old) (S.left site.new) (λ images. HasBodies images bodies)) }
+        (end : ℕ) (bodies : List (List ℕ)) → Rests version live generation end other_open held
+        bodies
+        → Leaves (S.now site.old) (S.now site.new) (S.left site.old) (S.left site.new)
+        (λ images. HasBodies images bodies)) }
     ensures lasts { OnOk result (LastsWhole (S.reads site.new) (S.now site.new) (S.left site.new)) }
     ensures small { OnOk result (length body.now < 2 ^ 63) }
     ensures outside { TouchesSlots S.Site site.old site.new }
@@ -173,11 +181,15 @@ pub(crate) fn switch<S: Site>(
     requires small { length body.now < 2 ^ 63 }
     requires lasts { LastsWhole (S.reads site.old) (S.now site.old) (S.left site.old) }
     ensures switched { OnOk result (BothTold (S.reads site.old) (S.reads site.new) (λ before after.
-        (end : ℕ) (bodies : List (List ℕ)) → Prepared version live generation end before bodies body.now
-        → Rests Two (other live) (generation + 1) (snapshot_end body.now) (is_two version) after (body.now ∷ []))) }
+        (end : ℕ) (bodies : List (List ℕ)) → Prepared version live generation end before bodies
+        body.now
+        → Rests Two (other live) (generation + 1) (snapshot_end body.now) (is_two version) after
+        (body.now ∷ []))) }
     ensures any_moment { IfSome (S.reads site.old) (λ held.
-        (end : ℕ) (bodies : List (List ℕ)) → Prepared version live generation end held bodies body.now
-        → Leaves (S.now site.old) (S.now site.new) (S.left site.old) (S.left site.new) (OldOrWhole bodies body.now)) }
+        (end : ℕ) (bodies : List (List ℕ)) → Prepared version live generation end held bodies
+        body.now
+        → Leaves (S.now site.old) (S.now site.new) (S.left site.old) (S.left site.new)
+        (OldOrWhole bodies body.now)) }
     ensures lasts { OnOk result (LastsWhole (S.reads site.new) (S.now site.new) (S.left site.new)) }
     ensures outside { TouchesSlots S.Site site.old site.new }
     ensures cause { IsErr result → HasRisen (S.slot_faults site.old) (S.slot_faults site.new) }

@@ -48,7 +48,8 @@ impl Index {
 
     /// The entry of this parent was taken off at this offset.
     pub fn take_off(&mut self, offset: usize, parent: u32)
-        ensures { (queue : List Entry) → is_pending parent queue ≡ false → AreKnownIf self.old.numbers queue → AreKnownIf self.new.numbers queue }
+        ensures { (queue : List Entry) → is_pending parent queue ≡ false
+            → AreKnownIf self.old.numbers queue → AreKnownIf self.new.numbers queue }
     {
         let Some(numbers) = self.numbers.take() else {
             return;
@@ -59,7 +60,8 @@ impl Index {
 
     /// A parent is put last.
     pub fn put_last(&mut self, parent: u32)
-        ensures { (queue : List Entry) (entry : Entry) → entry.parent ≡ parent → AreKnownIf self.old.numbers queue
+        ensures { (queue : List Entry) (entry : Entry) → entry.parent ≡ parent
+            → AreKnownIf self.old.numbers queue
             → AreKnownIf self.new.numbers (queue ++ entry ∷ []) }
     {
         let Some(numbers) = self.numbers.take() else {
@@ -96,7 +98,8 @@ fn with_number(
     parent: u32,
     number: u64,
 ) -> Option<HashMap<u32, u64>>
-    ensures { (queue : List Entry) (entry : Entry) → entry.parent ≡ parent → AreKnown numbers queue → AreKnownIf result (queue ++ entry ∷ []) }
+    ensures { (queue : List Entry) (entry : Entry) → entry.parent ≡ parent → AreKnown numbers queue
+        → AreKnownIf result (queue ++ entry ∷ []) }
 {
     if in_order.push_back(number).is_err() {
         return None;
@@ -109,7 +112,8 @@ fn with_number(
 
 // The numbers without that of this parent.
 fn without_number(mut numbers: HashMap<u32, u64>, parent: u32) -> HashMap<u32, u64>
-    ensures { (queue : List Entry) → is_pending parent queue ≡ false → AreKnown numbers queue → AreKnown result queue }
+    ensures { (queue : List Entry) → is_pending parent queue ≡ false → AreKnown numbers queue
+        → AreKnown result queue }
 {
     let _number = numbers.remove(&parent);
     numbers

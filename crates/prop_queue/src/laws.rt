@@ -6,8 +6,11 @@ ghost use Rattle.prop_queue.specs.Pending.{AreDistinct, marked, advanced, withou
 
 /// Whatever is done to the list, no parent is pending twice.
 pub fn parents_stay_distinct()
-    ensures marking { (queue : List Entry) (parent : ℕ) → AreDistinct queue → AreDistinct (marked parent queue) }
-    ensures advancing { (queue : List Entry) (child : ℕ) → AreDistinct queue → AreDistinct (advanced child queue) }
+    ensures marking { (queue : List Entry) (parent : ℕ) → AreDistinct queue
+        → AreDistinct (marked parent queue) }
+    ensures advancing { (queue : List Entry) (child : ℕ) → AreDistinct queue
+        → AreDistinct (advanced child queue) }
     ensures dropping { (queue : List Entry) → AreDistinct queue → AreDistinct (drop 1 queue) }
-    ensures removing { (queue : List Entry) (parent : ℕ) → AreDistinct queue → AreDistinct (without parent queue) }
+    ensures removing { (queue : List Entry) (parent : ℕ) → AreDistinct queue
+        → AreDistinct (without parent queue) }
 {}

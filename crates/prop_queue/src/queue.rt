@@ -1,7 +1,8 @@
 //! The pending list, and what each call makes of it.
 
 ghost use Rattle.std.specs.Option.{ForSome};
-ghost use Rattle.std.specs.Prelude.{◌≡◌, ◌<◌, ◌==◌, ◌++◌, ◌∷◌, ℕ, true, false, [], List, length, drop, slice_get, IsOk, OnOk, OnErr};
+ghost use Rattle.std.specs.Prelude.{◌≡◌, ◌<◌, ◌==◌, ◌++◌, ◌∷◌, ℕ, true, false, [], List, length, drop, slice_get};
+ghost use Rattle.std.specs.Prelude.{IsOk, OnOk, OnErr};
 ghost use Rattle.prop_queue.specs.Pending.{is_pending, AreDistinct, from_the_start, marked, advanced, without};
 ghost use Rattle.prop_queue.specs.Places.{StandsAt};
 
@@ -28,7 +29,8 @@ impl Model for Queue {
 
     ghost view = { λ queue. queue.entries.items };
 
-    ghost invariant = { λ queue. AreDistinct queue.entries.items × AreKnownIf queue.index.numbers queue.entries.items };
+    ghost invariant = { λ queue. AreDistinct queue.entries.items × AreKnownIf queue.index.numbers
+        queue.entries.items };
 }
 
 impl Queue {
@@ -90,8 +92,8 @@ impl Queue {
     ///
     /// # Errors
     ///
-    /// Memory ran out, and the queue stays as it was. Where the parent is pending no memory is taken, and none can run
-    /// out.
+    /// Memory ran out, and the queue stays as it was. Where the parent is pending no memory is taken, and none can
+    /// run out.
     pub fn mark(&mut self, parent: u32) -> Result<(), AllocError>
         ensures ok { OnOk result (self.new ≡ marked parent self.old) }
         ensures err { OnErr result (self.new ≡ self.old) }
@@ -139,7 +141,8 @@ impl Queue {
 
 // Sets the cursor at the place of the parent to 0.
 fn start_again(entries: &mut VecDeque<Pending>, place: usize)
-    ensures { (parent : ℕ) → StandsAt parent place entries.old.items → entries.new.items ≡ marked parent entries.old.items }
+    ensures { (parent : ℕ) → StandsAt parent place entries.old.items → entries.new.items
+        ≡ marked parent entries.old.items }
 {
     if let Some(entry) = entries.get_mut(place) {
         entry.cursor = 0;
@@ -176,7 +179,8 @@ fn take_head(entries: &mut VecDeque<Pending>) -> u32
 
 // Takes out the entry at the place of the parent.
 fn take_out(entries: &mut VecDeque<Pending>, place: usize)
-    ensures { (parent : ℕ) → StandsAt parent place entries.old.items → AreDistinct entries.old.items → entries.new.items ≡ without parent entries.old.items }
+    ensures { (parent : ℕ) → StandsAt parent place entries.old.items → AreDistinct entries.old.items
+        → entries.new.items ≡ without parent entries.old.items }
 {
     let _entry = entries.remove(place);
 }

@@ -8,21 +8,24 @@ use Rattle.row_store.specs.declared.row.Row.{Row}
 use Rattle.row_store.specs.Row.{what_byte, SpellsBody, SpellsRow, SpellsBatch, body_size, rows_size, batch_size}
 
 -- a number of eight bytes and what follows it
-number_then : (n m : ℕ) (Follows : List ℕ → Type 0) (text : List ℕ) (s : StartsWith (SpellsBe 8) n Follows text) → length s.behind ≡ m → length text ≡ 8 + m
+number_then : (n m : ℕ) (Follows : List ℕ → Type 0) (text : List ℕ) (s : StartsWith (SpellsBe 8) n Follows text)
+    → length s.behind ≡ m → length text ≡ 8 + m
 number_then n m Follows text s rest =
     let eight : length s.front ≡ 8 = ap length s.spelled.1 ∙ length-be_bytes 8 n in
     let both : length text ≡ length s.front + length s.behind = ap length s.parts ∙ length-append s.front s.behind in
     omega (arith, eight, both, rest)
 
 -- a byte and what follows it
-byte_then : (b m : ℕ) (Follows : List ℕ → Type 0) (text : List ℕ) (s : StartsWith SpellsByte b Follows text) → length s.behind ≡ m → length text ≡ 1 + m
+byte_then : (b m : ℕ) (Follows : List ℕ → Type 0) (text : List ℕ) (s : StartsWith SpellsByte b Follows text)
+    → length s.behind ≡ m → length text ≡ 1 + m
 byte_then b m Follows text s rest =
     let one : length s.front ≡ 1 = ap length s.spelled.1 in
     let both : length text ≡ length s.front + length s.behind = ap length s.parts ∙ length-append s.front s.behind in
     omega (arith, one, both, rest)
 
 body_long : (body : Option (List ℕ)) (text : List ℕ) → SpellsBody body text → length text ≡ body_size body
-body_long (Some body) text s = number_then (length body) (length body) (λ rest. rest ≡ body) text s (ap length s.follows)
+body_long (Some body) text s = number_then (length body) (length body) (λ rest. rest ≡ body) text s
+    (ap length s.follows)
 body_long None text s = ap length s
 
 row_long : (row : Row) (text : List ℕ) → SpellsRow row text → length text ≡ 10 + body_size row.body
@@ -30,10 +33,13 @@ row_long row text s =
     let k = s.follows in
     let n = k.follows in
     let body : length n.behind ≡ body_size row.body = body_long row.body n.behind n.follows in
-    let number : length k.behind ≡ 8 + body_size row.body = number_then row.number (body_size row.body) (SpellsBody row.body) k.behind n body in
-    let kind : length s.behind ≡ 1 + (8 + body_size row.body) = byte_then row.kind (8 + body_size row.body) (StartsWith (SpellsBe 8) row.number (SpellsBody row.body)) s.behind k number in
+    let number : length k.behind ≡ 8 + body_size row.body = number_then row.number (body_size row.body)
+    (SpellsBody row.body) k.behind n body in
+    let kind : length s.behind ≡ 1 + (8 + body_size row.body) = byte_then row.kind (8 + body_size row.body)
+    (StartsWith (SpellsBe 8) row.number (SpellsBody row.body)) s.behind k number in
     let all : length text ≡ 1 + (1 + (8 + body_size row.body)) =
-    byte_then (what_byte row.body) (1 + (8 + body_size row.body)) (StartsWith SpellsByte row.kind (StartsWith (SpellsBe 8) row.number (SpellsBody row.body))) text s kind in
+    byte_then (what_byte row.body) (1 + (8 + body_size row.body))
+    (StartsWith SpellsByte row.kind (StartsWith (SpellsBe 8) row.number (SpellsBody row.body))) text s kind in
     omega (arith, all)
 
 pub rows_long : (rows : List Row) (text : List ℕ) → SpellsEach SpellsRow rows text → length text ≡ rows_size rows
@@ -45,4 +51,5 @@ rows_long (row ∷ rows) text s =
     omega (arith, one, rest, both)
 
 pub batch_long : (rows : List Row) (text : List ℕ) → SpellsBatch rows text → length text ≡ batch_size rows
-batch_long rows text s = number_then (length rows) (rows_size rows) (SpellsEach SpellsRow rows) text s (rows_long rows s.behind s.follows)
+batch_long rows text s = number_then (length rows) (rows_size rows) (SpellsEach SpellsRow rows) text s
+    (rows_long rows s.behind s.follows)

@@ -16,7 +16,8 @@ SpellsBody None text = text ≡ []
 
 -- what is done, the kind, the number, and the body
 abbrev pub SpellsRow : Row → List ℕ → Type 0
-SpellsRow row text = StartsWith SpellsByte (what_byte row.body) (StartsWith SpellsByte row.kind (StartsWith (SpellsBe 8) row.number (SpellsBody row.body))) text
+SpellsRow row text = StartsWith SpellsByte (what_byte row.body)
+    (StartsWith SpellsByte row.kind (StartsWith (SpellsBe 8) row.number (SpellsBody row.body))) text
 
 -- how many rows there are, and the rows
 abbrev pub SpellsBatch : List Row → List ℕ → Type 0

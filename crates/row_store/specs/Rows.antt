@@ -50,7 +50,8 @@ pub record EndsWith (store : Store) (held : Images) (long : ℕ) : Type 0 where
   pub rests : RestsIn store.log held (bodies ++ body ∷ [])
   pub is : length body ≡ long
 
--- The bodies after the first are more than 1,048,576 bytes and more than the first, and the generation can still rise.
+-- The bodies after the first are more than 1,048,576 bytes and more than the first, and the generation can still
+-- rise.
 pub record WantsSnapshot (first : Option ℕ) (behind generation : ℕ) : Type 0 where
   pub long : 1048576 < behind
   pub longer : unwrap_or first 0 < behind

@@ -1,5 +1,6 @@
 -- The rows that are left after rows in order: of each kind and number the last one counts.
-use Rattle.std.specs.Prelude.{◌≡◌, ◌⊎◌, ◌<◌, ℕ, ◌==◌, ◌&&◌, Bool, List, [], ◌∷◌, ◌++◌, Option, None, IsSome, if◌then◌else◌}
+use Rattle.std.specs.Prelude.{◌≡◌, ◌⊎◌, ◌<◌, ℕ, ◌==◌, ◌&&◌, Bool, List, [], ◌∷◌, ◌++◌, Option, None, IsSome}
+use Rattle.std.specs.Prelude.{if◌then◌else◌}
 use Rattle.row_store.specs.declared.row.Row.{Row}
 
 -- what stands at each kind and number
@@ -16,7 +17,8 @@ is_of kind number row = (row.kind == kind) && (row.number == number)
 -- what stands there after rows, where this stood before
 abbrev pub after_rows : List Row → ℕ → ℕ → Option (List ℕ) → Option (List ℕ)
 after_rows [] kind number before = before
-after_rows (row ∷ rows) kind number before = after_rows rows kind number (if is_of kind number row then row.body else before)
+after_rows (row ∷ rows) kind number before = after_rows rows kind number
+    (if is_of kind number row then row.body else before)
 
 -- the table after rows, from another one on
 abbrev pub with_rows : Table → List Row → Table

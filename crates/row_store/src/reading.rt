@@ -78,7 +78,8 @@ fn row(alloc: Global, input: &mut Input<'_>) -> Result<Row, RowFault>
 
 // So many rows.
 fn rows(alloc: Global, input: &mut Input<'_>, count: u64) -> Result<Vec<Row>, RowFault>
-    ensures { ReadsUnless is_memory (λ rows. rows.items) result input.new (many_at row_at count input.old) }
+    ensures { ReadsUnless is_memory (λ rows. rows.items) result input.new
+        (many_at row_at count input.old) }
 {
     let mut rows = Vec::new(alloc);
     for _ in 0..count {
@@ -104,8 +105,10 @@ fn batch(alloc: Global, input: &mut Input<'_>) -> Result<Vec<Row>, RowFault>
 /// The rows of a body that is a batch.
 pub(crate) fn read_batch(alloc: Global, body: &[u8]) -> Result<Vec<Row>, RowFault>
     ensures found { IfOk result (λ rows. SpellsBatch rows.items body.now) }
-    ensures only { IfOk result (λ rows. (others : List RowValue) → SpellsBatch others body.now → others ≡ rows.items) }
-    ensures none { IsErrOf result RowFault.Bad → (rows : List RowValue) → ¬ SpellsBatch rows body.now }
+    ensures only { IfOk result (λ rows. (others : List RowValue) → SpellsBatch others body.now
+        → others ≡ rows.items) }
+    ensures none { IsErrOf result RowFault.Bad → (rows : List RowValue)
+        → ¬ SpellsBatch rows body.now }
 {
     let mut input = Input::new(body);
     batch(alloc, &mut input)

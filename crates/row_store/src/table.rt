@@ -5,7 +5,8 @@ ghost use Rattle.gate_log.specs.Reading.{bodies_of};
 ghost use Rattle.row_store.specs.declared.row.Row.{Row as RowValue};
 ghost use Rattle.row_store.specs.Left.{rows_of, table_in};
 ghost use Rattle.row_store.specs.Row.{SpellBatches};
-ghost use Rattle.row_store.specs.Table.{Table, SameTable, after_rows, all_rows, empty_table, is_of, table_of, with_rows, AreListed};
+ghost use Rattle.row_store.specs.Table.{Table, SameTable, after_rows, all_rows, empty_table, is_of, table_of};
+ghost use Rattle.row_store.specs.Table.{with_rows, AreListed};
 
 use crate::fault::StoreFault;
 use crate::reading::read_batch;
@@ -19,7 +20,8 @@ type Left = BTreeMap<(u8, u64), Bytes>;
 
 // A body at a kind and a number.
 fn put(left: &mut Left, kind: u8, number: u64, body: Bytes) -> Result<(), StoreFault>
-    ensures left { OnOk result ((k n : ℕ) → table_in left.new k n ≡ (if (kind == k) && (number == n) then Some body else table_in left.old k n)) }
+    ensures left { OnOk result ((k n : ℕ) → table_in left.new k n
+        ≡ (if (kind == k) && (number == n) then Some body else table_in left.old k n)) }
     ensures fault { IsErr result → IsErrOf result StoreFault.Memory }
 {
     left.insert((kind, number), body)?;
@@ -28,7 +30,8 @@ fn put(left: &mut Left, kind: u8, number: u64, body: Bytes) -> Result<(), StoreF
 
 // Nothing there any more.
 fn remove(left: &mut Left, kind: u8, number: u64)
-    ensures left { (k n : ℕ) → table_in left.new k n ≡ (if (kind == k) && (number == n) then None else table_in left.old k n) }
+    ensures left { (k n : ℕ) → table_in left.new k n
+        ≡ (if (kind == k) && (number == n) then None else table_in left.old k n) }
 {
     left.remove(&(kind, number));
 }
@@ -51,7 +54,8 @@ fn take_row(left: &mut Left, row: Row) -> Result<(), StoreFault>
 
 // The rows of a batch more, in order.
 fn take_rows(left: &mut Left, rows: Vec<Row>) -> Result<(), StoreFault>
-    ensures left { OnOk result (SameTable (with_rows (table_in left.old) rows.items) (table_in left.new)) }
+    ensures left { OnOk result (SameTable (with_rows (table_in left.old) rows.items)
+        (table_in left.new)) }
     ensures fault { IsErr result → IsErrOf result StoreFault.Memory }
 {
     for row in rows {
@@ -63,9 +67,12 @@ fn take_rows(left: &mut Left, rows: Vec<Row>) -> Result<(), StoreFault>
 /// What is left after bodies that are batches.
 pub(crate) fn left_by(alloc: Global, bodies: &[Vec<u8>]) -> Result<Left, StoreFault>
     ensures left { IfOk result (λ left. (batches : List (List RowValue))
-        × SpellBatches batches (bodies_of bodies.now) × SameTable (table_of (all_rows batches)) (table_in left)) }
-    ensures broken { IsErrOf result StoreFault.Broken → (batches : List (List RowValue)) → ¬ SpellBatches batches (bodies_of bodies.now) }
-    ensures faults { IsErr result → IsErrOf result StoreFault.Broken ⊎ IsErrOf result StoreFault.Memory }
+        × SpellBatches batches (bodies_of bodies.now) × SameTable (table_of (all_rows batches))
+        (table_in left)) }
+    ensures broken { IsErrOf result StoreFault.Broken → (batches : List (List RowValue))
+        → ¬ SpellBatches batches (bodies_of bodies.now) }
+    ensures faults { IsErr result → IsErrOf result StoreFault.Broken
+        ⊎ IsErrOf result StoreFault.Memory }
 {
     let mut left = BTreeMap::new(alloc);
     for body in bodies {

@@ -26,7 +26,8 @@ fn put_number(into: &mut Vec<u8>, number: u64) -> Result<(), AllocError>
 
 /// One row more.
 pub(crate) fn put_row(into: &mut Vec<u8>, row: &Row) -> Result<(), AllocError>
-    ensures { OnOk result ((text : List ℕ) × SpellsRow row.now text × (into.new.items ≡ into.old.items ++ text)) }
+    ensures { OnOk result ((text : List ℕ) × SpellsRow row.now text
+        × (into.new.items ≡ into.old.items ++ text)) }
 {
     match &row.body {
         Some(body) => put_body(into, row.kind, row.number, body),

@@ -1,5 +1,6 @@
 -- The holes of a region: the blocks below its end that are no live extent's.
-use Rattle.std.specs.Prelude.{◌≡◌, ℕ, zero, suc, ◌+◌, ◌-◌, ◌<◌, ◌≤◌, nat_le, nat_lt, Bool, true, false, not, ◌==◌, ◌&&◌, ◌||◌, if◌then◌else◌, List, [], ◌∷◌}
+use Rattle.std.specs.Prelude.{◌≡◌, ℕ, zero, suc, ◌+◌, ◌-◌, ◌<◌, ◌≤◌, nat_le, nat_lt, Bool, true, false, not, ◌==◌}
+use Rattle.std.specs.Prelude.{◌&&◌, ◌||◌, if◌then◌else◌, List, [], ◌∷◌}
 use Rattle.std.specs.List.{list_any}
 use Rattle.sd_pool.specs.declared.holes.Hole.{Hole}
 use Rattle.sd_pool.specs.Blocks.{Extent, covered}
@@ -13,7 +14,8 @@ in_holes holes block = list_any (is_in block) holes
 -- The holes stand by rising block, from the least one on, end within the region, and no two of them touch.
 abbrev pub AreParted : ℕ → ℕ → List Hole → Type 0
 AreParted least blocks [] = Unit {0}
-AreParted least blocks (hole ∷ holes) = (least ≤ hole.block) × (hole.block < hole.end) × (hole.end ≤ blocks) × AreParted (hole.end + 1) blocks holes
+AreParted least blocks (hole ∷ holes) = (least ≤ hole.block) × (hole.block < hole.end) × (hole.end ≤ blocks)
+    × AreParted (hole.end + 1) blocks holes
 
 -- each block of the region is in a hole or in a live extent
 pub record AreHoles (holes : List Hole) (live : List Extent) (blocks : ℕ) : Type 0 where
@@ -33,11 +35,13 @@ fit blocks count (hole ∷ holes) = if suits blocks count hole then hole.block e
 
 -- what is left of a hole
 abbrev pub less : ℕ → Hole → List Hole → List Hole
-less count hole holes = if nat_lt count (hole.end - hole.block) then record { block = hole.block + count; end = hole.end } ∷ holes else holes
+less count hole holes = if nat_lt count (hole.end - hole.block)
+    then record { block = hole.block + count; end = hole.end } ∷ holes else holes
 
 unfoldable pub taken : ℕ → ℕ → List Hole → List Hole
 taken blocks count [] = []
-taken blocks count (hole ∷ holes) = if suits blocks count hole then less count hole holes else hole ∷ taken blocks count holes
+taken blocks count (hole ∷ holes) = if suits blocks count hole then less count hole holes else hole
+    ∷ taken blocks count holes
 
 -- ---- giving back
 
@@ -66,7 +70,8 @@ joined_to end (hole ∷ holes) = joined hole.block end holes
 unfoldable pub given : ℕ → ℕ → List Hole → List Hole
 given block end [] = joined block end []
 given block end (hole ∷ holes) =
-    if nat_le block hole.end then (if hole.end == block then joined hole.block end holes else joined block end (hole ∷ holes))
+    if nat_le block hole.end then (if hole.end == block then joined hole.block end holes
+    else joined block end (hole ∷ holes))
     else hole ∷ given block end holes
 
 -- so many holes from the first on end before the block, and the next one doesn't

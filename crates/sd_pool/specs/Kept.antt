@@ -51,7 +51,8 @@ FindsHolder region slots bytes (Some id) = IsHeldAt region slots bytes id
 -- it has them, or none has and this is their hash
 abbrev pub FindsOrHashes : List ℕ → List Slot → List ℕ → Result ℕ ℕ → Type 0
 FindsOrHashes region slots bytes (Ok id) = IsHeldAt region slots bytes id
-FindsOrHashes region slots bytes (Err number) = (with_bytes (live_from 0 region slots) bytes ≡ None) × (number ≡ hash bytes)
+FindsOrHashes region slots bytes (Err number) = (with_bytes (live_from 0 region slots) bytes ≡ None)
+    × (number ≡ hash bytes)
 
 -- all before the id are used, and it isn't, or is that of no slot
 pub record FirstUnused (slots : List Slot) (id : ℕ) : Type 0 where

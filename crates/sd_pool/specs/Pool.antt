@@ -38,18 +38,21 @@ pub record IsLeastFree (live : List Extent) (id : ℕ) : Type 0 where
 -- an extent where its id belongs
 unfoldable pub inserted : Extent → List Extent → List Extent
 inserted extent [] = extent ∷ []
-inserted extent (other ∷ others) = if nat_lt extent.id other.id then extent ∷ other ∷ others else other ∷ inserted extent others
+inserted extent (other ∷ others) = if nat_lt extent.id other.id then extent ∷ other ∷ others else other
+    ∷ inserted extent others
 
 -- one sharer more
 unfoldable pub shared : ℕ → List Extent → List Extent
 shared id [] = []
-shared id (extent ∷ others) = if extent.id == id then record extent { sharers = extent.sharers + 1 } ∷ others else extent ∷ shared id others
+shared id (extent ∷ others) = if extent.id == id then record extent { sharers = extent.sharers + 1 } ∷ others
+    else extent ∷ shared id others
 
 -- one sharer less; with the last the id goes
 unfoldable pub given_back : ℕ → List Extent → List Extent
 given_back id [] = []
 given_back id (extent ∷ others) =
-    if extent.id == id then (if extent.sharers == 1 then others else record extent { sharers = extent.sharers - 1 } ∷ others)
+    if extent.id == id then (if extent.sharers == 1 then others else record extent { sharers = extent.sharers - 1 }
+    ∷ others)
     else extent ∷ given_back id others
 
 abbrev pub with_live : List Extent → Pool → Pool
@@ -79,7 +82,8 @@ AreDistinct (extent ∷ others) = (with_bytes others extent.bytes ≡ None) × A
 abbrev pub RiseFrom : ℕ → ℕ → List Extent → Type 0
 RiseFrom id blocks [] = Unit {0}
 RiseFrom id blocks (extent ∷ others) =
-    (id ≤ extent.id) × (0 < extent.sharers) × (extent.block + blocks_for (length extent.bytes) ≤ blocks) × RiseFrom (extent.id + 1) blocks others
+    (id ≤ extent.id) × (0 < extent.sharers) × (extent.block + blocks_for (length extent.bytes) ≤ blocks)
+    × RiseFrom (extent.id + 1) blocks others
 
 pub record IsPool (pool : Pool) : Type 0 where
   pub rise : RiseFrom 0 pool.blocks pool.live

@@ -1,5 +1,6 @@
 -- The slots of ids, and what a region and slots represent.
-use Rattle.std.specs.Prelude.{◌≡◌, ℕ, zero, suc, ◌+◌, ◌*◌, ◌≤◌, true, Bool, not, ◌==◌, if◌then◌else◌, List, [], ◌∷◌, take, drop}
+use Rattle.std.specs.Prelude.{◌≡◌, ℕ, zero, suc, ◌+◌, ◌*◌, ◌≤◌, true, Bool, not, ◌==◌, if◌then◌else◌, List, [], ◌∷◌}
+use Rattle.std.specs.Prelude.{take, drop}
 use Rattle.sd_pool.specs.declared.slot.Slot.{Slot}
 use Rattle.sd_pool.specs.Blocks.{blocks_for, Extent}
 
@@ -42,4 +43,5 @@ dropped id (extent ∷ others) = if extent.id == id then others else extent ∷ 
 
 unfoldable pub with_sharers : ℕ → ℕ → List Extent → List Extent
 with_sharers id sharers [] = []
-with_sharers id sharers (extent ∷ others) = if extent.id == id then record extent { sharers = sharers } ∷ others else extent ∷ with_sharers id sharers others
+with_sharers id sharers (extent ∷ others) = if extent.id == id then record extent { sharers = sharers } ∷ others
+    else extent ∷ with_sharers id sharers others

@@ -1,6 +1,7 @@
 //! The blocks of the region that no live bytes take: holes, by rising block, no two of which touch.
 
-ghost use Rattle.std.specs.Prelude.{◌≡◌, ℕ, ◌+◌, ◌-◌, ◌<◌, ◌≤◌, nat_le, ◌++◌, [], true, false, List, length, take, drop};
+ghost use Rattle.std.specs.Prelude.{◌≡◌, ℕ, ◌+◌, ◌-◌, ◌<◌, ◌≤◌, nat_le, ◌++◌, [], true, false, List, length, take};
+ghost use Rattle.std.specs.Prelude.{drop};
 ghost use Rattle.std.specs.Vec.{vec_capacity};
 ghost use Rattle.sd_pool.specs.Holes.{EndBefore, suits, fit, taken, joined, joined_to, given, begins, ends};
 ghost use Rattle.std.specs.List.{position_from};
@@ -31,7 +32,8 @@ fn position_of_fit(holes: &[Hole], blocks: usize, count: usize) -> Option<usize>
 /// The block where the hole at the place begins, else the end of the region.
 pub(crate) fn block_at(holes: &[Hole], place: Option<usize>, blocks: usize) -> usize
     requires { PlaceWithin place holes.now }
-    ensures { (count : ℕ) → FirstPasses (suits blocks count) place holes.now → result ≡ fit blocks count holes.now }
+    ensures { (count : ℕ) → FirstPasses (suits blocks count) place holes.now → result
+        ≡ fit blocks count holes.now }
 {
     match place {
         Some(place) => holes[place].block,
@@ -42,7 +44,8 @@ pub(crate) fn block_at(holes: &[Hole], place: Option<usize>, blocks: usize) -> u
 /// Takes so many blocks from the hole at the place, or all that it has, and where there is no place none.
 pub(crate) fn take(holes: &mut Vec<Hole>, place: Option<usize>, count: usize)
     requires { PlaceWithin place holes.old.items }
-    ensures taken { (blocks : ℕ) → FirstPasses (suits blocks count) place holes.old.items → holes.new.items ≡ taken blocks count holes.old.items }
+    ensures taken { (blocks : ℕ) → FirstPasses (suits blocks count) place holes.old.items
+        → holes.new.items ≡ taken blocks count holes.old.items }
     ensures capacity { vec_capacity holes.new ≡ vec_capacity holes.old }
     ensures len { length holes.new.items ≤ length holes.old.items }
 {
@@ -54,7 +57,8 @@ pub(crate) fn take(holes: &mut Vec<Hole>, place: Option<usize>, count: usize)
 // Takes so many blocks from the hole at the place, or all that it has.
 fn take_at(holes: &mut Vec<Hole>, place: usize, count: usize)
     requires { place < length holes.old.items }
-    ensures taken { (blocks : ℕ) → IsFirst (suits blocks count) place holes.old.items → holes.new.items ≡ taken blocks count holes.old.items }
+    ensures taken { (blocks : ℕ) → IsFirst (suits blocks count) place holes.old.items
+        → holes.new.items ≡ taken blocks count holes.old.items }
     ensures capacity { vec_capacity holes.new ≡ vec_capacity holes.old }
     ensures len { length holes.new.items ≤ length holes.old.items }
 {
@@ -125,7 +129,8 @@ fn ends_at(holes: &[Hole], place: usize, block: usize) -> bool
 // The hole at the place goes on up to this end, and takes in the next one where they touch.
 fn join_at(holes: &mut Vec<Hole>, place: usize, end: usize)
     requires { place < length holes.old.items }
-    ensures joined { holes.new.items ≡ take place holes.old.items ++ joined_to end (drop place holes.old.items) }
+    ensures joined { holes.new.items ≡ take place holes.old.items
+        ++ joined_to end (drop place holes.old.items) }
     ensures capacity { vec_capacity holes.new ≡ vec_capacity holes.old }
     ensures len { length holes.new.items ≤ length holes.old.items }
 {
@@ -141,7 +146,8 @@ fn join_at(holes: &mut Vec<Hole>, place: usize, end: usize)
 fn put_at(holes: &mut Vec<Hole>, place: usize, block: usize, end: usize)
     requires within { place ≤ length holes.old.items }
     requires room { length holes.old.items < vec_capacity holes.old }
-    ensures joined { holes.new.items ≡ take place holes.old.items ++ joined block end (drop place holes.old.items) }
+    ensures joined { holes.new.items ≡ take place holes.old.items
+        ++ joined block end (drop place holes.old.items) }
     ensures capacity { vec_capacity holes.new ≡ vec_capacity holes.old }
     ensures len { length holes.new.items ≤ length holes.old.items + 1 }
 {

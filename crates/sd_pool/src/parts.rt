@@ -84,7 +84,8 @@ pub(crate) fn is_one(parts: &Parts)
 pub(crate) fn share(parts: &mut Parts, id: u32)
     requires kept { IsKept parts.old }
     requires live { is_live (live_of parts.old) id ≡ true }
-    requires few { IfSome (extent_of (live_of parts.old) id) (λ extent. extent.sharers < 2 ^ 32 - 1) }
+    requires few { IfSome (extent_of (live_of parts.old) id)
+        (λ extent. extent.sharers < 2 ^ 32 - 1) }
     ensures kept { IsKept parts.new }
     ensures live { live_of parts.new ≡ shared id (live_of parts.old) }
     ensures blocks { parts.new.blocks ≡ parts.old.blocks }
@@ -192,14 +193,16 @@ fn grow(region: &mut Vec<u8>, block: usize, count: usize) -> Result<(), AllocErr
 // Writes the bytes from this block on.
 fn write(region: &mut Vec<u8>, block: usize, bytes: &[u8])
     requires { 64 * block + length bytes.now ≤ length region.old.items }
-    ensures { region.new.items ≡ take (64 * block) region.old.items ++ bytes.now ++ drop (64 * block + length bytes.now) region.old.items }
+    ensures { region.new.items ≡ take (64 * block) region.old.items ++ bytes.now
+        ++ drop (64 * block + length bytes.now) region.old.items }
 {
     write_in(region, block, bytes);
 }
 
 fn write_in(region: &mut [u8], block: usize, bytes: &[u8])
     requires { 64 * block + length bytes.now ≤ length region.old }
-    ensures whole { region.new ≡ take (64 * block) region.old ++ bytes.now ++ drop (64 * block + length bytes.now) region.old }
+    ensures whole { region.new ≡ take (64 * block) region.old ++ bytes.now
+        ++ drop (64 * block + length bytes.now) region.old }
     ensures len { length region.new ≡ length region.old }
 {
     let at = BLOCK * block;
@@ -240,13 +243,17 @@ pub(crate) struct Spot {
 /// `Full` exactly where all ids are live and none has the bytes, and `Memory`. The pool stays as it was.
 pub(crate) fn put(parts: &mut Parts, bytes: &[u8], recent: usize) -> Result<SdId, PoolFault>
     requires kept { IsKept parts.old }
-    requires few { IfSome (with_bytes (live_of parts.old) bytes.now) (λ extent. extent.sharers < 2 ^ 32 - 1) }
+    requires few { IfSome (with_bytes (live_of parts.old) bytes.now)
+        (λ extent. extent.sharers < 2 ^ 32 - 1) }
     ensures kept { IsKept parts.new }
     ensures again { (extent : Extent) → with_bytes (live_of parts.old) bytes.now ≡ Some extent
         → IsOkAnd result (λ id. id.0 ≡ extent.id) × (pool_of parts.new
         ≡ with_live (shared extent.id (live_of parts.old)) (pool_of parts.old)) }
-    ensures put { IfOk result (λ id. with_bytes (live_of parts.old) bytes.now ≡ None → IsPut (pool_of parts.old) (pool_of parts.new) id.0 bytes.now) }
-    ensures full { IsErrOf result PoolFault.Full ↔ ((with_bytes (live_of parts.old) bytes.now ≡ None) × (length (live_of parts.old) ≡ 2 ^ 32 - 1)) }
+    ensures put { IfOk result (λ id. with_bytes (live_of parts.old) bytes.now ≡ None
+        → IsPut (pool_of parts.old) (pool_of parts.new) id.0 bytes.now) }
+    ensures full { IsErrOf result PoolFault.Full
+        ↔ ((with_bytes (live_of parts.old) bytes.now ≡ None)
+        × (length (live_of parts.old) ≡ 2 ^ 32 - 1)) }
     ensures err { OnErr result (pool_of parts.new ≡ pool_of parts.old) }
 {
     match holder_or_hash(parts, bytes, recent) {
@@ -320,7 +327,8 @@ fn put_at(parts: &mut Parts, bytes: &[u8], spot: Spot)
     requires laid { IsLaid parts.old }
     requires few { parts.old.live < 2 ^ 32 - 1 }
     requires tallied { (h : ℕ) → Tallies.count_in (get nat_cmp parts.old.tallies h)
-        ≡ (if Tallies.hash bytes.now == h then 1 else 0) + Tallies.count_of_hash h (live_of parts.old) }
+        ≡ (if Tallies.hash bytes.now == h then 1 else 0) + Tallies.count_of_hash h
+        (live_of parts.old) }
     requires new { with_bytes (live_of parts.old) bytes.now ≡ None }
     requires ready { IsReady parts.old (length bytes.now) spot }
     ensures kept { IsKept parts.new }

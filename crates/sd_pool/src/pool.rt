@@ -1,6 +1,7 @@
 //! The pool as a contract sees it, and its calls.
 
-ghost use Rattle.std.specs.Prelude.{◌≡◌, ◌<◌, ◌-◌, ◌^◌, ◌↔◌, true, None, Some, Ok, [], length, OnErr, IfOk, IsOkAnd, IsErrOf};
+ghost use Rattle.std.specs.Prelude.{◌≡◌, ◌<◌, ◌-◌, ◌^◌, ◌↔◌, true, None, Some, Ok, [], length, OnErr, IfOk, IsOkAnd};
+ghost use Rattle.std.specs.Prelude.{IsErrOf};
 ghost use Rattle.std.specs.Option.{IfSome, ForSome, option_map};
 ghost use Rattle.sd_pool.specs.declared.fault.PoolFault.TheVariants as PoolFault;
 ghost use Rattle.sd_pool.specs.Blocks.{Extent};
@@ -62,12 +63,15 @@ impl SdPool {
     /// `Full` exactly where no live id has the bytes and 4,294,967,295 ids are live, and `Memory`. The pool stays
     /// as it was.
     pub fn put(&mut self, bytes: &[u8]) -> Result<SdId, PoolFault>
-        requires { IfSome (with_bytes self.old.live bytes.now) (λ extent. extent.sharers < 2 ^ 32 - 1) }
+        requires { IfSome (with_bytes self.old.live bytes.now)
+            (λ extent. extent.sharers < 2 ^ 32 - 1) }
         ensures again { (extent : Extent) → with_bytes self.old.live bytes.now ≡ Some extent
             → IsOkAnd result (λ id. id.0 ≡ extent.id) × (self.new
             ≡ with_live (shared extent.id self.old.live) self.old) }
-        ensures put { IfOk result (λ id. with_bytes self.old.live bytes.now ≡ None → IsPut self.old self.new id.0 bytes.now) }
-        ensures full { IsErrOf result PoolFault.Full ↔ ((with_bytes self.old.live bytes.now ≡ None) × (length self.old.live ≡ 2 ^ 32 - 1)) }
+        ensures put { IfOk result (λ id. with_bytes self.old.live bytes.now ≡ None
+            → IsPut self.old self.new id.0 bytes.now) }
+        ensures full { IsErrOf result PoolFault.Full
+            ↔ ((with_bytes self.old.live bytes.now ≡ None) × (length self.old.live ≡ 2 ^ 32 - 1)) }
         ensures err { OnErr result (self.new ≡ self.old) }
     {
         let put = parts::put(&mut self.parts, bytes, self.recent);
@@ -77,7 +81,8 @@ impl SdPool {
 
     /// The live id that has these bytes. None exactly where none has. It takes no memory.
     pub fn find(&self, bytes: &[u8]) -> Option<SdId>
-        ensures { option_map (λ id. id.0) result ≡ option_map (λ extent. extent.id) (with_bytes self.now.live bytes.now) }
+        ensures { option_map (λ id. id.0) result ≡ option_map (λ extent. extent.id)
+            (with_bytes self.now.live bytes.now) }
     {
         look_ups::find(&self.parts, bytes, self.recent).map(SdId)
     }
@@ -101,13 +106,15 @@ impl SdPool {
     /// One sharer more of a live id, which has fewer than 4,294,967,295.
     pub fn share(&mut self, id: SdId)
         requires live { is_live self.old.live id.0 ≡ true }
-        requires few { IfSome (extent_of self.old.live id.0) (λ extent. extent.sharers < 2 ^ 32 - 1) }
+        requires few { IfSome (extent_of self.old.live id.0)
+            (λ extent. extent.sharers < 2 ^ 32 - 1) }
         ensures { self.new ≡ with_live (shared id.0 self.old.live) self.old }
     {
         parts::share(&mut self.parts, id.0);
     }
 
-    /// One sharer less of a live id. With the last the id is free, and its blocks are taken again. It takes no memory.
+    /// One sharer less of a live id. With the last the id is free, and its blocks are taken again. It takes no
+    /// memory.
     pub fn give_back(&mut self, id: SdId)
         requires { is_live self.old.live id.0 ≡ true }
         ensures { self.new ≡ with_live (given_back id.0 self.old.live) self.old }

@@ -1,4 +1,5 @@
-//! How many live ids have bytes of one hash. So bytes are looked for among all only where some of their hash are there.
+//! How many live ids have bytes of one hash. So bytes are looked for among all only where some of their hash are
+//! there.
 //!
 //! A hash is 128 bits of SipHash, and the hashes are kept in their order. So whoever chooses the bytes can't spoil
 //! look-ups: two that share a hash take some 2^64 attempts to find (this is no theorem: it rests on SipHash), and
@@ -61,8 +62,10 @@ pub(crate) fn count_on(
     id: u32,
 ) -> Result<(), AllocError>
     requires { count_in (get nat_cmp tallies.old hash) < 2 ^ 32 - 1 }
-    ensures ok { OnOk result ((h : ℕ) → count_in (get nat_cmp tallies.new h) ≡ (if hash == h then 1 else 0) + count_in (get nat_cmp tallies.old h)) }
-    ensures err { OnErr result ((h : ℕ) → count_in (get nat_cmp tallies.new h) ≡ count_in (get nat_cmp tallies.old h)) }
+    ensures ok { OnOk result ((h : ℕ) → count_in (get nat_cmp tallies.new h)
+        ≡ (if hash == h then 1 else 0) + count_in (get nat_cmp tallies.old h)) }
+    ensures err { OnErr result ((h : ℕ) → count_in (get nat_cmp tallies.new h)
+        ≡ count_in (get nat_cmp tallies.old h)) }
 {
     let count = count_of(tallies, hash) + 1;
     tallies.insert(hash, Tally { count, id })?;
@@ -72,7 +75,8 @@ pub(crate) fn count_on(
 /// One id less has this hash. There is one. It takes no memory.
 pub(crate) fn count_off(tallies: &mut BTreeMap<u128, Tally>, hash: u128)
     requires { 0 < count_in (get nat_cmp tallies.old hash) }
-    ensures { (h : ℕ) → (if hash == h then 1 else 0) + count_in (get nat_cmp tallies.new h) ≡ count_in (get nat_cmp tallies.old h) }
+    ensures { (h : ℕ) → (if hash == h then 1 else 0) + count_in (get nat_cmp tallies.new h)
+        ≡ count_in (get nat_cmp tallies.old h) }
 {
     let Some(tally) = tallies.get(&hash).copied() else {
         unreachable!()

@@ -50,7 +50,8 @@ MayLeaveAfter slot held P Other image = P image
 -- what a crash after calls may leave
 abbrev pub MayLeave : Slot → List ℕ → (List ℕ → Type 0) → List Call → List ℕ → Type 0
 MayLeave slot held P [] image = P image
-MayLeave slot held P (call ∷ calls) image = MayLeave slot (held_after slot held call) (MayLeaveAfter slot held P call) calls image
+MayLeave slot held P (call ∷ calls) image = MayLeave slot (held_after slot held call) (MayLeaveAfter slot held P call)
+    calls image
 
 -- What a crash after the first t calls may leave, where the slots held a and b at first, on the disk.
 pub record LeftAt (a b : List ℕ) (calls : List Call) (t : ℕ) (images : Images) (out : List ℕ) : Type 0 where

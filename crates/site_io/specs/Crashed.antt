@@ -46,7 +46,8 @@ kept_by slot most held (call ∷ calls) = kept_by slot (left_after slot most cal
 
 -- no calls, or the last of them synced this slot
 abbrev pub EndsInSync : Slot → List Call → Type 0
-EndsInSync slot calls = (calls ≡ []) ⊎ ((before : List Call) × (call : Call) × (calls ≡ before ++ call ∷ []) × (synced_in slot call ≡ true))
+EndsInSync slot calls = (calls ≡ []) ⊎ ((before : List Call) × (call : Call) × (calls ≡ before ++ call ∷ [])
+    × (synced_in slot call ≡ true))
 
 -- What a crash after calls leaves of a slot that held this at first: what it held at its last sync, with the first
 -- bytes of its later writes, so many of them in all.

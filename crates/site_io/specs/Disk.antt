@@ -1,5 +1,6 @@
 -- What calls do to the two slots, and what a crash may leave of them.
-use Rattle.std.specs.Prelude.{◌≡◌, ◌⊎◌, ℕ, ◌+◌, ◌<◌, ◌≤◌, ◌↔◌, List, ◌++◌, length, take, drop, slice_index, Option, Result, Ok, Err, IfSome}
+use Rattle.std.specs.Prelude.{◌≡◌, ◌⊎◌, ℕ, ◌+◌, ◌<◌, ◌≤◌, ◌↔◌, List, ◌++◌, length, take, drop, slice_index, Option}
+use Rattle.std.specs.Prelude.{Result, Ok, Err, IfSome}
 use Rattle.site_io.specs.declared.slot.Slot.{Slot}
 use Rattle.site_io.specs.declared.slot.Slot.TheVariants.{A, B}
 
@@ -37,7 +38,8 @@ Written at bytes (Err e) old new = Torn at (length bytes) old new
 
 -- A write changes its slot alone.
 abbrev pub WritesAt : {T E : Type 0} → Slot → ℕ → List ℕ → Result T E → Images → Images → Type 0
-WritesAt slot at bytes result old new = (new ≡ with_slot slot old (at_slot slot new)) × Written at bytes result (at_slot slot old) (at_slot slot new)
+WritesAt slot at bytes result old new = (new ≡ with_slot slot old (at_slot slot new)) × Written at bytes result
+    (at_slot slot old) (at_slot slot new)
 
 -- n bytes were read from an offset in what a slot holds, and none into a buffer for some only at or past the end
 abbrev pub ReadsAt : ℕ → ℕ → List ℕ → List ℕ → Type 0
@@ -55,11 +57,13 @@ pub record GoesOn (before after : ℕ) (old new : ℕ → Images → List ℕ �
 
 -- At each moment from before on, a crash leaves states that it could leave then.
 abbrev pub LeavesSame : ℕ → (ℕ → Images → List ℕ → Type 0) → (ℕ → Images → List ℕ → Type 0) → Type 0
-LeavesSame before old new = (t : ℕ) (images : Images) (out : List ℕ) → before ≤ t → new t images out → old before images out
+LeavesSame before old new = (t : ℕ) (images : Images) (out : List ℕ) → before ≤ t → new t images out
+    → old before images out
 
 -- What a crash could leave then it may leave at each moment up to now: with `LeavesSame`, exactly that.
 abbrev pub LeavesAll : ℕ → ℕ → (ℕ → Images → List ℕ → Type 0) → (ℕ → Images → List ℕ → Type 0) → Type 0
-LeavesAll before after old new = (t : ℕ) (images : Images) (out : List ℕ) → before ≤ t → t ≤ after → old before images out → new t images out
+LeavesAll before after old new = (t : ℕ) (images : Images) (out : List ℕ) → before ≤ t → t ≤ after
+    → old before images out → new t images out
 
 -- At each moment from before on, a crash leaves states that it could leave then, but for a range of one slot.
 abbrev pub LeavesTorn : Slot → ℕ → ℕ → ℕ → (ℕ → Images → List ℕ → Type 0) → (ℕ → Images → List ℕ → Type 0) → Type 0
@@ -74,4 +78,5 @@ LeavesEmitted bytes before old new = (t : ℕ) (images : Images) (out : List ℕ
 
 -- At this moment a crash leaves of a slot what a read gives.
 abbrev pub LeavesHeld : Slot → Option Images → ℕ → (ℕ → Images → List ℕ → Type 0) → Type 0
-LeavesHeld slot reads now left = IfSome reads (λ held. (images : Images) (out : List ℕ) → left now images out → at_slot slot images ≡ at_slot slot held)
+LeavesHeld slot reads now left = IfSome reads (λ held. (images : Images) (out : List ℕ) → left now images out
+    → at_slot slot images ≡ at_slot slot held)

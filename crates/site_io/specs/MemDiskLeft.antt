@@ -15,7 +15,8 @@ left_in_now disk held out is said = left_by_told disk.first_a.items disk.first_b
 
 pub output_left : (disk : MemDisk) (images : Images) (out said : List ℕ) → Some disk.out.items ≡ Some said
     → left_in disk (length disk.done.items) images out → out ≡ said
-output_left disk images out said is left = left.said ∙ ap said_by (take_all (length disk.done.items) disk.done.items (omega arith)) ∙ sym disk.said ∙ is_some is
+output_left disk images out said is left = left.said
+    ∙ ap said_by (take_all (length disk.done.items) disk.done.items (omega arith)) ∙ sym disk.said ∙ is_some is
   where
     is_some : {X : Type 0} {x y : X} → Some x ≡ Some y → x ≡ y
     is_some is = cc is

@@ -10,7 +10,8 @@ StaysKnown old new = BothTold old new (λ before after. Unit {0})
 
 -- At no moment since the call began is there another output than there could be then.
 abbrev pub EmitsNothing : ℕ → (ℕ → Images → List ℕ → Type 0) → (ℕ → Images → List ℕ → Type 0) → Type 0
-EmitsNothing before old new = (t : ℕ) (images : Images) (out : List ℕ) → before ≤ t → new t images out → (began : Images) × old before began out
+EmitsNothing before old new = (t : ℕ) (images : Images) (out : List ℕ) → before ≤ t → new t images out
+    → (began : Images) × old before began out
 
 module _ {S : Type 0} (site : Ghosts S) where
   -- A call that does nothing but to the slots. It keeps whether they are told; what was emitted and the output's

@@ -14,7 +14,8 @@ StaysTold old new = BothTold old new (λ before after. after ≡ before)
 
 -- n bytes were taken: the next of what is left, and none into a buffer for some only at the end
 abbrev pub Took : Option (List ℕ) → Option (List ℕ) → ℕ → List ℕ → Type 0
-Took old new n into = BothTold old new (λ before after. (before ≡ take n into ++ after) × (n ≡ 0 → 0 < length into → after ≡ []))
+Took old new n into = BothTold old new (λ before after. (before ≡ take n into ++ after)
+    × (n ≡ 0 → 0 < length into → after ≡ []))
 
 -- What a take does. One that fails leaves what is left.
 abbrev pub TakesNext : {E : Type 0} → Option (List ℕ) → Option (List ℕ) → Result ℕ E → List ℕ → Type 0

@@ -16,4 +16,5 @@ ReadsWhole old new limit (Err e) = Unit {0}
 -- Bytes were taken into a buffer until it was full or the input ended: n of them, and fewer than it has room for
 -- only at the end.
 abbrev pub Fills : Option (List ℕ) → Option (List ℕ) → ℕ → List ℕ → Type 0
-Fills old new n into = BothTold old new (λ before after. (before ≡ take n into ++ after) × (n < length into → after ≡ []))
+Fills old new n into = BothTold old new (λ before after. (before ≡ take n into ++ after)
+    × (n < length into → after ≡ []))

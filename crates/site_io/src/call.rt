@@ -20,7 +20,8 @@ pub(crate) enum Call {
 // Adds a call to the record. At false there is no room for it, and the record stays as it was.
 pub(crate) fn note(done: &mut Vec<Call>, call: Call) -> bool
     requires { vec_len done.old < 2 ^ 32 }
-    ensures noted { MatchBool result (done.new.items ≡ done.old.items ++ call ∷ []) (done.new.items ≡ done.old.items) }
+    ensures noted { MatchBool result (done.new.items ≡ done.old.items ++ call ∷ [])
+        (done.new.items ≡ done.old.items) }
     ensures few { vec_len done.new < 2 ^ 32 }
 {
     done.len() < u32::MAX as usize && done.push(call).is_ok()

@@ -27,7 +27,8 @@ pub(crate) fn image_of(
     kept: u32,
 ) -> Result<Vec<u8>, AllocError>
     ensures exact { IfOk result (λ image. CrashedTo slot first.now calls.now kept image.items) }
-    ensures may { IfOk result (λ image. MayLeave slot first.now (λ old. old ≡ first.now) calls.now image.items) }
+    ensures may { IfOk result (λ image. MayLeave slot first.now (λ old. old ≡ first.now) calls.now
+        image.items) }
 {
     let mut held = first.to_vec(alloc)?;
     let mut image = first.to_vec(alloc)?;
@@ -49,10 +50,12 @@ fn redo(
     left: &mut usize,
 ) -> Result<(), AllocError>
     ensures held { OnOk result (held.new.items ≡ held_after slot held.old.items call.now) }
-    ensures torn { OnOk result (TornBy slot held.old.items call.now image.old.items image.new.items) }
+    ensures torn { OnOk result (TornBy slot held.old.items call.now image.old.items
+        image.new.items) }
     ensures exact { OnOk result (MatchBool (synced_in slot call.now)
         ((image.new.items ≡ held.old.items) × (left.new ≡ kept))
-        ((image.new.items ≡ kept_after slot left.old image.old.items call.now) × (left.new ≡ left_after slot left.old call.now))) }
+        ((image.new.items ≡ kept_after slot left.old image.old.items call.now)
+        × (left.new ≡ left_after slot left.old call.now))) }
 {
     match call {
         Call::Write {

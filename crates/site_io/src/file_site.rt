@@ -91,8 +91,8 @@ where
         }
     }
 
-    /// Removes the files that calls on this site made, where their paths still lead to them. One that was there before
-    /// stays. The counts of faults stay as they are.
+    /// Removes the files that calls on this site made, where their paths still lead to them. One that was there
+    /// before stays. The counts of faults stay as they are.
     ///
     /// # Errors
     ///

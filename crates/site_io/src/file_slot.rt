@@ -46,7 +46,8 @@ impl Hold for File {
     }
 }
 
-// Fails where the file got the number of a standard stream that was closed: whatever is written there would go into it.
+// Fails where the file got the number of a standard stream that was closed: whatever is written there would go into
+// it.
 fn stand_apart(file: &File) -> io::Result<()> {
     if file.as_raw_fd() < FIRST_FREE {
         return Err(io::Error::other("a standard stream is closed"));

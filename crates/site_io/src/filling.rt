@@ -46,7 +46,8 @@ pub fn read_full<S: Site>(
     into: &mut [u8],
 ) -> Result<usize, Failed>
     requires { at + length into.old < 2 ^ 64 }
-    ensures read { IfOk result (λ n. IfSome (S.reads site.old) (λ held. ReadsFull at n into.new (at_slot slot held))) }
+    ensures read { IfOk result (λ n. IfSome (S.reads site.old)
+        (λ held. ReadsFull at n into.new (at_slot slot held))) }
     ensures within { IfOk result (λ n. n ≤ length into.new) }
     ensures outside { OnlyLooks S.Site site.old site.new }
     ensures cause { IsErr result → HasRisen (S.slot_faults site.old) (S.slot_faults site.new) }

@@ -1,9 +1,9 @@
 //! The outside as the program sees it: a source of bytes, and a site of two slots and an output.
 //!
-//! Both are traits. Their ghost members say what is observable of an object's content, and count its faults, so that a
-//! caller can claim that an answer of failure has a cause outside. `MemSource` and `MemSite` are objects in memory
-//! that are observable and fail as they are bidden. `StdSource`, `OutSite` and `FileSite` stand over a reader, a writer
-//! and files, of which nothing is observable.
+//! Both are traits. Their ghost members say what is observable of an object's content, and count its faults, so that
+//! a caller can claim that an answer of failure has a cause outside. `MemSource` and `MemSite` are objects in memory
+//! that are observable and fail as they are bidden. `StdSource`, `OutSite` and `FileSite` stand over a reader, a
+//! writer and files, of which nothing is observable.
 //!
 //! # Example
 //!

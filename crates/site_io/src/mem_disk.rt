@@ -1,6 +1,7 @@
 //! Two slots and an output in memory, with a record of the calls that made them what they are.
 
-ghost use Rattle.std.specs.Prelude.{◌≡◌, ◌+◌, ◌<◌, ◌≤◌, ◌^◌, ◌++◌, ◌∷◌, ℕ, [], IfOk, IsTrue, MatchBool, if◌then◌else◌, false, length, vec_len, Vec};
+ghost use Rattle.std.specs.Prelude.{◌≡◌, ◌+◌, ◌<◌, ◌≤◌, ◌^◌, ◌++◌, ◌∷◌, ℕ, [], IfOk, IsTrue, MatchBool};
+ghost use Rattle.std.specs.Prelude.{if◌then◌else◌, false, length, vec_len, Vec};
 ghost use Rattle.std.specs.declared.alloc.Global.{Global};
 ghost use Rattle.site_io.specs.Disk.{put};
 ghost use Rattle.site_io.specs.Calls.{held_by, said_by};
@@ -28,13 +29,15 @@ pub(crate) struct MemDisk {
 
 impl MemDisk {
     ghost use Rattle.std.specs.Prelude.{Some};
-    ghost use Rattle.site_io.specs.Disk.{images_of, at_slot, with_slot, GoesOn, LeavesSame, LeavesAll, LeavesTorn, LeavesEmitted, LeavesHeld};
+    ghost use Rattle.site_io.specs.Disk.{images_of, at_slot, with_slot, GoesOn, LeavesSame, LeavesAll, LeavesTorn};
+    ghost use Rattle.site_io.specs.Disk.{LeavesEmitted, LeavesHeld};
     ghost use Rattle.site_io.specs.MemDisk.{held_in, left_in};
 
     pub fn new(alloc: Global, a: &[u8], b: &[u8]) -> Result<MemDisk, AllocError>
         ensures held { IfOk result (λ disk. held_in disk ≡ images_of a.now b.now) }
         ensures out { IfOk result (λ disk. disk.out.items ≡ []) }
-        ensures first { IfOk result (λ disk. (disk.first_a.items ≡ a.now) × (disk.first_b.items ≡ b.now)) }
+        ensures first { IfOk result
+            (λ disk. (disk.first_a.items ≡ a.now) × (disk.first_b.items ≡ b.now)) }
         ensures done { IfOk result (λ disk. disk.done.items ≡ []) }
     {
         Ok(MemDisk {
@@ -51,10 +54,14 @@ impl MemDisk {
     pub fn pass(&mut self) -> bool
         ensures held { held_in self.new ≡ held_in self.old }
         ensures out { self.new.out.items ≡ self.old.out.items }
-        ensures moments { GoesOn (length self.old.done.items) (length self.new.done.items) (left_in self.old) (left_in self.new) }
-        ensures images { LeavesSame (length self.old.done.items) (left_in self.old) (left_in self.new) }
-        ensures same { LeavesAll (length self.old.done.items) (length self.new.done.items) (left_in self.old) (left_in self.new) }
-        ensures noted { MatchBool result (length self.new.done.items ≡ length self.old.done.items + 1)
+        ensures moments { GoesOn (length self.old.done.items) (length self.new.done.items)
+            (left_in self.old) (left_in self.new) }
+        ensures images { LeavesSame (length self.old.done.items) (left_in self.old)
+            (left_in self.new) }
+        ensures same { LeavesAll (length self.old.done.items) (length self.new.done.items)
+            (left_in self.old) (left_in self.new) }
+        ensures noted { MatchBool result (length self.new.done.items ≡ length self.old.done.items
+            + 1)
             (length self.new.done.items ≡ length self.old.done.items) }
     {
         note(&mut self.done, Call::Other)
@@ -63,11 +70,14 @@ impl MemDisk {
     pub fn write(&mut self, alloc: Global, slot: Slot, at: usize, bytes: &[u8]) -> bool
         requires { at ≤ length (at_slot slot (held_in self.old)) }
         ensures held { MatchBool result
-            (held_in self.new ≡ with_slot slot (held_in self.old) (put at bytes.now (at_slot slot (held_in self.old))))
+            (held_in self.new ≡ with_slot slot (held_in self.old)
+            (put at bytes.now (at_slot slot (held_in self.old))))
             (held_in self.new ≡ held_in self.old) }
         ensures out { self.new.out.items ≡ self.old.out.items }
-        ensures moments { GoesOn (length self.old.done.items) (length self.new.done.items) (left_in self.old) (left_in self.new) }
-        ensures images { LeavesTorn slot at (length bytes.now) (length self.old.done.items) (left_in self.old) (left_in self.new) }
+        ensures moments { GoesOn (length self.old.done.items) (length self.new.done.items)
+            (left_in self.old) (left_in self.new) }
+        ensures images { LeavesTorn slot at (length bytes.now) (length self.old.done.items)
+            (left_in self.old) (left_in self.new) }
         ensures undone { result ≡ false → length self.new.done.items ≡ length self.old.done.items }
     {
         match slot {
@@ -77,22 +87,29 @@ impl MemDisk {
     }
 
     pub fn sync(&mut self, slot: Slot) -> bool
-        ensures lasts { IsTrue result → LeavesHeld slot (Some (held_in self.new)) (length self.new.done.items) (left_in self.new) }
+        ensures lasts { IsTrue result → LeavesHeld slot (Some (held_in self.new))
+            (length self.new.done.items) (left_in self.new) }
         ensures held { held_in self.new ≡ held_in self.old }
         ensures out { self.new.out.items ≡ self.old.out.items }
-        ensures moments { GoesOn (length self.old.done.items) (length self.new.done.items) (left_in self.old) (left_in self.new) }
-        ensures images { LeavesSame (length self.old.done.items) (left_in self.old) (left_in self.new) }
+        ensures moments { GoesOn (length self.old.done.items) (length self.new.done.items)
+            (left_in self.old) (left_in self.new) }
+        ensures images { LeavesSame (length self.old.done.items) (left_in self.old)
+            (left_in self.new) }
         ensures undone { result ≡ false → length self.new.done.items ≡ length self.old.done.items }
-        ensures failed { result ≡ false → LeavesAll (length self.old.done.items) (length self.new.done.items) (left_in self.old) (left_in self.new) }
+        ensures failed { result ≡ false → LeavesAll (length self.old.done.items)
+            (length self.new.done.items) (left_in self.old) (left_in self.new) }
     {
         note(&mut self.done, Call::Sync(slot))
     }
 
     pub fn emit(&mut self, alloc: Global, bytes: &[u8]) -> bool
         ensures held { held_in self.new ≡ held_in self.old }
-        ensures out { self.new.out.items ≡ (if result then self.old.out.items ++ bytes.now else self.old.out.items) }
-        ensures moments { GoesOn (length self.old.done.items) (length self.new.done.items) (left_in self.old) (left_in self.new) }
-        ensures images { LeavesEmitted bytes.now (length self.old.done.items) (left_in self.old) (left_in self.new) }
+        ensures out { self.new.out.items
+            ≡ (if result then self.old.out.items ++ bytes.now else self.old.out.items) }
+        ensures moments { GoesOn (length self.old.done.items) (length self.new.done.items)
+            (left_in self.old) (left_in self.new) }
+        ensures images { LeavesEmitted bytes.now (length self.old.done.items) (left_in self.old)
+            (left_in self.new) }
         ensures undone { result ≡ false → length self.new.done.items ≡ length self.old.done.items }
     {
         append(alloc, &mut self.done, &mut self.out, bytes)
@@ -130,9 +147,11 @@ fn write_over(
     requires at_within { at ≤ vec_len held.old }
     ensures few { vec_len done.new < 2 ^ 32 }
     ensures done { MatchBool result
-        ((call : Vec ℕ Global) × (call.items ≡ bytes.now) × (done.new.items ≡ done.old.items ++ Write slot at call ∷ []))
+        ((call : Vec ℕ Global) × (call.items ≡ bytes.now)
+        × (done.new.items ≡ done.old.items ++ Write slot at call ∷ []))
         (done.new.items ≡ done.old.items) }
-    ensures held { held.new.items ≡ (if result then put at bytes.now held.old.items else held.old.items) }
+    ensures held { held.new.items ≡ (if result then put at bytes.now held.old.items
+        else held.old.items) }
 {
     let (Ok(next), Ok(kept)) = (written(alloc, held, at, bytes), bytes.to_vec(alloc)) else {
         return false;
@@ -156,7 +175,8 @@ fn append(alloc: Global, done: &mut Vec<Call>, out: &mut Vec<u8>, bytes: &[u8]) 
     requires { vec_len done.old < 2 ^ 32 }
     ensures few { vec_len done.new < 2 ^ 32 }
     ensures done { MatchBool result
-        ((call : Vec ℕ Global) × (call.items ≡ bytes.now) × (done.new.items ≡ done.old.items ++ Emit call ∷ []))
+        ((call : Vec ℕ Global) × (call.items ≡ bytes.now)
+        × (done.new.items ≡ done.old.items ++ Emit call ∷ []))
         (done.new.items ≡ done.old.items) }
     ensures out { out.new.items ≡ (if result then out.old.items ++ bytes.now else out.old.items) }
 {

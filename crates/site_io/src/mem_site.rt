@@ -33,13 +33,15 @@ impl MemSite {
     ///
     /// `AllocError` where there is no memory.
     pub fn new(alloc: Global, a: &[u8], b: &[u8], fail: &[u32]) -> Result<MemSite, AllocError>
-        ensures reads { IfOk result (λ site. ⟦<MemSite as Site>⟧.reads site ≡ Some (images_of a.now b.now)) }
+        ensures reads { IfOk result
+            (λ site. ⟦<MemSite as Site>⟧.reads site ≡ Some (images_of a.now b.now)) }
         ensures output { IfOk result (λ site. ⟦<MemSite as Site>⟧.emitted site ≡ Some []) }
         ensures slot_faults { IfOk result (λ site. ⟦<MemSite as Site>⟧.slot_faults site ≡ 0) }
         ensures out_faults { IfOk result (λ site. ⟦<MemSite as Site>⟧.out_faults site ≡ 0) }
         ensures moment { IfOk result (λ site. ⟦<MemSite as Site>⟧.now site ≡ 0) }
         ensures left { IfOk result (λ site. (images : Images) (out : List ℕ)
-            → ⟦<MemSite as Site>⟧.left site 0 images out ↔ (images ≡ images_of a.now b.now) × (out ≡ [])) }
+            → ⟦<MemSite as Site>⟧.left site 0 images out ↔ (images ≡ images_of a.now b.now)
+            × (out ≡ [])) }
         ensures fails { IfOk result (λ site. ⟦<MemSite as Site>⟧.fails site ≡ Some fail.now) }
     {
         Ok(MemSite {
@@ -74,7 +76,8 @@ impl MemSite {
     pub fn crash(&self, alloc: Global, calls: u32, kept: u32) -> Result<Crash, AllocError>
         requires { calls ≤ ⟦<MemSite as Site>⟧.now self.now }
         ensures exact { IfOk result (λ crash. Crashes self.now calls kept crash) }
-        ensures left { IfOk result (λ crash. ⟦<MemSite as Site>⟧.left self.now calls (images_of crash.a.items crash.b.items) crash.out.items) }
+        ensures left { IfOk result (λ crash. ⟦<MemSite as Site>⟧.left self.now calls
+            (images_of crash.a.items crash.b.items) crash.out.items) }
     {
         let disk = &self.disk;
         let calls = &disk.done[..calls as usize];

@@ -26,10 +26,12 @@ impl MemSource {
     ///
     /// `AllocError` where there is no memory.
     pub fn new(alloc: Global, bytes: &[u8], fail: &[u32]) -> Result<MemSource, AllocError>
-        ensures rest { IfOk result (λ source. ⟦<MemSource as Source>⟧.rest source ≡ Some bytes.now) }
+        ensures rest { IfOk result (λ source. ⟦<MemSource as Source>⟧.rest source
+            ≡ Some bytes.now) }
         ensures faults { IfOk result (λ source. ⟦<MemSource as Source>⟧.faults source ≡ 0) }
         ensures takes { IfOk result (λ source. ⟦<MemSource as Source>⟧.takes source ≡ 0) }
-        ensures fails { IfOk result (λ source. ⟦<MemSource as Source>⟧.fails source ≡ Some fail.now) }
+        ensures fails { IfOk result (λ source. ⟦<MemSource as Source>⟧.fails source
+            ≡ Some fail.now) }
     {
         MemSource::pieces(alloc, bytes, u32::MAX, fail)
     }
@@ -46,10 +48,12 @@ impl MemSource {
         fail: &[u32],
     ) -> Result<MemSource, AllocError>
         requires { 0 < piece }
-        ensures rest { IfOk result (λ source. ⟦<MemSource as Source>⟧.rest source ≡ Some bytes.now) }
+        ensures rest { IfOk result (λ source. ⟦<MemSource as Source>⟧.rest source
+            ≡ Some bytes.now) }
         ensures faults { IfOk result (λ source. ⟦<MemSource as Source>⟧.faults source ≡ 0) }
         ensures takes { IfOk result (λ source. ⟦<MemSource as Source>⟧.takes source ≡ 0) }
-        ensures fails { IfOk result (λ source. ⟦<MemSource as Source>⟧.fails source ≡ Some fail.now) }
+        ensures fails { IfOk result (λ source. ⟦<MemSource as Source>⟧.fails source
+            ≡ Some fail.now) }
     {
         Ok(MemSource {
             bytes: bytes.to_vec(alloc)?,

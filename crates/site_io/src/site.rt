@@ -4,7 +4,8 @@ ghost use Rattle.std.specs.Prelude.{◌≡◌, ℕ, List, ◌+◌, ◌^◌, ◌<
 ghost use Rattle.site_io.specs.Counts.{HasRisen};
 ghost use Rattle.site_io.specs.Failing.{FailsAsTold};
 ghost use Rattle.site_io.specs.Told.{BothTold, StaysTold, EmitsPrefix};
-ghost use Rattle.site_io.specs.Disk.{Images, at_slot, WritesAt, ReadsAt, GoesOn, LeavesSame, LeavesAll, LeavesTorn, LeavesEmitted, LeavesHeld};
+ghost use Rattle.site_io.specs.Disk.{Images, at_slot, WritesAt, ReadsAt, GoesOn, LeavesSame, LeavesAll, LeavesTorn};
+ghost use Rattle.site_io.specs.Disk.{LeavesEmitted, LeavesHeld};
 
 use crate::{Failed, Slot};
 
@@ -45,7 +46,8 @@ pub trait Site {
     ///
     /// `Failed` where the site failed, which `slot_faults` tells.
     fn length(&mut self, slot: Slot) -> Result<u64, Failed>
-        ensures held { IfOk result (λ n. IfSome (reads self.old) (λ held. n ≡ length (at_slot slot held))) }
+        ensures held { IfOk result (λ n.
+            IfSome (reads self.old) (λ held. n ≡ length (at_slot slot held))) }
         ensures bound { IfOk result (λ n. n ≤ 2 ^ 63) }
         ensures slots { StaysTold (reads self.old) (reads self.new) }
         ensures output { StaysTold (emitted self.old) (emitted self.new) }
@@ -54,7 +56,8 @@ pub trait Site {
         ensures same { LeavesAll (now self.old) (now self.new) (left self.old) (left self.new) }
         ensures never_falls { slot_faults self.old ≤ slot_faults self.new }
         ensures cause { IsErr result → HasRisen (slot_faults self.old) (slot_faults self.new) }
-        ensures fails { FailsAsTold (fails self.old) (fails self.new) (now self.old) (now self.new) result ⊥ }
+        ensures fails { FailsAsTold (fails self.old) (fails self.new) (now self.old) (now self.new)
+            result ⊥ }
         ensures out_faults { out_faults self.new ≡ out_faults self.old };
 
     /// Reads from an offset in a slot into the first bytes of `into`, and answers how many bytes were read. For a
@@ -64,7 +67,8 @@ pub trait Site {
     ///
     /// `Failed` where the site failed, which `slot_faults` tells.
     fn read_at(&mut self, slot: Slot, at: u64, into: &mut [u8]) -> Result<usize, Failed>
-        ensures held { IfOk result (λ n. IfSome (reads self.old) (λ held. ReadsAt at n into.new (at_slot slot held))) }
+        ensures held { IfOk result (λ n.
+            IfSome (reads self.old) (λ held. ReadsAt at n into.new (at_slot slot held))) }
         ensures within { IfOk result (λ n. n ≤ length into.new) }
         ensures slots { StaysTold (reads self.old) (reads self.new) }
         ensures output { StaysTold (emitted self.old) (emitted self.new) }
@@ -73,7 +77,8 @@ pub trait Site {
         ensures same { LeavesAll (now self.old) (now self.new) (left self.old) (left self.new) }
         ensures never_falls { slot_faults self.old ≤ slot_faults self.new }
         ensures cause { IsErr result → HasRisen (slot_faults self.old) (slot_faults self.new) }
-        ensures fails { FailsAsTold (fails self.old) (fails self.new) (now self.old) (now self.new) result ⊥ }
+        ensures fails { FailsAsTold (fails self.old) (fails self.new) (now self.old) (now self.new)
+            result ⊥ }
         ensures out_faults { out_faults self.new ≡ out_faults self.old };
 
     /// Writes bytes at an offset in a slot, which is at most its length where that is observable. One that succeeds
@@ -81,18 +86,21 @@ pub trait Site {
     ///
     /// # Errors
     ///
-    /// `Failed` where the site failed, which `slot_faults` tells. Any part of the range may then have been written, and
-    /// anything past the old end.
+    /// `Failed` where the site failed, which `slot_faults` tells. Any part of the range may then have been written,
+    /// and anything past the old end.
     fn write_at(&mut self, slot: Slot, at: u64, bytes: &[u8]) -> Result<(), Failed>
         requires { IfSome (reads self.old) (λ held. at ≤ length (at_slot slot held)) }
-        ensures written { BothTold (reads self.old) (reads self.new) (WritesAt slot at bytes.now result) }
+        ensures written { BothTold (reads self.old) (reads self.new)
+            (WritesAt slot at bytes.now result) }
         ensures end { OnOk result (at + length bytes.now ≤ 2 ^ 63) }
         ensures output { StaysTold (emitted self.old) (emitted self.new) }
         ensures moments { GoesOn (now self.old) (now self.new) (left self.old) (left self.new) }
-        ensures images { LeavesTorn slot at (length bytes.now) (now self.old) (left self.old) (left self.new) }
+        ensures images { LeavesTorn slot at (length bytes.now) (now self.old) (left self.old)
+            (left self.new) }
         ensures never_falls { slot_faults self.old ≤ slot_faults self.new }
         ensures cause { IsErr result → HasRisen (slot_faults self.old) (slot_faults self.new) }
-        ensures fails { FailsAsTold (fails self.old) (fails self.new) (now self.old) (now self.new) result (2 ^ 63 < at + length bytes.now) }
+        ensures fails { FailsAsTold (fails self.old) (fails self.new) (now self.old) (now self.new)
+            result (2 ^ 63 < at + length bytes.now) }
         ensures out_faults { out_faults self.new ≡ out_faults self.old };
 
     /// Makes what was written to a slot last: a crash then leaves of it what a read gives.
@@ -101,15 +109,18 @@ pub trait Site {
     ///
     /// `Failed` where the site failed, which `slot_faults` tells.
     fn sync(&mut self, slot: Slot) -> Result<(), Failed>
-        ensures lasts { OnOk result (LeavesHeld slot (reads self.new) (now self.new) (left self.new)) }
+        ensures lasts { OnOk result
+            (LeavesHeld slot (reads self.new) (now self.new) (left self.new)) }
         ensures slots { StaysTold (reads self.old) (reads self.new) }
         ensures output { StaysTold (emitted self.old) (emitted self.new) }
         ensures moments { GoesOn (now self.old) (now self.new) (left self.old) (left self.new) }
         ensures images { LeavesSame (now self.old) (left self.old) (left self.new) }
-        ensures failed { IsErr result → LeavesAll (now self.old) (now self.new) (left self.old) (left self.new) }
+        ensures failed { IsErr result → LeavesAll (now self.old) (now self.new) (left self.old)
+            (left self.new) }
         ensures never_falls { slot_faults self.old ≤ slot_faults self.new }
         ensures cause { IsErr result → HasRisen (slot_faults self.old) (slot_faults self.new) }
-        ensures fails { FailsAsTold (fails self.old) (fails self.new) (now self.old) (now self.new) result ⊥ }
+        ensures fails { FailsAsTold (fails self.old) (fails self.new) (now self.old) (now self.new)
+            result ⊥ }
         ensures out_faults { out_faults self.new ≡ out_faults self.old };
 
     /// Appends bytes to the output.
@@ -124,15 +135,19 @@ pub trait Site {
         ensures images { LeavesEmitted bytes.now (now self.old) (left self.old) (left self.new) }
         ensures never_falls { out_faults self.old ≤ out_faults self.new }
         ensures cause { IsErr result → HasRisen (out_faults self.old) (out_faults self.new) }
-        ensures fails { FailsAsTold (fails self.old) (fails self.new) (now self.old) (now self.new) result ⊥ }
+        ensures fails { FailsAsTold (fails self.old) (fails self.new) (now self.old) (now self.new)
+            result ⊥ }
         ensures slot_faults { slot_faults self.new ≡ slot_faults self.old };
 
     /// What a read gives now, with all that was emitted, is one of the outcomes of a crash now.
-    ghost left_now: { (site : Self) (held : Images) (out : List ℕ) → reads site ≡ Some held → emitted site ≡ Some out → left site (now site) held out };
+    ghost left_now: { (site : Self) (held : Images) (out : List ℕ) → reads site ≡ Some held
+        → emitted site ≡ Some out → left site (now site) held out };
 
     /// Where the site tells what was emitted, a crash now leaves exactly that as output.
-    ghost left_output: { (site : Self) (images : Images) (out said : List ℕ) → emitted site ≡ Some said → left site (now site) images out → out ≡ said };
+    ghost left_output: { (site : Self) (images : Images) (out said : List ℕ) → emitted site
+        ≡ Some said → left site (now site) images out → out ≡ said };
 
     /// No moment after this one has come.
-    ghost left_until: { (site : Self) (t : ℕ) (images : Images) (out : List ℕ) → left site t images out → t ≤ now site };
+    ghost left_until: { (site : Self) (t : ℕ) (images : Images) (out : List ℕ)
+        → left site t images out → t ≤ now site };
 }

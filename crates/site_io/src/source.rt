@@ -35,7 +35,8 @@ pub trait Source {
     fn take(&mut self, into: &mut [u8]) -> Result<usize, Failed>
         ensures within { IfOk result (λ n. n ≤ length into.new) }
         ensures next { TakesNext (rest self.old) (rest self.new) result into.new }
-        ensures fails { TakesAsTold (fails self.old) (fails self.new) (takes self.old) (takes self.new) result }
+        ensures fails { TakesAsTold (fails self.old) (fails self.new) (takes self.old)
+            (takes self.new) result }
         ensures never_falls { faults self.old ≤ faults self.new }
         ensures cause { IsErr result → HasRisen (faults self.old) (faults self.new) };
 }

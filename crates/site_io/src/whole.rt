@@ -69,7 +69,8 @@ pub fn read_whole<I: Source>(
     ensures within { IfOk result (λ whole. IfSome whole (λ bytes. vec_len bytes ≤ limit)) }
     ensures told { LeavesAnEnd (I.rest source.old) (I.rest source.new) }
     ensures never_falls { I.faults source.old ≤ I.faults source.new }
-    ensures cause { IsErrOf result WholeFault.Source → HasRisen (I.faults source.old) (I.faults source.new) }
+    ensures cause { IsErrOf result WholeFault.Source → HasRisen (I.faults source.old)
+        (I.faults source.new) }
 {
     let mut whole = Vec::new(alloc);
     let mut chunk = room(alloc)?;

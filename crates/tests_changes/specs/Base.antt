@@ -52,7 +52,8 @@ schema =
     ∷ attribute (codes "description") (codes "2.5.5.2") 7 []
     ∷ attribute (codes "telephoneNumber") (codes "2.5.5.2") 8 (line (codes "isSingleValued") (codes "TRUE") ∷ [])
     ∷ attribute (codes "servicePrincipalName") (codes "2.5.5.12") 9 []
-    ∷ class_of (codes "domainDNS") 0x11 (codes "dc") (codes "domainDNS") (line (codes "mayContain") (codes "objectSid") ∷ [])
+    ∷ class_of (codes "domainDNS") 0x11 (codes "dc") (codes "domainDNS")
+    (line (codes "mayContain") (codes "objectSid") ∷ [])
     ∷ class_of (codes "organizationalUnit") 0x12 (codes "ou") (codes "domainDNS") []
     ∷ class_of (codes "user") 0x13 (codes "cn") (codes "organizationalUnit")
     (line (codes "mustContain") (codes "objectSid") ∷ line (codes "mayContain") (codes "description")
@@ -76,14 +77,23 @@ abbrev pub with_sid : List ℕ → List Held
 with_sid numbers = record { attr = 4; values = plain (as_shown (sid_bytes (of_domain numbers))) ∷ [] } ∷ []
 
 abbrev pub object_of_class : ℕ → ℕ → ℕ → List ℕ → List Held → Sd → Object
-object_of_class number parent class name values sd = record { number = number; parent = parent; class = class; name = name; values = values; sd = sd }
+object_of_class number parent class name values sd
+    = record { number = number; parent = parent; class = class; name = name; values = values; sd = sd }
 
 abbrev pub default_sd : Sd
 default_sd = sd_of false inherited_entries
 
 -- whoever is authenticated may do a validated write
 abbrev pub validated_sd : Guid → Sd
-validated_sd right = sd_of false (record { kind = Allow; flags = 0; mask = 8; object = Some right; inherited = None; sid = authenticated } ∷ inherited_entries)
+validated_sd right = sd_of false (record {
+  kind = Allow;
+  flags = 0;
+  mask = 8;
+  object = Some right;
+  inherited
+      = None;
+  sid = authenticated;
+} ∷ inherited_entries)
 
 abbrev pub staff : Object
 staff = object_of_class 2 1 1 (codes "staff") [] default_sd
@@ -109,12 +119,27 @@ base = record {
       ∷ pc1
       ∷ [];
   pending = [];
-  meta = record { next_number = 7; next_rid = 1005; suffix = record { kind = codes "DC"; value = codes "example" } ∷ [] };
+  meta = record {
+    next_number = 7;
+    next_rid = 1005;
+    suffix = record { kind = codes "DC"; value = codes "example" }
+        ∷ [];
+  };
 }
 
 -- an administrator, and ann, who may read
 abbrev pub caller : SidValue → List SidValue → Token
-caller user groups = record { version = 1; privileges = 0; user = user; owner = user; primary = user; groups = groups; deny_only = []; restricting = [] }
+caller user groups = record {
+  version = 1;
+  privileges = 0;
+  user = user;
+  owner = user;
+  primary = user;
+  groups
+      = groups;
+  deny_only = [];
+  restricting = [];
+}
 
 abbrev pub admin : Token
 admin = caller administrators []

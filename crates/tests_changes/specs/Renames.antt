@@ -41,7 +41,8 @@ use Rattle.ad_dir_model.specs.Changes.{changed, goes_with, renamed}
 use Rattle.ad_dir_model.specs.Identity.{first_of_attr, sid_in}
 use Rattle.ad_dir_model.specs.Inheritance.{guid_at}
 use Rattle.ad_dir_model.specs.Limits.{max_depth, max_weight}
-use Rattle.ad_dir_model.specs.Names.{begins_with, child_named, child_of_rdn, directory_service, found, found_below, name_text, rdn_of, rdns_of, rdns_within}
+use Rattle.ad_dir_model.specs.Names.{begins_with, child_named, child_of_rdn, directory_service, found, found_below}
+use Rattle.ad_dir_model.specs.Names.{name_text, rdn_of, rdns_of, rdns_within}
 use Rattle.ad_dir_model.specs.Object.{stored_in}
 use Rattle.ad_dir_model.specs.Objects.{object_at, object_of, put}
 use Rattle.ad_dir_model.specs.Settings.{list_object_mode, settings}
@@ -56,125 +57,210 @@ use Rattle.ad_bytes.specs.Numbers.{be_bytes}
 use Rattle.ad_bytes.specs.Numbers.{le_bytes}
 
 abbrev pub renames : Token → List ℕ → List ℕ → Option (List ℕ) → Effect
-renames token dn rdn superior = effect base token (RenameOf (record { dn = dn; rdn = rdn; keep = false; superior = superior })) plain_settings
+renames token dn rdn superior = effect base token
+    (RenameOf (record { dn = dn; rdn = rdn; keep = false; superior = superior })) plain_settings
 
 pub two_parts : renames admin (codes "CN=bob,OU=staff,DC=corp,DC=example") (codes "CN=a,CN=b") None ≡ answered 34 [] []
-unfolding granted_as_owner granted_by_entries matches speaks has_bit be_at byte_at le_at many_at effect later_checks made rename_later depth_of
-    depth_within is_light_with is_shallow_with chain chain_within first_along list_at naming_by option_at place_of same_name folded dn_of step_from
-    rdns_text value_text header_at sid_at first_failing code_of is_met need_text want_text wants_text new_parent rename_checks object_named verdict_of
-    attr_info attr_named attrs_of is_confidential lines_of names_of all_superiors chain_of class_guid class_guids class_info class_infos classes_of
-    cn_of is_under naming_of own_naming own_namings superclass superclasses value_of values_of attr_of_rule counts if_counts is_link is_neither
-    digits_behind number number_below signed_bits truth_of sid_of default_case_fold chars is_granted is_visible matched visible_of attr_name
-    rule_place changed goes_with renamed first_of_attr sid_in guid_at max_depth max_weight begins_with child_named child_of_rdn directory_service
-    found found_below name_text rdn_of rdns_of rdns_within stored_in object_at object_of put list_object_mode settings is_below is_below_within
-    all_held_weight object_weight objects_weight values_weight weight full_folding full_folding_rows value_in by_index sid_bytes be_bytes le_bytes
+unfolding granted_as_owner granted_by_entries matches speaks has_bit be_at byte_at le_at many_at effect later_checks
+    made rename_later depth_of
+    depth_within is_light_with is_shallow_with chain chain_within first_along list_at naming_by option_at place_of
+    same_name folded dn_of step_from
+    rdns_text value_text header_at sid_at first_failing code_of is_met need_text want_text wants_text new_parent
+    rename_checks object_named verdict_of
+    attr_info attr_named attrs_of is_confidential lines_of names_of all_superiors chain_of class_guid class_guids
+    class_info class_infos classes_of
+    cn_of is_under naming_of own_naming own_namings superclass superclasses value_of values_of attr_of_rule counts
+    if_counts is_link is_neither
+    digits_behind number number_below signed_bits truth_of sid_of default_case_fold chars is_granted is_visible
+    matched visible_of attr_name
+    rule_place changed goes_with renamed first_of_attr sid_in guid_at max_depth max_weight begins_with child_named
+    child_of_rdn directory_service
+    found found_below name_text rdn_of rdns_of rdns_within stored_in object_at object_of put list_object_mode settings
+    is_below is_below_within
+    all_held_weight object_weight objects_weight values_weight weight full_folding full_folding_rows value_in by_index
+    sid_bytes be_bytes le_bytes
     lib.Utf8.encode
 two_parts = refl
 
-pub no_superior : renames admin (codes "CN=bob,OU=staff,DC=corp,DC=example") (codes "CN=bob") (Some (codes "OU=nowhere,DC=corp,DC=example"))
+pub no_superior : renames admin (codes "CN=bob,OU=staff,DC=corp,DC=example") (codes "CN=bob")
+    (Some (codes "OU=nowhere,DC=corp,DC=example"))
     ≡ answered 32 (codes "DC=corp,DC=example") []
-unfolding granted_as_owner granted_by_entries matches speaks has_bit be_at byte_at le_at many_at effect later_checks made rename_later depth_of
-    depth_within is_light_with is_shallow_with chain chain_within first_along list_at naming_by option_at place_of same_name folded dn_of step_from
-    rdns_text value_text header_at sid_at first_failing code_of is_met need_text want_text wants_text new_parent rename_checks object_named verdict_of
-    attr_info attr_named attrs_of is_confidential lines_of names_of all_superiors chain_of class_guid class_guids class_info class_infos classes_of
-    cn_of is_under naming_of own_naming own_namings superclass superclasses value_of values_of attr_of_rule counts if_counts is_link is_neither
-    digits_behind number number_below signed_bits truth_of sid_of default_case_fold chars is_granted is_visible matched visible_of attr_name
-    rule_place changed goes_with renamed first_of_attr sid_in guid_at max_depth max_weight begins_with child_named child_of_rdn directory_service
-    found found_below name_text rdn_of rdns_of rdns_within stored_in object_at object_of put list_object_mode settings is_below is_below_within
-    all_held_weight object_weight objects_weight values_weight weight full_folding full_folding_rows value_in by_index sid_bytes be_bytes le_bytes
+unfolding granted_as_owner granted_by_entries matches speaks has_bit be_at byte_at le_at many_at effect later_checks
+    made rename_later depth_of
+    depth_within is_light_with is_shallow_with chain chain_within first_along list_at naming_by option_at place_of
+    same_name folded dn_of step_from
+    rdns_text value_text header_at sid_at first_failing code_of is_met need_text want_text wants_text new_parent
+    rename_checks object_named verdict_of
+    attr_info attr_named attrs_of is_confidential lines_of names_of all_superiors chain_of class_guid class_guids
+    class_info class_infos classes_of
+    cn_of is_under naming_of own_naming own_namings superclass superclasses value_of values_of attr_of_rule counts
+    if_counts is_link is_neither
+    digits_behind number number_below signed_bits truth_of sid_of default_case_fold chars is_granted is_visible
+    matched visible_of attr_name
+    rule_place changed goes_with renamed first_of_attr sid_in guid_at max_depth max_weight begins_with child_named
+    child_of_rdn directory_service
+    found found_below name_text rdn_of rdns_of rdns_within stored_in object_at object_of put list_object_mode settings
+    is_below is_below_within
+    all_held_weight object_weight objects_weight values_weight weight full_folding full_folding_rows value_in by_index
+    sid_bytes be_bytes le_bytes
     lib.Utf8.encode
 no_superior = refl
 
 pub another_type : renames admin (codes "CN=bob,OU=staff,DC=corp,DC=example") (codes "OU=bob") None ≡ answered 64 [] []
-unfolding granted_as_owner granted_by_entries matches speaks has_bit be_at byte_at le_at many_at effect later_checks made rename_later depth_of
-    depth_within is_light_with is_shallow_with chain chain_within first_along list_at naming_by option_at place_of same_name folded dn_of step_from
-    rdns_text value_text header_at sid_at first_failing code_of is_met need_text want_text wants_text new_parent rename_checks object_named verdict_of
-    attr_info attr_named attrs_of is_confidential lines_of names_of all_superiors chain_of class_guid class_guids class_info class_infos classes_of
-    cn_of is_under naming_of own_naming own_namings superclass superclasses value_of values_of attr_of_rule counts if_counts is_link is_neither
-    digits_behind number number_below signed_bits truth_of sid_of default_case_fold chars is_granted is_visible matched visible_of attr_name
-    rule_place changed goes_with renamed first_of_attr sid_in guid_at max_depth max_weight begins_with child_named child_of_rdn directory_service
-    found found_below name_text rdn_of rdns_of rdns_within stored_in object_at object_of put list_object_mode settings is_below is_below_within
-    all_held_weight object_weight objects_weight values_weight weight full_folding full_folding_rows value_in by_index sid_bytes be_bytes le_bytes
+unfolding granted_as_owner granted_by_entries matches speaks has_bit be_at byte_at le_at many_at effect later_checks
+    made rename_later depth_of
+    depth_within is_light_with is_shallow_with chain chain_within first_along list_at naming_by option_at place_of
+    same_name folded dn_of step_from
+    rdns_text value_text header_at sid_at first_failing code_of is_met need_text want_text wants_text new_parent
+    rename_checks object_named verdict_of
+    attr_info attr_named attrs_of is_confidential lines_of names_of all_superiors chain_of class_guid class_guids
+    class_info class_infos classes_of
+    cn_of is_under naming_of own_naming own_namings superclass superclasses value_of values_of attr_of_rule counts
+    if_counts is_link is_neither
+    digits_behind number number_below signed_bits truth_of sid_of default_case_fold chars is_granted is_visible
+    matched visible_of attr_name
+    rule_place changed goes_with renamed first_of_attr sid_in guid_at max_depth max_weight begins_with child_named
+    child_of_rdn directory_service
+    found found_below name_text rdn_of rdns_of rdns_within stored_in object_at object_of put list_object_mode settings
+    is_below is_below_within
+    all_held_weight object_weight objects_weight values_weight weight full_folding full_folding_rows value_in by_index
+    sid_bytes be_bytes le_bytes
     lib.Utf8.encode
 another_type = refl
 
-pub into_itself : renames admin (codes "OU=staff,DC=corp,DC=example") (codes "OU=staff") (Some (codes "OU=staff,DC=corp,DC=example")) ≡ answered 53 [] []
-unfolding granted_as_owner granted_by_entries matches speaks has_bit be_at byte_at le_at many_at effect later_checks made rename_later depth_of
-    depth_within is_light_with is_shallow_with chain chain_within first_along list_at naming_by option_at place_of same_name folded dn_of step_from
-    rdns_text value_text header_at sid_at first_failing code_of is_met need_text want_text wants_text new_parent rename_checks object_named verdict_of
-    attr_info attr_named attrs_of is_confidential lines_of names_of all_superiors chain_of class_guid class_guids class_info class_infos classes_of
-    cn_of is_under naming_of own_naming own_namings superclass superclasses value_of values_of attr_of_rule counts if_counts is_link is_neither
-    digits_behind number number_below signed_bits truth_of sid_of default_case_fold chars is_granted is_visible matched visible_of attr_name
-    rule_place changed goes_with renamed first_of_attr sid_in guid_at max_depth max_weight begins_with child_named child_of_rdn directory_service
-    found found_below name_text rdn_of rdns_of rdns_within stored_in object_at object_of put list_object_mode settings is_below is_below_within
-    all_held_weight object_weight objects_weight values_weight weight full_folding full_folding_rows value_in by_index sid_bytes be_bytes le_bytes
+pub into_itself : renames admin (codes "OU=staff,DC=corp,DC=example") (codes "OU=staff")
+    (Some (codes "OU=staff,DC=corp,DC=example")) ≡ answered 53 [] []
+unfolding granted_as_owner granted_by_entries matches speaks has_bit be_at byte_at le_at many_at effect later_checks
+    made rename_later depth_of
+    depth_within is_light_with is_shallow_with chain chain_within first_along list_at naming_by option_at place_of
+    same_name folded dn_of step_from
+    rdns_text value_text header_at sid_at first_failing code_of is_met need_text want_text wants_text new_parent
+    rename_checks object_named verdict_of
+    attr_info attr_named attrs_of is_confidential lines_of names_of all_superiors chain_of class_guid class_guids
+    class_info class_infos classes_of
+    cn_of is_under naming_of own_naming own_namings superclass superclasses value_of values_of attr_of_rule counts
+    if_counts is_link is_neither
+    digits_behind number number_below signed_bits truth_of sid_of default_case_fold chars is_granted is_visible
+    matched visible_of attr_name
+    rule_place changed goes_with renamed first_of_attr sid_in guid_at max_depth max_weight begins_with child_named
+    child_of_rdn directory_service
+    found found_below name_text rdn_of rdns_of rdns_within stored_in object_at object_of put list_object_mode settings
+    is_below is_below_within
+    all_held_weight object_weight objects_weight values_weight weight full_folding full_folding_rows value_in by_index
+    sid_bytes be_bytes le_bytes
     lib.Utf8.encode
 into_itself = refl
 
 pub below_itself : renames admin (codes "OU=staff,DC=corp,DC=example") (codes "OU=staff")
     (Some (codes "CN=bob,OU=staff,DC=corp,DC=example")) ≡ answered 53 [] []
-unfolding granted_as_owner granted_by_entries matches speaks has_bit be_at byte_at le_at many_at effect later_checks made rename_later depth_of
-    depth_within is_light_with is_shallow_with chain chain_within first_along list_at naming_by option_at place_of same_name folded dn_of step_from
-    rdns_text value_text header_at sid_at first_failing code_of is_met need_text want_text wants_text new_parent rename_checks object_named verdict_of
-    attr_info attr_named attrs_of is_confidential lines_of names_of all_superiors chain_of class_guid class_guids class_info class_infos classes_of
-    cn_of is_under naming_of own_naming own_namings superclass superclasses value_of values_of attr_of_rule counts if_counts is_link is_neither
-    digits_behind number number_below signed_bits truth_of sid_of default_case_fold chars is_granted is_visible matched visible_of attr_name
-    rule_place changed goes_with renamed first_of_attr sid_in guid_at max_depth max_weight begins_with child_named child_of_rdn directory_service
-    found found_below name_text rdn_of rdns_of rdns_within stored_in object_at object_of put list_object_mode settings is_below is_below_within
-    all_held_weight object_weight objects_weight values_weight weight full_folding full_folding_rows value_in by_index sid_bytes be_bytes le_bytes
+unfolding granted_as_owner granted_by_entries matches speaks has_bit be_at byte_at le_at many_at effect later_checks
+    made rename_later depth_of
+    depth_within is_light_with is_shallow_with chain chain_within first_along list_at naming_by option_at place_of
+    same_name folded dn_of step_from
+    rdns_text value_text header_at sid_at first_failing code_of is_met need_text want_text wants_text new_parent
+    rename_checks object_named verdict_of
+    attr_info attr_named attrs_of is_confidential lines_of names_of all_superiors chain_of class_guid class_guids
+    class_info class_infos classes_of
+    cn_of is_under naming_of own_naming own_namings superclass superclasses value_of values_of attr_of_rule counts
+    if_counts is_link is_neither
+    digits_behind number number_below signed_bits truth_of sid_of default_case_fold chars is_granted is_visible
+    matched visible_of attr_name
+    rule_place changed goes_with renamed first_of_attr sid_in guid_at max_depth max_weight begins_with child_named
+    child_of_rdn directory_service
+    found found_below name_text rdn_of rdns_of rdns_within stored_in object_at object_of put list_object_mode settings
+    is_below is_below_within
+    all_held_weight object_weight objects_weight values_weight weight full_folding full_folding_rows value_in by_index
+    sid_bytes be_bytes le_bytes
     lib.Utf8.encode
 below_itself = refl
 
 pub without_a_need : renames ann (codes "CN=bob,OU=staff,DC=corp,DC=example") (codes "CN=rob") None
     ≡ answered 50 [] (codes "missing WP 01010101-0101-0101-0101-010101010101 at CN=bob,OU=staff,DC=corp,DC=example")
-unfolding granted_as_owner granted_by_entries matches speaks has_bit be_at byte_at le_at many_at effect later_checks made rename_later depth_of
-    depth_within is_light_with is_shallow_with chain chain_within first_along list_at naming_by option_at place_of same_name folded dn_of step_from
-    rdns_text value_text header_at sid_at first_failing code_of is_met need_text want_text wants_text new_parent rename_checks object_named verdict_of
-    attr_info attr_named attrs_of is_confidential lines_of names_of all_superiors chain_of class_guid class_guids class_info class_infos classes_of
-    cn_of is_under naming_of own_naming own_namings superclass superclasses value_of values_of attr_of_rule counts if_counts is_link is_neither
-    digits_behind number number_below signed_bits truth_of sid_of default_case_fold chars is_granted is_visible matched visible_of attr_name
-    rule_place changed goes_with renamed first_of_attr sid_in guid_at max_depth max_weight begins_with child_named child_of_rdn directory_service
-    found found_below name_text rdn_of rdns_of rdns_within stored_in object_at object_of put list_object_mode settings is_below is_below_within
-    all_held_weight object_weight objects_weight values_weight weight full_folding full_folding_rows value_in by_index sid_bytes be_bytes le_bytes
+unfolding granted_as_owner granted_by_entries matches speaks has_bit be_at byte_at le_at many_at effect later_checks
+    made rename_later depth_of
+    depth_within is_light_with is_shallow_with chain chain_within first_along list_at naming_by option_at place_of
+    same_name folded dn_of step_from
+    rdns_text value_text header_at sid_at first_failing code_of is_met need_text want_text wants_text new_parent
+    rename_checks object_named verdict_of
+    attr_info attr_named attrs_of is_confidential lines_of names_of all_superiors chain_of class_guid class_guids
+    class_info class_infos classes_of
+    cn_of is_under naming_of own_naming own_namings superclass superclasses value_of values_of attr_of_rule counts
+    if_counts is_link is_neither
+    digits_behind number number_below signed_bits truth_of sid_of default_case_fold chars is_granted is_visible
+    matched visible_of attr_name
+    rule_place changed goes_with renamed first_of_attr sid_in guid_at max_depth max_weight begins_with child_named
+    child_of_rdn directory_service
+    found found_below name_text rdn_of rdns_of rdns_within stored_in object_at object_of put list_object_mode settings
+    is_below is_below_within
+    all_held_weight object_weight objects_weight values_weight weight full_folding full_folding_rows value_in by_index
+    sid_bytes be_bytes le_bytes
     lib.Utf8.encode
 without_a_need = refl
 
-pub unlawful_parent : renames admin (codes "CN=bob,OU=staff,DC=corp,DC=example") (codes "CN=bob") (Some (codes "DC=corp,DC=example")) ≡ answered 64 [] []
-unfolding granted_as_owner granted_by_entries matches speaks has_bit be_at byte_at le_at many_at effect later_checks made rename_later depth_of
-    depth_within is_light_with is_shallow_with chain chain_within first_along list_at naming_by option_at place_of same_name folded dn_of step_from
-    rdns_text value_text header_at sid_at first_failing code_of is_met need_text want_text wants_text new_parent rename_checks object_named verdict_of
-    attr_info attr_named attrs_of is_confidential lines_of names_of all_superiors chain_of class_guid class_guids class_info class_infos classes_of
-    cn_of is_under naming_of own_naming own_namings superclass superclasses value_of values_of attr_of_rule counts if_counts is_link is_neither
-    digits_behind number number_below signed_bits truth_of sid_of default_case_fold chars is_granted is_visible matched visible_of attr_name
-    rule_place changed goes_with renamed first_of_attr sid_in guid_at max_depth max_weight begins_with child_named child_of_rdn directory_service
-    found found_below name_text rdn_of rdns_of rdns_within stored_in object_at object_of put list_object_mode settings is_below is_below_within
-    all_held_weight object_weight objects_weight values_weight weight full_folding full_folding_rows value_in by_index sid_bytes be_bytes le_bytes
+pub unlawful_parent : renames admin (codes "CN=bob,OU=staff,DC=corp,DC=example") (codes "CN=bob")
+    (Some (codes "DC=corp,DC=example")) ≡ answered 64 [] []
+unfolding granted_as_owner granted_by_entries matches speaks has_bit be_at byte_at le_at many_at effect later_checks
+    made rename_later depth_of
+    depth_within is_light_with is_shallow_with chain chain_within first_along list_at naming_by option_at place_of
+    same_name folded dn_of step_from
+    rdns_text value_text header_at sid_at first_failing code_of is_met need_text want_text wants_text new_parent
+    rename_checks object_named verdict_of
+    attr_info attr_named attrs_of is_confidential lines_of names_of all_superiors chain_of class_guid class_guids
+    class_info class_infos classes_of
+    cn_of is_under naming_of own_naming own_namings superclass superclasses value_of values_of attr_of_rule counts
+    if_counts is_link is_neither
+    digits_behind number number_below signed_bits truth_of sid_of default_case_fold chars is_granted is_visible
+    matched visible_of attr_name
+    rule_place changed goes_with renamed first_of_attr sid_in guid_at max_depth max_weight begins_with child_named
+    child_of_rdn directory_service
+    found found_below name_text rdn_of rdns_of rdns_within stored_in object_at object_of put list_object_mode settings
+    is_below is_below_within
+    all_held_weight object_weight objects_weight values_weight weight full_folding full_folding_rows value_in by_index
+    sid_bytes be_bytes le_bytes
     lib.Utf8.encode
 unlawful_parent = refl
 
 pub taken : renames admin (codes "CN=bob,OU=staff,DC=corp,DC=example") (codes "CN=ANN") None ≡ answered 68 [] []
-unfolding granted_as_owner granted_by_entries matches speaks has_bit be_at byte_at le_at many_at effect later_checks made rename_later depth_of
-    depth_within is_light_with is_shallow_with chain chain_within first_along list_at naming_by option_at place_of same_name folded dn_of step_from
-    rdns_text value_text header_at sid_at first_failing code_of is_met need_text want_text wants_text new_parent rename_checks object_named verdict_of
-    attr_info attr_named attrs_of is_confidential lines_of names_of all_superiors chain_of class_guid class_guids class_info class_infos classes_of
-    cn_of is_under naming_of own_naming own_namings superclass superclasses value_of values_of attr_of_rule counts if_counts is_link is_neither
-    digits_behind number number_below signed_bits truth_of sid_of default_case_fold chars is_granted is_visible matched visible_of attr_name
-    rule_place changed goes_with renamed first_of_attr sid_in guid_at max_depth max_weight begins_with child_named child_of_rdn directory_service
-    found found_below name_text rdn_of rdns_of rdns_within stored_in object_at object_of put list_object_mode settings is_below is_below_within
-    all_held_weight object_weight objects_weight values_weight weight full_folding full_folding_rows value_in by_index sid_bytes be_bytes le_bytes
+unfolding granted_as_owner granted_by_entries matches speaks has_bit be_at byte_at le_at many_at effect later_checks
+    made rename_later depth_of
+    depth_within is_light_with is_shallow_with chain chain_within first_along list_at naming_by option_at place_of
+    same_name folded dn_of step_from
+    rdns_text value_text header_at sid_at first_failing code_of is_met need_text want_text wants_text new_parent
+    rename_checks object_named verdict_of
+    attr_info attr_named attrs_of is_confidential lines_of names_of all_superiors chain_of class_guid class_guids
+    class_info class_infos classes_of
+    cn_of is_under naming_of own_naming own_namings superclass superclasses value_of values_of attr_of_rule counts
+    if_counts is_link is_neither
+    digits_behind number number_below signed_bits truth_of sid_of default_case_fold chars is_granted is_visible
+    matched visible_of attr_name
+    rule_place changed goes_with renamed first_of_attr sid_in guid_at max_depth max_weight begins_with child_named
+    child_of_rdn directory_service
+    found found_below name_text rdn_of rdns_of rdns_within stored_in object_at object_of put list_object_mode settings
+    is_below is_below_within
+    all_held_weight object_weight objects_weight values_weight weight full_folding full_folding_rows value_in by_index
+    sid_bytes be_bytes le_bytes
     lib.Utf8.encode
 taken = refl
 
 pub in_place : renames admin (codes "OU=staff,DC=corp,DC=example") (codes "OU=STAFF")
     (Some (codes "DC=corp,DC=example")) ≡ changes_to (changed base (record staff { name = codes "STAFF" }))
-unfolding granted_as_owner granted_by_entries matches speaks has_bit be_at byte_at le_at many_at effect later_checks made rename_later depth_of
-    depth_within is_light_with is_shallow_with chain chain_within first_along list_at naming_by option_at place_of same_name folded dn_of step_from
-    rdns_text value_text header_at sid_at first_failing code_of is_met need_text want_text wants_text new_parent rename_checks object_named verdict_of
-    attr_info attr_named attrs_of is_confidential lines_of names_of all_superiors chain_of class_guid class_guids class_info class_infos classes_of
-    cn_of is_under naming_of own_naming own_namings superclass superclasses value_of values_of attr_of_rule counts if_counts is_link is_neither
-    digits_behind number number_below signed_bits truth_of sid_of default_case_fold chars is_granted is_visible matched visible_of attr_name
-    rule_place changed goes_with renamed first_of_attr sid_in guid_at max_depth max_weight begins_with child_named child_of_rdn directory_service
-    found found_below name_text rdn_of rdns_of rdns_within stored_in object_at object_of put list_object_mode settings is_below is_below_within
-    all_held_weight object_weight objects_weight values_weight weight full_folding full_folding_rows value_in by_index sid_bytes be_bytes le_bytes
+unfolding granted_as_owner granted_by_entries matches speaks has_bit be_at byte_at le_at many_at effect later_checks
+    made rename_later depth_of
+    depth_within is_light_with is_shallow_with chain chain_within first_along list_at naming_by option_at place_of
+    same_name folded dn_of step_from
+    rdns_text value_text header_at sid_at first_failing code_of is_met need_text want_text wants_text new_parent
+    rename_checks object_named verdict_of
+    attr_info attr_named attrs_of is_confidential lines_of names_of all_superiors chain_of class_guid class_guids
+    class_info class_infos classes_of
+    cn_of is_under naming_of own_naming own_namings superclass superclasses value_of values_of attr_of_rule counts
+    if_counts is_link is_neither
+    digits_behind number number_below signed_bits truth_of sid_of default_case_fold chars is_granted is_visible
+    matched visible_of attr_name
+    rule_place changed goes_with renamed first_of_attr sid_in guid_at max_depth max_weight begins_with child_named
+    child_of_rdn directory_service
+    found found_below name_text rdn_of rdns_of rdns_within stored_in object_at object_of put list_object_mode settings
+    is_below is_below_within
+    all_held_weight object_weight objects_weight values_weight weight full_folding full_folding_rows value_in by_index
+    sid_bytes be_bytes le_bytes
     lib.Utf8.encode
 in_place = refl

@@ -11,17 +11,20 @@ pub record IsOf (live : List Extent) (bytes : List ℕ) (id : ℕ) : Type 0 wher
   pub by_bytes : with_bytes live bytes ≡ Some extent
   pub by_id : extent_of live id ≡ Some extent
 
-pub id_is_of : (pool : Pool) (bytes : List ℕ) (id : ℕ) → IsPool pool → Some id ≡ option_map (λ (e : Extent). e.id) (with_bytes pool.live bytes) → IsOf pool.live bytes id
+pub id_is_of : (pool : Pool) (bytes : List ℕ) (id : ℕ) → IsPool pool → Some id ≡ option_map (λ (e : Extent). e.id)
+    (with_bytes pool.live bytes) → IsOf pool.live bytes id
 id_is_of pool bytes id one is = by_found (with_bytes pool.live bytes) refl is
   where
-    by_found : (found : Option Extent) → with_bytes pool.live bytes ≡ found → Some id ≡ option_map (λ (e : Extent). e.id) found → IsOf pool.live bytes id
+    by_found : (found : Option Extent) → with_bytes pool.live bytes ≡ found → Some id
+        ≡ option_map (λ (e : Extent). e.id) found → IsOf pool.live bytes id
     by_found None at same = absurd (none-some id (sym same))
     by_found (Some e) at same =
         let own : id ≡ e.id = same_Some id e.id same in
         record {
           extent = e;
           by_bytes = at;
-          by_id = subst (λ (k : ℕ). extent_of pool.live k ≡ Some e) (sym own) (found_added pool.live bytes e 0 pool.blocks one.rise at).0;
+          by_id = subst (λ (k : ℕ). extent_of pool.live k ≡ Some e) (sym own)
+              (found_added pool.live bytes e 0 pool.blocks one.rise at).0;
         }
 
 pub is_live_id : (live : List Extent) (bytes : List ℕ) (id : ℕ) → IsOf live bytes id → is_live live id ≡ true

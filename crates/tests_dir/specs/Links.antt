@@ -9,4 +9,5 @@ use Rattle.ad_dir_model.specs.Objects.{is_live, put}
 
 -- they name objects that are live once this one is put, with whatever descriptor
 abbrev pub HasLinks : List Object → ObjectIn → Held → Type 0
-HasLinks objects o held = AllByRecursion (λ (n : ℕ). (sd : Sd) → is_live (put (object_seen o sd) objects) n ≡ true) (filter_map linked held.values)
+HasLinks objects o held = AllByRecursion (λ (n : ℕ). (sd : Sd) → is_live (put (object_seen o sd) objects) n ≡ true)
+    (filter_map linked held.values)

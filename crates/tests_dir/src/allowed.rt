@@ -26,7 +26,8 @@ use std::test::*;
 
 // Whether no other child of its parent has its name.
 fn has_own_name(alloc: Global, dir: &Dir, object: &Object) -> Result<bool, AllocError>
-    ensures { IfOk result (λ is. (sd : SdValue) → IsTrue is → HasOwnName dir.now.objects (object_seen object.now sd)) }
+    ensures { IfOk result (λ is. (sd : SdValue) → IsTrue is → HasOwnName dir.now.objects
+        (object_seen object.now sd)) }
 {
     if !is_value(object.name.as_slice()) {
         return Ok(false);
@@ -40,7 +41,8 @@ fn has_own_name(alloc: Global, dir: &Dir, object: &Object) -> Result<bool, Alloc
 
 // Whether no other object has its identifier.
 fn has_own_sid(dir: &Dir, object: &Object) -> bool
-    ensures { (sd : SdValue) → IsTrue result → HasOwnSid dir.now.schema dir.now.objects (object_seen object.now sd) }
+    ensures { (sd : SdValue) → IsTrue result → HasOwnSid dir.now.schema dir.now.objects
+        (object_seen object.now sd) }
 {
     dir.stands();
     let Some(sid) = object_sid(dir.schema(), object) else {
@@ -54,7 +56,8 @@ fn has_own_sid(dir: &Dir, object: &Object) -> bool
 
 // Whether an object of the number is live, or is this one.
 fn is_live_with(dir: &Dir, object: &Object, number: u32) -> bool
-    ensures { IsTrue result → (sd : SdValue) → is_live (put (object_seen object.now sd) dir.now.objects) number ≡ true }
+    ensures { IsTrue result → (sd : SdValue)
+        → is_live (put (object_seen object.now sd) dir.now.objects) number ≡ true }
 {
     number == object.number || dir.is_live(number)
 }
@@ -72,7 +75,8 @@ fn is_live_held(dir: &Dir, object: &Object, held: &Held) -> bool
 
 // The same of each attribute, of two at most.
 fn are_live_held(dir: &Dir, object: &Object, values: &[Held]) -> bool
-    ensures { IsTrue result → AllByRecursion (HasLinks dir.now.objects object.now) (map held_seen values.now) }
+    ensures { IsTrue result → AllByRecursion (HasLinks dir.now.objects object.now)
+        (map held_seen values.now) }
 {
     match values {
         [] => true,
@@ -84,7 +88,9 @@ fn are_live_held(dir: &Dir, object: &Object, values: &[Held]) -> bool
 
 // Whether its links name live objects or itself.
 fn has_live_links(dir: &Dir, object: &Object) -> bool
-    ensures { IsTrue result → (sd : SdValue) → LinksAreLive (put (object_seen object.now sd) dir.now.objects) (object_seen object.now sd) }
+    ensures { IsTrue result → (sd : SdValue)
+        → LinksAreLive (put (object_seen object.now sd) dir.now.objects)
+        (object_seen object.now sd) }
 {
     are_live_held(dir, object, object.values.as_slice())
 }
@@ -93,7 +99,8 @@ fn has_live_links(dir: &Dir, object: &Object) -> bool
 
 // The parent of an object where this one is put.
 fn parent_with(dir: &Dir, object: &Object, number: u32) -> u32
-    ensures { (sd : SdValue) → result ≡ parent_at (put (object_seen object.now sd) dir.now.objects) number }
+    ensures { (sd : SdValue) → result ≡ parent_at (put (object_seen object.now sd) dir.now.objects)
+        number }
 {
     if number == object.number {
         return object.parent;
@@ -109,7 +116,8 @@ const LEVELS: u32 = 65;
 
 // Whether an object stands at most 64 parents below the root where this one is put.
 fn is_placed(dir: &Dir, object: &Object, number: u32) -> bool
-    ensures { IsTrue result → (sd : SdValue) → IsPlaced (parent_at (put (object_seen object.now sd) dir.now.objects)) number }
+    ensures { IsTrue result → (sd : SdValue)
+        → IsPlaced (parent_at (put (object_seen object.now sd) dir.now.objects)) number }
 {
     let mut at = number;
     for _ in 0..LEVELS {
@@ -123,7 +131,8 @@ fn is_placed(dir: &Dir, object: &Object, number: u32) -> bool
 
 fn are_placed(dir: &Dir, object: &Object, numbers: &[u32]) -> bool
     ensures { IsTrue result → AllByRecursion (λ number. (sd : SdValue)
-        → IsPlaced (parent_at (put (object_seen object.now sd) dir.now.objects)) number) numbers.now }
+        → IsPlaced (parent_at (put (object_seen object.now sd) dir.now.objects)) number)
+        numbers.now }
 {
     for number in numbers {
         if !is_placed(dir, object, *number) {
@@ -138,7 +147,8 @@ fn is_among(dir: &Dir, object: &Object) -> bool
     ensures some { IsTrue result → 1 ≤ object.now.number }
     ensures fits { IsTrue result → object.now.number < 2 ^ 32 - 1 }
     ensures no_parent { IsTrue result → object.now.number ≡ 1 → object.now.parent ≡ 0 }
-    ensures parent_live { IsTrue result → (object.now.number ≡ 1 → ⊥) → is_live dir.now.objects object.now.parent ≡ true }
+    ensures parent_live { IsTrue result → (object.now.number ≡ 1 → ⊥) → is_live dir.now.objects
+        object.now.parent ≡ true }
     ensures placed { IsTrue result → (object.now.number ≡ 1 → ⊥) → (sd : SdValue)
         → IsPlaced (parent_at (put (object_seen object.now sd) dir.now.objects)) object.now.number }
 {
@@ -153,7 +163,8 @@ fn is_among(dir: &Dir, object: &Object) -> bool
 
 /// Whether an object may be put, with whatever descriptor.
 pub fn may_put(alloc: Global, dir: &Dir, object: &Object) -> Result<bool, AllocError>
-    ensures { IfOk result (λ may. (sd : SdValue) → IsTrue may → MayPut dir.now (object_seen object.now sd)) }
+    ensures { IfOk result (λ may. (sd : SdValue) → IsTrue may
+        → MayPut dir.now (object_seen object.now sd)) }
 {
     let content = is_content(alloc, dir.schema(), object)?;
     if !content {
@@ -191,7 +202,8 @@ fn lacks(held: &Held, number: u32) -> bool
 
 // Whether no attribute links to it, of two at most.
 fn all_lack(values: &[Held], number: u32) -> bool
-    ensures { IsTrue result → AllByRecursion (λ (held : HeldOf). names number held.values ≡ false) (map held_seen values.now) }
+    ensures { IsTrue result → AllByRecursion (λ (held : HeldOf). names number held.values ≡ false)
+        (map held_seen values.now) }
 {
     match values {
         [] => true,
@@ -203,7 +215,8 @@ fn all_lack(values: &[Held], number: u32) -> bool
 
 // Whether the object of a number isn't linked to another one.
 fn spares(dir: &Dir, from: u32, number: u32) -> bool
-    ensures { IsTrue result → AllByRecursion (λ (held : HeldOf). names number held.values ≡ false) (object_at dir.now.objects from).values }
+    ensures { IsTrue result → AllByRecursion (λ (held : HeldOf). names number held.values ≡ false)
+        (object_at dir.now.objects from).values }
 {
     match dir.object(from) {
         Some(object) => all_lack(object.values.as_slice(), number),
@@ -214,7 +227,8 @@ fn spares(dir: &Dir, from: u32, number: u32) -> bool
 // Whether none of these is linked to it, but itself.
 fn all_spare(dir: &Dir, numbers: &[u32], number: u32) -> bool
     ensures { IsTrue result → AllByRecursion (λ (from : ℕ). (from ≡ number → ⊥)
-        → AllByRecursion (λ (held : HeldOf). names number held.values ≡ false) (object_at dir.now.objects from).values) numbers.now }
+        → AllByRecursion (λ (held : HeldOf). names number held.values ≡ false)
+        (object_at dir.now.objects from).values) numbers.now }
 {
     for from in numbers {
         if *from != number && !spares(dir, *from, number) {

@@ -85,7 +85,8 @@ fn is_held(alloc: Global, schema: &Schema, held: &Held) -> Result<bool, AllocErr
 // Whether there are two attributes at most, and each is one of the schema.
 fn are_held(alloc: Global, schema: &Schema, values: &[Held]) -> Result<bool, AllocError>
     ensures rise { IfOk result (λ are. IsTrue are → AttrsRiseFrom 0 (map held_seen values.now)) }
-    ensures each { IfOk result (λ are. IsTrue are → AllByRecursion (IsHeld schema.now) (map held_seen values.now)) }
+    ensures each { IfOk result (λ are. IsTrue are → AllByRecursion (IsHeld schema.now)
+        (map held_seen values.now)) }
 {
     match values {
         [] => Ok(true),
@@ -107,7 +108,8 @@ fn are_held(alloc: Global, schema: &Schema, values: &[Held]) -> Result<bool, All
 
 /// Whether class, name and values are of the schema.
 pub fn is_content(alloc: Global, schema: &Schema, object: &Object) -> Result<bool, AllocError>
-    ensures { IfOk result (λ is. (sd : SdValue) → IsTrue is → IsContent schema.now (object_seen object.now sd)) }
+    ensures { IfOk result (λ is. (sd : SdValue) → IsTrue is
+        → IsContent schema.now (object_seen object.now sd)) }
 {
     let held = are_held(alloc, schema, object.values.as_slice())?;
     Ok(

@@ -1,4 +1,5 @@
-//! Worked examples of a directory: descriptors that are shared and given back, and objects that are found, or no more.
+//! Worked examples of a directory: descriptors that are shared and given back, and objects that are found, or no
+//! more.
 
 use crate::allowed::{put, remove};
 use crate::base::{Row, descriptor, object_of, schema, sid};

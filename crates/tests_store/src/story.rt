@@ -20,7 +20,8 @@ pub fn old_or_new(
     calls: u32,
     kept: u32,
 ) -> Result<Vec<Vec<u8>>, LogFault>
-    ensures bodies { IfOk result (λ bodies. (bodies_of bodies.items ≡ old.now ∷ []) ⊎ (bodies_of bodies.items ≡ old.now ∷ new.now ∷ [])) }
+    ensures bodies { IfOk result (λ bodies. (bodies_of bodies.items ≡ old.now ∷ [])
+        ⊎ (bodies_of bodies.items ≡ old.now ∷ new.now ∷ [])) }
     ensures opens { ¬ IsErrOf result LogFault.Empty × ¬ IsErrOf result LogFault.Broken }
     ensures faults { ¬ IsErrOf result LogFault.Taken × ¬ IsErrOf result LogFault.Spent }
 {

@@ -6,7 +6,8 @@ use std::test::*;
 // An attribute cn, and no class.
 const SCHEMA: &[u8] =
     b"dn: cn=cn\nobjectClass: top\nobjectClass: attributeSchema\nlDAPDisplayName: cn\n\
-    attributeSyntax: 2.5.5.12\nschemaIDGUID:: oAAAAAAAQACAAAAAAAAAAQ==\n\ndn: dc=x\nobjectClass: domainDNS\n";
+    attributeSyntax: 2.5.5.12\nschemaIDGUID:: oAAAAAAAQACAAAAAAAAAAQ==\n\ndn: dc=x\nobjectClass:
+        domainDNS\n";
 
 #[test]
 fn a_schema_is_read(rt: HostRuntime) {

@@ -1,4 +1,5 @@
--- The base directory without its values: the root's list gets an entry, four steps are made, and a container is moved.
+-- The base directory without its values: the root's list gets an entry, four steps are made, and a container is
+-- moved.
 use Rattle.std.specs.Prelude.{◌≡◌, true, false, codes, [], ◌∷◌, map, refl}
 use Rattle.ad_ids.specs.SidValue.{SidValue}
 use Rattle.ad_sd.specs.declared.parts.Sd.{Sd}
@@ -10,7 +11,8 @@ use Rattle.ad_dir_model.specs.SameSd.{same_sd}
 use Rattle.ad_dir_model.specs.Inheritance.{guid_at, whole_at, marked_if_changed, stored, written}
 use Rattle.ad_dir_model.specs.Steps.{step, steps}
 use Rattle.ad_dir_model.specs.Changes.{changed, renamed}
-use Rattle.ad_dir_model.specs.examples.Staff.{allow, administrators, sd_of, root_entries, inherited_entries, object, pending_of}
+use Rattle.ad_dir_model.specs.examples.Staff.{allow, administrators, sd_of, root_entries, inherited_entries, object}
+use Rattle.ad_dir_model.specs.examples.Staff.{pending_of}
 
 abbrev pub system : SidValue
 system = record { authority = 5; sub_authorities = 18 ∷ [] }
@@ -56,7 +58,8 @@ listed = written base (object 1 0 (codes "corp") (sd_of false (allow 0x02 0x80 r
 abbrev pub moved : Directory
 moved = renamed (steps 4 listed) 11 6 (codes "Services")
 
-pub six_pending : moved.pending ≡ pending_of 1 5 ∷ pending_of 2 0 ∷ pending_of 3 0 ∷ pending_of 4 0 ∷ pending_of 5 0 ∷ pending_of 11 0 ∷ []
+pub six_pending : moved.pending ≡ pending_of 1 5 ∷ pending_of 2 0 ∷ pending_of 3 0 ∷ pending_of 4 0 ∷ pending_of 5 0
+    ∷ pending_of 11 0 ∷ []
 unfolding step steps written stored changed renamed whole_at whole explicit_part copies guid_at object_at object_of
     put marked_if_changed same_sd next_child
 six_pending = refl

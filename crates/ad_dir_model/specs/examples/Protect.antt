@@ -10,8 +10,10 @@ use Rattle.ad_value.specs.declared.value.Key.TheVariants as key
 use Rattle.ad_value.specs.Value.{value, as_shown}
 use Rattle.ad_dir_model.specs.Object.{plain, link, Held, Object, stored_in}
 use Rattle.ad_dir_model.specs.Directory.{Directory}
-use Rattle.ad_dir_model.specs.Protection.{Run, frozen, begins_protection, is_protected_alone, primary_group_sid, has_group}
-use Rattle.ad_dir_model.specs.Protection.{grown, spread, protected, admin_count, protected_object, all_protected, run_from}
+use Rattle.ad_dir_model.specs.Protection.{Run, frozen, begins_protection, is_protected_alone, primary_group_sid}
+use Rattle.ad_dir_model.specs.Protection.{has_group}
+use Rattle.ad_dir_model.specs.Protection.{grown, spread, protected, admin_count, protected_object, all_protected}
+use Rattle.ad_dir_model.specs.Protection.{run_from}
 use Rattle.ad_bytes.specs.Numbers.{be_bytes, le_bytes, byte_at, be_at, le_at}
 use Rattle.ad_bytes.specs.Reading.{many_at}
 use Rattle.ad_ids.specs.SidReading.{header_at, sid_at}
@@ -19,7 +21,8 @@ use Rattle.ad_schema.specs.Attributes.{lines_of, names_of, attr_info, attrs_of, 
 use Rattle.ad_schema.specs.Fields.{value_of}
 use Rattle.ad_schema_classes.specs.Names.{same_name, place_of}
 use Rattle.ad_schema.specs.Numbers.{number_below, number, digits_behind}
-use Rattle.ad_schema.specs.Meaning.{is_neither, is_link, is_back_link, attr_is_link, attr_is_back_link, counts, if_counts, attr_of_rule}
+use Rattle.ad_schema.specs.Meaning.{is_neither, is_link, is_back_link, attr_is_link, attr_is_back_link, counts}
+use Rattle.ad_schema.specs.Meaning.{if_counts, attr_of_rule}
 use Rattle.ad_value.specs.ValueOf.{sid_of, normal_of, number_of}
 use Rattle.ad_dir_model.specs.Attributes.{rule_place, syntax_at}
 use Rattle.ad_dir_model.specs.Identity.{first_of_attr, sid_in, domain_sid, domain_child}
@@ -36,7 +39,11 @@ abbrev pub line : List ℕ → List ℕ → Line
 line name text = record { name = name; value = text }
 
 abbrev pub attribute : List ℕ → List ℕ → List Line → SchemaRecord
-attribute name oid more = record { kind = Attribute; lines = line (codes "lDAPDisplayName") name ∷ line (codes "attributeSyntax") oid ∷ more }
+attribute name oid more = record {
+  kind = Attribute;
+  lines = line (codes "lDAPDisplayName") name
+      ∷ line (codes "attributeSyntax") oid ∷ more;
+}
 
 abbrev pub schema : List SchemaRecord
 schema =
@@ -50,7 +57,11 @@ schema =
 -- ---- objects
 
 abbrev pub sid_value : List ℕ → Held
-sid_value numbers = record { attr = 1; values = plain (as_shown (sid_bytes (record { authority = 5; sub_authorities = numbers }))) ∷ [] }
+sid_value numbers = record {
+  attr = 1;
+  values
+      = plain (as_shown (sid_bytes (record { authority = 5; sub_authorities = numbers }))) ∷ [];
+}
 
 abbrev pub of_domain : ℕ → Held
 of_domain rid = sid_value (21 ∷ 1 ∷ 2 ∷ 3 ∷ rid ∷ [])
@@ -62,7 +73,15 @@ abbrev pub primary : ℕ → List ℕ → Held
 primary number text = record { attr = 3; values = plain (value text (key.Number (pos number))) ∷ [] }
 
 abbrev pub object : ℕ → ℕ → List ℕ → List Held → Sd → Object
-object number parent name values sd = record { number = number; parent = parent; class = 0; name = name; values = values; sd = sd }
+object number parent name values sd = record {
+  number = number;
+  parent = parent;
+  class = 0;
+  name = name;
+  values
+      = values;
+  sd = sd;
+}
 
 -- club with these members, and bob with these values after his identifier
 abbrev pub groups : List ℕ → List Held → Directory
@@ -135,7 +154,8 @@ unfolding protected spread grown begins_protection is_protected_alone primary_gr
     is_back_link syntax_at normal_of number_of digits
 three_change = (refl, refl)
 
-pub all_frozen : map (sd_at first.directory.objects) (4 ∷ 7 ∷ 10 ∷ []) ≡ frozen_holder ∷ frozen_holder ∷ frozen_holder ∷ []
+pub all_frozen : map (sd_at first.directory.objects) (4 ∷ 7 ∷ 10 ∷ []) ≡ frozen_holder ∷ frozen_holder ∷ frozen_holder
+    ∷ []
 unfolding protected spread grown begins_protection is_protected_alone primary_group_sid has_group first_of_attr sid_in
     domain_sid domain_child rule_place stored_in object_of object_at is_neither is_link counts if_counts attr_of_rule
     lines_of names_of attr_info attrs_of place_of attr_named value_of same_name number_below number digits_behind

@@ -1,4 +1,5 @@
--- A small directory: a root, an organizational unit with two users, a computer and a group, and what steps make of it.
+-- A small directory: a root, an organizational unit with two users, a computer and a group, and what steps make of
+-- it.
 use Rattle.std.specs.Prelude.{◌≡◌, ℕ, Bool, false, codes, None, List, [], ◌∷◌, map, refl}
 use Rattle.ad_ids.specs.SidValue.{SidValue}
 use Rattle.ad_acl.specs.declared.kind.AceKind.TheVariants.{Allow}
@@ -86,29 +87,35 @@ once = staff_with (write_entry ∷ []) staff
 
 -- it marks the unit
 pub marks_the_unit : once.pending ≡ pending_of 3 0 ∷ []
-unfolding step steps written stored whole_at whole explicit_part copies guid_at object_at object_of put marked_if_changed same_sd next_child
+unfolding step steps written stored whole_at whole explicit_part copies guid_at object_at object_of put
+    marked_if_changed same_sd next_child
 marks_the_unit = refl
 
 -- after one step the first user has it, and two are pending
 pub one_step : (steps 1 once).pending ≡ pending_of 3 7 ∷ pending_of 7 0 ∷ []
-unfolding step steps written stored whole_at whole explicit_part copies guid_at object_at object_of put marked_if_changed same_sd next_child
+unfolding step steps written stored whole_at whole explicit_part copies guid_at object_at object_of put
+    marked_if_changed same_sd next_child
 one_step = refl
 
 -- with eight more nothing is pending, and not before
 pub eight_more : (steps 9 once).pending ≡ []
-unfolding step steps written stored whole_at whole explicit_part copies guid_at object_at object_of put marked_if_changed same_sd next_child
+unfolding step steps written stored whole_at whole explicit_part copies guid_at object_at object_of put
+    marked_if_changed same_sd next_child
 eight_more = refl
 
 pub not_with_seven : (steps 8 once).pending ≡ pending_of 10 0 ∷ []
-unfolding step steps written stored whole_at whole explicit_part copies guid_at object_at object_of put marked_if_changed same_sd next_child
+unfolding step steps written stored whole_at whole explicit_part copies guid_at object_at object_of put
+    marked_if_changed same_sd next_child
 not_with_seven = refl
 
 -- what a child has then
 abbrev pub with_copy : Sd
 with_copy = sd_of false (allow 0x12 0x20 authenticated ∷ inherited_entries)
 
-pub each_child : map (sd_at (steps 9 once).objects) (7 ∷ 8 ∷ 9 ∷ 10 ∷ []) ≡ with_copy ∷ with_copy ∷ with_copy ∷ with_copy ∷ []
-unfolding step steps written stored whole_at whole explicit_part copies guid_at object_at object_of put marked_if_changed same_sd next_child
+pub each_child : map (sd_at (steps 9 once).objects) (7 ∷ 8 ∷ 9 ∷ 10 ∷ []) ≡ with_copy ∷ with_copy ∷ with_copy
+    ∷ with_copy ∷ []
+unfolding step steps written stored whole_at whole explicit_part copies guid_at object_at object_of put
+    marked_if_changed same_sd next_child
 each_child = refl
 
 -- ---- two steps, and then another write
@@ -118,22 +125,27 @@ twice = staff_with (write_entry ∷ delete_entry ∷ []) (steps 2 once)
 
 -- the unit starts again in its place
 pub starts_again : twice.pending ≡ pending_of 3 0 ∷ pending_of 7 0 ∷ pending_of 8 0 ∷ []
-unfolding step steps written stored whole_at whole explicit_part copies guid_at object_at object_of put marked_if_changed same_sd next_child
+unfolding step steps written stored whole_at whole explicit_part copies guid_at object_at object_of put
+    marked_if_changed same_sd next_child
 starts_again = refl
 
 pub nine_steps : (steps 9 twice).pending ≡ []
-unfolding step steps written stored whole_at whole explicit_part copies guid_at object_at object_of put marked_if_changed same_sd next_child
+unfolding step steps written stored whole_at whole explicit_part copies guid_at object_at object_of put
+    marked_if_changed same_sd next_child
 nine_steps = refl
 
 pub not_eight : (steps 8 twice).pending ≡ pending_of 10 0 ∷ []
-unfolding step steps written stored whole_at whole explicit_part copies guid_at object_at object_of put marked_if_changed same_sd next_child
+unfolding step steps written stored whole_at whole explicit_part copies guid_at object_at object_of put
+    marked_if_changed same_sd next_child
 not_eight = refl
 
 abbrev pub with_both : Sd
 with_both = sd_of false (allow 0x12 0x20 authenticated ∷ allow 0x12 0x10000 authenticated ∷ inherited_entries)
 
-pub both_entries : map (sd_at (steps 9 twice).objects) (7 ∷ 8 ∷ 9 ∷ 10 ∷ []) ≡ with_both ∷ with_both ∷ with_both ∷ with_both ∷ []
-unfolding step steps written stored whole_at whole explicit_part copies guid_at object_at object_of put marked_if_changed same_sd next_child
+pub both_entries : map (sd_at (steps 9 twice).objects) (7 ∷ 8 ∷ 9 ∷ 10 ∷ []) ≡ with_both ∷ with_both ∷ with_both
+    ∷ with_both ∷ []
+unfolding step steps written stored whole_at whole explicit_part copies guid_at object_at object_of put
+    marked_if_changed same_sd next_child
 both_entries = refl
 
 -- ---- two steps, and then the group is deleted

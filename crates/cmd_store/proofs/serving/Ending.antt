@@ -1,5 +1,6 @@
 -- How serving ends, from what was served and read.
-use Rattle.std.proofs.Common.{◌≡◌, ◌∙◌, inl, inr, ⊎_elim, ℕ, ◌+◌, ◌≤◌, List, [], ◌∷◌, ◌++◌, length, take, Option, Some, None, Result, refl, sym, ap, subst, append_assoc, arith}
+use Rattle.std.proofs.Common.{◌≡◌, ◌∙◌, inl, inr, ⊎_elim, ℕ, ◌+◌, ◌≤◌, List, [], ◌∷◌, ◌++◌, length, take, Option}
+use Rattle.std.proofs.Common.{Some, None, Result, refl, sym, ap, subst, append_assoc, arith}
 use Rattle.std.specs.Option.{IfSome}
 use Rattle.std.proofs.lemmas.Bool.{cases_lt}
 use Rattle.std.proofs.lemmas.List.{append-nil, take_all, take-append-le}
@@ -20,14 +21,16 @@ use Rattle.ad_engine.specs.Standing.{HoldsDir}
 use Rattle.ad_engine.specs.declared.engine.Engine.{Engine}
 use Rattle.ad_engine.proofs.Opening.{holds_has, store_of}
 use Rattle.cmd_call.specs.declared.outcome.Outcome.{Outcome}
-use Rattle.cmd_call.specs.declared.outcome.Outcome.TheVariants.{Done, NotOfForm, TooMany, SourceFailed, SiteFailed, NoMemory}
+use Rattle.cmd_call.specs.declared.outcome.Outcome.TheVariants.{Done, NotOfForm, TooMany, SourceFailed, SiteFailed}
+use Rattle.cmd_call.specs.declared.outcome.Outcome.TheVariants.{NoMemory}
 use Rattle.cmd_call.specs.Call.{IsTold}
 use Rattle.cmd_call.specs.Store.{HasFailed, Emits, EmitsPart}
 use Rattle.cmd_call.proofs.Moments.{told_clash, told_map, told_meets}
 use Rattle.cmd_call.proofs.Telling.{unhealthy}
 use Rattle.cmd_store.specs.Opened.{NoDirStore, LeavesSynced, AllBegun}
 use Rattle.cmd_store.specs.serving.Crash.{IsCrash, IsCrashBehind}
-use Rattle.cmd_store.specs.serving.Does.{outcome_at, EndsAs, StandTaken, Answers, IsServed, IsReadOut, IsPartlyServed, ServeDoes}
+use Rattle.cmd_store.specs.serving.Does.{outcome_at, EndsAs, StandTaken, Answers, IsServed, IsReadOut, IsPartlyServed}
+use Rattle.cmd_store.specs.serving.Does.{ServeDoes}
 use Rattle.cmd_store.specs.serving.One.{answered_by, AnswersFrame}
 use Rattle.cmd_store.proofs.Begun.{begun_on}
 use Rattle.cmd_store.proofs.serving.Runs.{out_append, out_push}
@@ -38,7 +41,8 @@ use Rattle.cmd_store.proofs.serving.Running.{AtMoment, AllMoments, Serving, outp
 
 -- ---- what is told
 
-pub first_told : {P : List ℕ → List ℕ → Type 0} (Q : List ℕ → Type 0) (rest left : Option (List ℕ)) → ((input behind : List ℕ) → P input behind → Q input)
+pub first_told : {P : List ℕ → List ℕ → Type 0} (Q : List ℕ → Type 0) (rest left : Option (List ℕ))
+    → ((input behind : List ℕ) → P input behind → Q input)
     → BothTold rest left P → IfSome rest Q
 first_told Q None None f told = tt
 first_told Q (Some input) (Some behind) f told = f input behind told
@@ -47,24 +51,31 @@ first_told Q (Some input) None f told = absurd told
 
 -- ---- a prefix of a text
 
-pub part_longer : (r0 r1 : Option (List ℕ)) (text rest whole : List ℕ) → whole ≡ text ++ rest → EmitsPart r0 r1 text → EmitsPart r0 r1 whole
+pub part_longer : (r0 r1 : Option (List ℕ)) (text rest whole : List ℕ) → whole ≡ text ++ rest → EmitsPart r0 r1 text
+    → EmitsPart r0 r1 whole
 part_longer None None text rest whole is part = tt
 part_longer (Some a) (Some b) text rest whole is part = ⊎_elim
-    (λ lt. let le : part.0 ≤ length text = omega (arith, lt) in
-    (part.0, part.1 ∙ ap (λ (l : List ℕ). a ++ l) (sym (take-append-le part.0 text rest le) ∙ ap (take part.0) (sym is))))
+    (λ lt. let le : part.0 ≤ length text = omega (arith, lt) in (
+      part.0,
+      part.1 ∙ ap (λ (l : List ℕ). a ++ l)
+          (sym (take-append-le part.0 text rest le) ∙ ap (take part.0) (sym is)),
+    ))
     (λ ge. let all : take part.0 text ≡ text = take_all part.0 text ge in
-    let front : take (length text) whole ≡ text = ap (take (length text)) is ∙ take-append-le (length text) text rest (omega arith) ∙ take_all (length text) text (omega arith) in
+    let front : take (length text) whole ≡ text = ap (take (length text)) is ∙ take-append-le (length text) text rest
+    (omega arith) ∙ take_all (length text) text (omega arith) in
     (length text, part.1 ∙ ap (λ (l : List ℕ). a ++ l) (all ∙ sym front)))
     (cases_lt part.0 (length text))
 part_longer None (Some b) text rest whole is part = absurd part
 part_longer (Some a) None text rest whole is part = absurd part
 
-pub part_more : (r0 r1 r2 : Option (List ℕ)) (text more whole : List ℕ) → whole ≡ text ++ more → Emits r0 r1 text → EmitsPart r1 r2 more → EmitsPart r0 r2 whole
+pub part_more : (r0 r1 r2 : Option (List ℕ)) (text more whole : List ℕ) → whole ≡ text ++ more → Emits r0 r1 text
+    → EmitsPart r1 r2 more → EmitsPart r0 r2 whole
 part_more None None None text more whole is first second = tt
 part_more (Some a) (Some b) (Some c) text more whole is first second = (
   length text + second.0,
   second.1 ∙ ap (λ (l : List ℕ). l ++ take second.0 more) first ∙ append_assoc a text (take second.0 more)
-      ∙ ap (λ (l : List ℕ). a ++ l) (sym (take-append-add text more second.0) ∙ ap (take (length text + second.0)) (sym is)),
+      ∙ ap (λ (l : List ℕ). a ++ l) (sym (take-append-add text more second.0) ∙ ap (take (length text + second.0))
+      (sym is)),
 )
 part_more None None (Some c) text more whole is first second = absurd second
 part_more None (Some b) r2 text more whole is first second = absurd first
@@ -88,7 +99,8 @@ module _ {S : Type 0} (site : SiteGhosts S) where
     pub moments : AllMoments site synced dir frames old new
     pub part : EmitsPart (site.emitted old) (site.emitted new) (out dir frames)
 
-  pub leaves_served : (dir : Directory) (served : List Frame) (engine : Engine) (old new : S) → Serving site dir served engine old new → Leaves dir served old new
+  pub leaves_served : (dir : Directory) (served : List Frame) (engine : Engine) (old new : S)
+      → Serving site dir served engine old new → Leaves dir served old new
   leaves_served dir served engine old new so_far = record {
     store = so_far.store;
     synced = so_far.synced;
@@ -97,23 +109,31 @@ module _ {S : Type 0} (site : SiteGhosts S) where
     part = part_whole (site.emitted old) (site.emitted new) (out dir served) so_far.emitted;
   }
 
-  pub leaves_amid : (dir : Directory) (served : List Frame) (engine behind : Engine) (frame : Frame) (old x z : S) (result : Result (Unit {0}) Outcome)
-      → Serving site dir served engine old x → AnswersFrame site engine behind frame x z result → Leaves dir (served ++ frame ∷ []) old z
+  pub leaves_amid : (dir : Directory) (served : List Frame) (engine behind : Engine) (frame : Frame) (old x z : S)
+      (result : Result (Unit {0}) Outcome)
+      → Serving site dir served engine old x → AnswersFrame site engine behind frame x z result
+      → Leaves dir (served ++ frame ∷ []) old z
   leaves_amid dir served engine behind frame old x z result so_far answers = record {
     store = so_far.store;
     synced = so_far.synced;
     begun = begun_on site old x z so_far.synced so_far.come answers.moments so_far.begun;
     moments = moments_more site dir served engine behind frame old x z result so_far answers;
-    part = part_more (site.emitted old) (site.emitted x) (site.emitted z) (out dir served) (answered_by engine frame).output (out dir (served ++ frame ∷ []))
-        (out_push dir served frame ∙ ap (λ (l : List ℕ). out dir served ++ l) (sym (output_is site dir served engine frame so_far.dir_is so_far.tokens_are))) so_far.emitted answers.part;
+    part = part_more (site.emitted old) (site.emitted x) (site.emitted z) (out dir served)
+        (answered_by engine frame).output (out dir (served ++ frame ∷ []))
+        (out_push dir served frame ∙ ap (λ (l : List ℕ). out dir served ++ l)
+        (sym (output_is site dir served engine frame so_far.dir_is so_far.tokens_are))) so_far.emitted
+        answers.part;
   }
 
   -- the store represents the directory after the frames
-  pub stands_for : (engine : Engine) (dir : Directory) (r : Option Images) → engine.dir ≡ dir → IfSome r (HoldsDir engine) → IsSound engine.dir → IfSome r (λ held. IsStoreOf held dir)
+  pub stands_for : (engine : Engine) (dir : Directory) (r : Option Images) → engine.dir ≡ dir
+      → IfSome r (HoldsDir engine) → IsSound engine.dir → IfSome r (λ held. IsStoreOf held dir)
   stands_for engine dir r is holds sound = told_map (HoldsDir engine) (λ held. IsStoreOf held dir) r
-      (λ held has. subst (IsStoreOf held) is (store_of engine.dir held has.table has.rows sound (holds_has engine.store held has.table has.holds))) holds
+      (λ held has. subst (IsStoreOf held) is
+      (store_of engine.dir held has.table has.rows sound (holds_has engine.store held has.table has.holds))) holds
 
-  pub answers_of : (dir : Directory) (served : List Frame) (engine : Engine) (old new : S) → Serving site dir served engine old new → Answers site dir served old new
+  pub answers_of : (dir : Directory) (served : List Frame) (engine : Engine) (old new : S) → Serving site dir served
+      engine old new → Answers site dir served old new
   answers_of dir served engine old new so_far =
       let now = so_far.stands so_far.unspent in
       record {
@@ -124,8 +144,10 @@ module _ {S : Type 0} (site : SiteGhosts S) where
       }
 
 module _ {I S : Type 0} (source : SourceGhosts I) (site : SiteGhosts S) where
-  no_dir : (dir : Directory) (old : S) → IfSome (site.reads old) (λ held. IsStoreOf held dir) → IsTold NoDirStore (site.reads old) → ⊥
-  no_dir dir old store none = told_clash NoDirStore (λ held. IsStoreOf held dir) (site.reads old) (λ held no is. no (dir, is)) none store
+  no_dir : (dir : Directory) (old : S) → IfSome (site.reads old) (λ held. IsStoreOf held dir)
+      → IsTold NoDirStore (site.reads old) → ⊥
+  no_dir dir old store none = told_clash NoDirStore (λ held. IsStoreOf held dir) (site.reads old)
+      (λ held no is. no (dir, is)) none store
 
   -- ---- what crashes leave
 
@@ -133,15 +155,18 @@ module _ {I S : Type 0} (source : SourceGhosts I) (site : SiteGhosts S) where
   Crashes from old new dir = IfSome (source.rest from) (λ input. IfSome (site.emitted old)
       (λ said. LeavesSynced site (IsCrashBehind dir (frames_of input).frames said) old new))
 
-  same_dir : (P : Directory → Type 0) (dir other : Directory) (r : Option Images) → IfSome r (λ held. IsStoreOf held dir) → IsTold (λ held. IsStoreOf held other) r
+  same_dir : (P : Directory → Type 0) (dir other : Directory) (r : Option Images)
+      → IfSome r (λ held. IsStoreOf held dir) → IsTold (λ held. IsStoreOf held other) r
       → IfSome r (λ held. P dir) → P other
   same_dir P dir other None store told p = absurd told
   same_dir P dir other (Some held) store told p = subst P (one_store held dir other store told) p
 
   crash_said : (dir : Directory) (frames : List Frame) (old new : S) (synced : ℕ) → AllBegun site synced old new
       → ((said : List ℕ) → site.emitted old ≡ Some said
-      → (t : ℕ) (images : Images) (text : List ℕ) → synced ≤ t → site.left new t images text → AtMoment dir frames said images text)
-      → (input : List ℕ) → ((others : List Frame) × ((frames_of input).frames ≡ frames ++ others)) → (r : Option (List ℕ)) → site.emitted old ≡ r
+      → (t : ℕ) (images : Images) (text : List ℕ) → synced ≤ t → site.left new t images text
+      → AtMoment dir frames said images text)
+      → (input : List ℕ) → ((others : List Frame) × ((frames_of input).frames ≡ frames ++ others))
+      → (r : Option (List ℕ)) → site.emitted old ≡ r
       → IfSome r (λ said. LeavesSynced site (IsCrashBehind dir (frames_of input).frames said) old new)
   crash_said dir frames old new synced begun moments input first None is = tt
   crash_said dir frames old new synced begun moments input first (Some said) is = record {
@@ -156,14 +181,17 @@ module _ {I S : Type 0} (source : SourceGhosts I) (site : SiteGhosts S) where
         );
   }
 
-  pub crash_of : (from : I) (dir : Directory) (frames : List Frame) (old new : S) → Leaves site dir frames old new → Fronts frames (source.rest from)
+  pub crash_of : (from : I) (dir : Directory) (frames : List Frame) (old new : S) → Leaves site dir frames old new
+      → Fronts frames (source.rest from)
       → (other : Directory) → IsTold (λ held. IsStoreOf held other) (site.reads old) → Crashes from old new other
   crash_of from dir frames old new leaves fronts other told =
       same_dir (Crashes from old new) dir other (site.reads old) leaves.store told
       (told_map _ _ (site.reads old) (λ held moments. told_map _ _ (source.rest from)
-      (λ input first. crash_said dir frames old new leaves.synced leaves.begun moments input first (site.emitted old) refl) fronts) leaves.moments)
+      (λ input first. crash_said dir frames old new leaves.synced leaves.begun moments input first (site.emitted old)
+      refl) fronts) leaves.moments)
 
-  partly_of : (from : I) (dir : Directory) (frames : List Frame) (old new : S) → Leaves site dir frames old new → Fronts frames (source.rest from) → IsPartlyServed source site from old new
+  partly_of : (from : I) (dir : Directory) (frames : List Frame) (old new : S) → Leaves site dir frames old new
+      → Fronts frames (source.rest from) → IsPartlyServed source site from old new
   partly_of from dir frames old new leaves fronts = inr (
     dir,
     leaves.store,
@@ -174,24 +202,34 @@ module _ {I S : Type 0} (source : SourceGhosts I) (site : SiteGhosts S) where
 
   -- ---- the input ends
 
-  all_front : (end : End) (frames : List Frame) (input : List ℕ) → AreAll end frames input → (others : List Frame) × ((frames_of input).frames ≡ frames ++ others)
+  all_front : (end : End) (frames : List Frame) (input : List ℕ) → AreAll end frames input → (others : List Frame)
+      × ((frames_of input).frames ≡ frames ++ others)
   all_front end frames input all = ([], all.0 ∙ sym (append-nil frames))
 
-  served_of : (end : End) (from to : I) (dir : Directory) (served : List Frame) (engine : Engine) (old new : S) → Serving site dir served engine old new
+  served_of : (end : End) (from to : I) (dir : Directory) (served : List Frame) (engine : Engine) (old new : S)
+      → Serving site dir served engine old new
       → IfSome (source.rest from) (AreAll end served) → IsServed source site end from to old new
   served_of end from to dir served engine old new so_far all = record {
     dir = dir;
     store = so_far.store;
     answered = told_map _ _ (source.rest from)
-        (λ input is. (is.1, subst (λ (l : List Frame). Answers site dir l old new) (sym is.0) (answers_of site dir served engine old new so_far))) all;
+        (λ input is. (
+          is.1,
+          subst (λ (l : List Frame). Answers site dir l old new) (sym is.0)
+              (answers_of site dir served engine old new so_far),
+        )) all;
   }
 
-  complete_at : (end other : End) (frames : List Frame) (r : Option (List ℕ)) → IfSome r (AreAll end frames) → IsTold (EndsAs other) r → outcome_at end ≡ outcome_at other
-  complete_at end other frames r all ends = told_meets (EndsAs other) (AreAll end frames) r (λ input is have. ap outcome_at (sym have.1 ∙ is)) ends all
+  complete_at : (end other : End) (frames : List Frame) (r : Option (List ℕ)) → IfSome r (AreAll end frames)
+      → IsTold (EndsAs other) r → outcome_at end ≡ outcome_at other
+  complete_at end other frames r all ends = told_meets (EndsAs other) (AreAll end frames) r
+      (λ input is have. ap outcome_at (sym have.1 ∙ is)) ends all
 
   -- the whole was read
-  pub ends_whole : (from to : I) (dir : Directory) (served : List Frame) (engine : Engine) (old new : S) → Serving site dir served engine old new
-      → IfSome (source.rest from) (AreAll Whole served) → IsReadOut source site from to → ServeDoes source site from to old new Done
+  pub ends_whole : (from to : I) (dir : Directory) (served : List Frame) (engine : Engine) (old new : S)
+      → Serving site dir served engine old new
+      → IfSome (source.rest from) (AreAll Whole served) → IsReadOut source site from to → ServeDoes source site from
+      to old new Done
   ends_whole from to dir served engine old new so_far all out = record {
     done = λ _. (served_of Whole from to dir served engine old new so_far all, out);
     bad = λ no. absurd cc;
@@ -202,12 +240,14 @@ module _ {I S : Type 0} (source : SourceGhosts I) (site : SiteGhosts S) where
     complete = λ other _ ends _. inl (complete_at Whole other served (source.rest from) all ends);
     refuses = λ none _. absurd (no_dir dir old so_far.store none);
     none = λ none. absurd (no_dir dir old so_far.store none);
-    crash = crash_of from dir served old new (leaves_served site dir served engine old new so_far) (told_map _ _ (source.rest from) (all_front Whole served) all);
+    crash = crash_of from dir served old new (leaves_served site dir served engine old new so_far)
+        (told_map _ _ (source.rest from) (all_front Whole served) all);
     only = tt;
   }
 
   -- what is left begins with no frame
-  pub ends_bad : (from to : I) (dir : Directory) (served : List Frame) (engine : Engine) (old new : S) → Serving site dir served engine old new
+  pub ends_bad : (from to : I) (dir : Directory) (served : List Frame) (engine : Engine) (old new : S)
+      → Serving site dir served engine old new
       → IfSome (source.rest from) (AreAll Bad served) → ServeDoes source site from to old new NotOfForm
   ends_bad from to dir served engine old new so_far all = record {
     done = λ no. absurd cc;
@@ -219,12 +259,14 @@ module _ {I S : Type 0} (source : SourceGhosts I) (site : SiteGhosts S) where
     complete = λ other _ ends _. inl (complete_at Bad other served (source.rest from) all ends);
     refuses = λ none _. absurd (no_dir dir old so_far.store none);
     none = λ none. absurd (no_dir dir old so_far.store none);
-    crash = crash_of from dir served old new (leaves_served site dir served engine old new so_far) (told_map _ _ (source.rest from) (all_front Bad served) all);
+    crash = crash_of from dir served old new (leaves_served site dir served engine old new so_far)
+        (told_map _ _ (source.rest from) (all_front Bad served) all);
     only = tt;
   }
 
   -- as many frames were answered as may be
-  pub ends_over : (from to : I) (dir : Directory) (served : List Frame) (engine : Engine) (old new : S) → Serving site dir served engine old new
+  pub ends_over : (from to : I) (dir : Directory) (served : List Frame) (engine : Engine) (old new : S)
+      → Serving site dir served engine old new
       → IfSome (source.rest from) (AreAll Over served) → ServeDoes source site from to old new TooMany
   ends_over from to dir served engine old new so_far all = record {
     done = λ no. absurd cc;
@@ -236,16 +278,19 @@ module _ {I S : Type 0} (source : SourceGhosts I) (site : SiteGhosts S) where
     complete = λ other _ ends _. inl (complete_at Over other served (source.rest from) all ends);
     refuses = λ none _. absurd (no_dir dir old so_far.store none);
     none = λ none. absurd (no_dir dir old so_far.store none);
-    crash = crash_of from dir served old new (leaves_served site dir served engine old new so_far) (told_map _ _ (source.rest from) (all_front Over served) all);
+    crash = crash_of from dir served old new (leaves_served site dir served engine old new so_far)
+        (told_map _ _ (source.rest from) (all_front Over served) all);
     only = tt;
   }
 
   -- ---- it is cut off
 
   -- the source failed
-  pub ends_cut : (from to : I) (dir : Directory) (served : List Frame) (engine : Engine) (old new : S) → Serving site dir served engine old new
+  pub ends_cut : (from to : I) (dir : Directory) (served : List Frame) (engine : Engine) (old new : S)
+      → Serving site dir served engine old new
       → Fronts served (source.rest from)
-      → BothTold (source.rest from) (source.rest to) (λ input left. (text : List ℕ) × (input ≡ text ++ left) × (served ≡ (frames_of text).frames))
+      → BothTold (source.rest from) (source.rest to) (λ input left. (text : List ℕ) × (input ≡ text ++ left)
+      × (served ≡ (frames_of text).frames))
       → HasRisen (source.faults from) (source.faults to) → ServeDoes source site from to old new SourceFailed
   ends_cut from to dir served engine old new so_far fronts taken risen = record {
     done = λ no. absurd cc;
@@ -265,8 +310,10 @@ module _ {I S : Type 0} (source : SourceGhosts I) (site : SiteGhosts S) where
     only = tt;
   }
     where
-      both_told : (r0 r1 : Option (List ℕ)) → BothTold r0 r1 (λ input left. (text : List ℕ) × (input ≡ text ++ left) × (served ≡ (frames_of text).frames))
-          → BothTold r0 r1 (λ input left. (frames : List Frame) × StandTaken input left frames × Answers site dir frames old new)
+      both_told : (r0 r1 : Option (List ℕ)) → BothTold r0 r1 (λ input left. (text : List ℕ) × (input ≡ text ++ left)
+          × (served ≡ (frames_of text).frames))
+          → BothTold r0 r1 (λ input left. (frames : List Frame) × StandTaken input left frames
+          × Answers site dir frames old new)
       both_told None None told = tt
       both_told (Some input) (Some left) told = (
         served,
@@ -277,7 +324,8 @@ module _ {I S : Type 0} (source : SourceGhosts I) (site : SiteGhosts S) where
       both_told (Some input) None told = absurd told
 
   -- memory ran out
-  pub ends_memory : (from to : I) (dir : Directory) (frames : List Frame) (old new : S) → Leaves site dir frames old new → Fronts frames (source.rest from)
+  pub ends_memory : (from to : I) (dir : Directory) (frames : List Frame) (old new : S) → Leaves site dir frames old
+      new → Fronts frames (source.rest from)
       → ServeDoes source site from to old new NoMemory
   ends_memory from to dir frames old new leaves fronts = record {
     done = λ no. absurd cc;
@@ -294,7 +342,8 @@ module _ {I S : Type 0} (source : SourceGhosts I) (site : SiteGhosts S) where
   }
 
   -- the site failed
-  pub ends_failed : (from to : I) (dir : Directory) (frames : List Frame) (old new : S) → Leaves site dir frames old new → Fronts frames (source.rest from)
+  pub ends_failed : (from to : I) (dir : Directory) (frames : List Frame) (old new : S) → Leaves site dir frames old
+      new → Fronts frames (source.rest from)
       → HasFailed site old new → ServeDoes source site from to old new SiteFailed
   ends_failed from to dir frames old new leaves fronts failed = record {
     done = λ no. absurd cc;

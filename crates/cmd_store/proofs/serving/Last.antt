@@ -1,5 +1,6 @@
 -- Whether the input goes on after the last frame that may be.
-use Rattle.std.proofs.Common.{◌≡◌, ◌∙◌, ℕ, ◌<◌, ◌≤◌, List, [], ◌++◌, length, take, Option, Some, None, sym, ap, length-append, arith}
+use Rattle.std.proofs.Common.{◌≡◌, ◌∙◌, ℕ, ◌<◌, ◌≤◌, List, [], ◌++◌, length, take, Option, Some, None, sym, ap}
+use Rattle.std.proofs.Common.{length-append, arith}
 use Rattle.std.proofs.lemmas.List.{length-take-le}
 use Rattle.site_io.specs.Told.{BothTold, StaysTold, Took}
 
@@ -14,7 +15,8 @@ took_none None (Some behind) n into none room took = absurd took
 took_none (Some input) None n into none room took = absurd took
 
 -- something came
-pub took_some : (r0 r1 : Option (List ℕ)) (n : ℕ) (into : List ℕ) → 0 < n → n ≤ length into → Took r0 r1 n into → BothTold r0 r1 (λ input behind. input ≡ [] → ⊥)
+pub took_some : (r0 r1 : Option (List ℕ)) (n : ℕ) (into : List ℕ) → 0 < n → n ≤ length into → Took r0 r1 n into
+    → BothTold r0 r1 (λ input behind. input ≡ [] → ⊥)
 took_some None None n into some within took = tt
 took_some (Some input) (Some behind) n into some within took = λ none.
     let long : length input ≡ length (take n into ++ behind) = ap length took.0 in

@@ -1,5 +1,6 @@
 -- What holds of each sound directory that frames lead to.
-use Rattle.std.proofs.Common.{◌≡◌, ◌∙◌, ⊎_elim, ℕ, zero, suc, ◌≤◌, List, [], ◌∷◌, ◌++◌, length, length-append, take, Option, Some, None, sym, ap, subst, arith}
+use Rattle.std.proofs.Common.{◌≡◌, ◌∙◌, ⊎_elim, ℕ, zero, suc, ◌≤◌, List, [], ◌∷◌, ◌++◌, length, length-append, take}
+use Rattle.std.proofs.Common.{Option, Some, None, sym, ap, subst, arith}
 use Rattle.std.specs.Prelude.{slice_get}
 use Rattle.std.proofs.lemmas.Bool.{cases_lt}
 use Rattle.std.proofs.lemmas.List.{take_all, take-append-le}
@@ -25,7 +26,8 @@ unfolding answer
 run_gives dir tokens frame is = ap (body_answered dir tokens frame.connection) is
 
 -- the frame at a place is the last of the first ones up to it
-first_push : (frames : List Frame) (n : ℕ) (frame : Frame) → slice_get frames n ≡ Some frame → take (suc n) frames ≡ take n frames ++ frame ∷ []
+first_push : (frames : List Frame) (n : ℕ) (frame : Frame) → slice_get frames n ≡ Some frame → take (suc n) frames
+    ≡ take n frames ++ frame ∷ []
 first_push [] n frame is = absurd (none_at n is)
   where
     none_at : (n : ℕ) → slice_get {X = Frame} [] n ≡ Some frame → ⊥
@@ -38,33 +40,42 @@ first_push (f ∷ frames) zero frame is = ap (λ (x : Frame). x ∷ []) (inside 
 first_push (f ∷ frames) (suc n) frame is = ap (λ (l : List Frame). f ∷ l) (first_push frames n frame is)
 
 pub next_directory : (dir : Directory) (frames : List Frame) (n : ℕ) (frame : Frame) → slice_get frames n ≡ Some frame
-    → after_first dir frames (suc n) ≡ (answer (after_first dir frames n) (tokens_behind dir (take n frames)) frame).directory
-next_directory dir frames n frame is = ap (after dir) (first_push frames n frame is) ∙ after_push dir (take n frames) frame
+    → after_first dir frames (suc n) ≡ (answer (after_first dir frames n) (tokens_behind dir (take n frames))
+    frame).directory
+next_directory dir frames n frame is = ap (after dir) (first_push frames n frame is) ∙ after_push dir (take n frames)
+    frame
 
-run_behind : (dir : Directory) (frames : List Frame) (n : ℕ) (frame : Frame) → slice_get frames n ≡ Some frame → frame.body ≡ body.Run
+run_behind : (dir : Directory) (frames : List Frame) (n : ℕ) (frame : Frame) → slice_get frames n ≡ Some frame
+    → frame.body ≡ body.Run
     → after_first dir frames (suc n) ≡ (protection_run (after_first dir frames n)).directory
 run_behind dir frames n frame is run =
-    next_directory dir frames n frame is ∙ ap (λ a. a.directory) (run_gives (after_first dir frames n) (tokens_behind dir (take n frames)) frame run)
+    next_directory dir frames n frame is ∙ ap (λ a. a.directory)
+    (run_gives (after_first dir frames n) (tokens_behind dir (take n frames)) frame run)
 
-frozen_behind : (before behind : Directory) → IsSound before → behind ≡ (protection_run before).directory → IsFrozen before behind
+frozen_behind : (before behind : Directory) → IsSound before → behind ≡ (protection_run before).directory
+    → IsFrozen before behind
 frozen_behind before behind sound is holder number there protected =
     ap (λ (d : Directory). sd_at d.objects number) is ∙ (run_done before holder number sound there protected).sd_is
 
-none_behind : (before behind : Directory) (frame : Frame) → frame.body ≡ body.Run → behind ≡ (protection_run before).directory → admin_sd_holder before ≡ None
+none_behind : (before behind : Directory) (frame : Frame) → frame.body ≡ body.Run → behind
+    ≡ (protection_run before).directory → admin_sd_holder before ≡ None
     → IsNoRun before behind frame
 none_behind before behind frame run is none =
-    let nothing : protection_run before ≡ record { directory = before; changed = 0; protected = 0 } = run_nothing before none in
+    let nothing : protection_run before ≡ record { directory = before; changed = 0; protected = 0 }
+    = run_nothing before none in
     record {
       same = is ∙ ap (λ (r : Run). r.directory) nothing;
       none = λ tokens. ap (λ a. a.output) (run_gives before tokens frame run)
           ∙ ap (λ (r : Run). run_output frame.connection r.changed r.protected) nothing;
     }
 
-pub reaches : (dir : Directory) (frames : List Frame) (n : ℕ) → IsSound (after_first dir frames n) → Reaches dir frames n
+pub reaches : (dir : Directory) (frames : List Frame) (n : ℕ) → IsSound (after_first dir frames n)
+    → Reaches dir frames n
 reaches dir frames n sound = record {
   sound = sound;
   recomputed = λ empty number live. settled_scratch (after_first dir frames n) sound empty number live;
-  protected = λ frame is run. frozen_behind (after_first dir frames n) (after_first dir frames (suc n)) sound (run_behind dir frames n frame is run);
+  protected = λ frame is run. frozen_behind (after_first dir frames n) (after_first dir frames (suc n)) sound
+      (run_behind dir frames n frame is run);
   unprotected = λ frame is run none. none_behind (after_first dir frames n)
       (after_first dir frames (suc n)) frame run (run_behind dir frames n frame is run) none;
 }
@@ -90,12 +101,16 @@ unfolding after_from
 sound_none dir sound n few = subst IsSound (ap (after dir) (sym (take_all n [] (omega arith)))) sound
 
 -- the first ones of a longer list
-pub first_longer : (dir : Directory) (xs ys : List Frame) (n : ℕ) → n ≤ length xs → after_first dir (xs ++ ys) n ≡ after_first dir xs n
+pub first_longer : (dir : Directory) (xs ys : List Frame) (n : ℕ) → n ≤ length xs → after_first dir (xs ++ ys) n
+    ≡ after_first dir xs n
 first_longer dir xs ys n few = ap (after dir) (take-append-le n xs ys few)
 
-pub sound_push : (dir : Directory) (xs : List Frame) (x : Frame) → AreSound dir xs → IsSound (after dir (xs ++ x ∷ [])) → AreSound dir (xs ++ x ∷ [])
+pub sound_push : (dir : Directory) (xs : List Frame) (x : Frame) → AreSound dir xs
+    → IsSound (after dir (xs ++ x ∷ [])) → AreSound dir (xs ++ x ∷ [])
 sound_push dir xs x sound last n few = ⊎_elim
-    (λ lt. let le : n ≤ length xs = omega (arith, lt) in subst IsSound (sym (first_longer dir xs (x ∷ []) n le)) (sound n le))
-    (λ ge. let all : take n (xs ++ x ∷ []) ≡ xs ++ x ∷ [] = take_all n (xs ++ x ∷ []) (omega (arith, ge, length-append xs (x ∷ []))) in
+    (λ lt. let le : n ≤ length xs = omega (arith, lt) in subst IsSound (sym (first_longer dir xs (x ∷ []) n le))
+    (sound n le))
+    (λ ge. let all : take n (xs ++ x ∷ []) ≡ xs ++ x ∷ [] = take_all n (xs ++ x ∷ [])
+    (omega (arith, ge, length-append xs (x ∷ []))) in
     subst IsSound (ap (after dir) (sym all)) last)
     (cases_lt n (suc (length xs)))

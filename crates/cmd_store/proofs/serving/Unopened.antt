@@ -25,20 +25,25 @@ use Rattle.cmd_store.proofs.Begun.{never_synced}
 module _ {I S : Type 0} (source : SourceGhosts I) (site : SiteGhosts S) where
   -- what the command did, and that a failure has its cause
   abbrev pub Serves : I → I → S → S → Outcome → Type 0
-  Serves from to old new outcome = ServeDoes source site from to old new outcome × (outcome ≡ SiteFailed → HasFailed site old new)
+  Serves from to old new outcome = ServeDoes source site from to old new outcome
+      × (outcome ≡ SiteFailed → HasFailed site old new)
 
   -- nothing was emitted, and what a crash leaves is what it left
-  crash_first : IsLawful site → (dir : Directory) (frames : List Frame) (x y : S) → OnlyLooks site x y → (r : Option (List ℕ))
+  crash_first : IsLawful site → (dir : Directory) (frames : List Frame) (x y : S) → OnlyLooks site x y
+      → (r : Option (List ℕ))
       → IfSome r (λ said. LeavesSynced site (IsCrashBehind dir frames said) x y)
   crash_first law dir frames x y looks None = tt
   crash_first law dir frames x y looks (Some said) = never_synced site law (IsCrashBehind dir frames said) x y looks
 
   crash_looked : IsLawful site → (from : I) (x y : S) → OnlyLooks site x y → (dir : Directory) → (r : Option (List ℕ))
-      → IfSome r (λ input. IfSome (site.emitted x) (λ said. LeavesSynced site (IsCrashBehind dir (frames_of input).frames said) x y))
+      → IfSome r (λ input. IfSome (site.emitted x)
+      (λ said. LeavesSynced site (IsCrashBehind dir (frames_of input).frames said) x y))
   crash_looked law from x y looks dir None = tt
-  crash_looked law from x y looks dir (Some input) = crash_first law dir (frames_of input).frames x y looks (site.emitted x)
+  crash_looked law from x y looks dir (Some input) = crash_first law dir (frames_of input).frames x y looks
+      (site.emitted x)
 
-  refused : IsLawful site → (from : I) (x y : S) (why : OpenFault) → OnlyLooks site x y → is_outside why ≡ false → IfSome (site.reads x) (λ held. Refuses held why)
+  refused : IsLawful site → (from : I) (x y : S) (why : OpenFault) → OnlyLooks site x y → is_outside why ≡ false
+      → IfSome (site.reads x) (λ held. Refuses held why)
       → Serves from from x y NoStore
   refused law from x y why looks within none = (
     record {
@@ -46,7 +51,17 @@ module _ {I S : Type 0} (source : SourceGhosts I) (site : SiteGhosts S) where
       bad = λ no. absurd cc;
       over = λ no. absurd cc;
       cut = λ no. absurd cc;
-      no_store = λ _. (record { fault = why; inside = within; store = none; quiet = looks.output; slots = looks_keep site x y looks }, refl);
+      no_store = λ _. (
+        record {
+          fault = why;
+          inside = within;
+          store = none;
+          quiet = looks.output;
+          slots
+              = looks_keep site x y looks;
+        },
+        refl,
+      );
       partly = λ no. ⊎_elim (λ site_failed. absurd cc) (λ memory. absurd cc) no;
       complete = λ _ stands _ _. absurd (never_refused why (site.reads x) stands none);
       refuses = λ _ _. inl refl;
@@ -57,7 +72,8 @@ module _ {I S : Type 0} (source : SourceGhosts I) (site : SiteGhosts S) where
     λ no. absurd cc,
   )
 
-  unopened_failed : IsLawful site → (from : I) (x y : S) → OnlyLooks site x y → HasRisen (site.slot_faults x) (site.slot_faults y) → Serves from from x y SiteFailed
+  unopened_failed : IsLawful site → (from : I) (x y : S) → OnlyLooks site x y → HasRisen (site.slot_faults x)
+      (site.slot_faults y) → Serves from from x y SiteFailed
   unopened_failed law from x y looks risen = (
     record {
       done = λ no. absurd cc;
@@ -94,13 +110,18 @@ module _ {I S : Type 0} (source : SourceGhosts I) (site : SiteGhosts S) where
   )
 
   -- for whatever reason
-  pub unopened : IsLawful site → (from : I) (x y : S) (why : OpenFault) → OnlyLooks site x y → IfSome (site.reads x) (λ held. IsOpenedAs held (Err why))
+  pub unopened : IsLawful site → (from : I) (x y : S) (why : OpenFault) → OnlyLooks site x y
+      → IfSome (site.reads x) (λ held. IsOpenedAs held (Err why))
       → (why ≡ fault.Site → HasRisen (site.slot_faults x) (site.slot_faults y)) → Serves from from x y (of_open why)
-  unopened law from x y fault.Taken looks opened risen = refused law from x y fault.Taken looks refl (inside (site.reads x) fault.Taken refl opened)
-  unopened law from x y fault.Empty looks opened risen = refused law from x y fault.Empty looks refl (inside (site.reads x) fault.Empty refl opened)
-  unopened law from x y fault.Broken looks opened risen = refused law from x y fault.Broken looks refl (inside (site.reads x) fault.Broken refl opened)
+  unopened law from x y fault.Taken looks opened risen = refused law from x y fault.Taken looks refl
+      (inside (site.reads x) fault.Taken refl opened)
+  unopened law from x y fault.Empty looks opened risen = refused law from x y fault.Empty looks refl
+      (inside (site.reads x) fault.Empty refl opened)
+  unopened law from x y fault.Broken looks opened risen = refused law from x y fault.Broken looks refl
+      (inside (site.reads x) fault.Broken refl opened)
   unopened law from x y (fault.Row kind number) looks opened risen =
-      refused law from x y (fault.Row kind number) looks refl (inside (site.reads x) (fault.Row kind number) refl opened)
+      refused law from x y (fault.Row kind number) looks refl
+      (inside (site.reads x) (fault.Row kind number) refl opened)
   unopened law from x y (fault.Unsound number) looks opened risen =
       refused law from x y (fault.Unsound number) looks refl (inside (site.reads x) (fault.Unsound number) refl opened)
   unopened law from x y fault.Site looks opened risen = unopened_failed law from x y looks (risen refl)

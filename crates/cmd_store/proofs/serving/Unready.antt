@@ -19,7 +19,8 @@ no_front None = tt
 no_front (Some input) = ((frames_of input).frames, refl)
 
 module _ {I S : Type 0} (source : SourceGhosts I) (site : SiteGhosts S) where
-  leaves_none : IsLawful site → (dir : Directory) (x z : S) (outcome : Outcome) → IsUnready site dir x z outcome → Leaves site dir [] x z
+  leaves_none : IsLawful site → (dir : Directory) (x z : S) (outcome : Outcome) → IsUnready site dir x z outcome
+      → Leaves site dir [] x z
   leaves_none law dir x z outcome unready = record {
     store = unready.opening.store;
     synced = unready.synced;
@@ -28,22 +29,29 @@ module _ {I S : Type 0} (source : SourceGhosts I) (site : SiteGhosts S) where
     part = part_none (site.emitted x) (site.emitted z) (out dir []) unready.opening.touches.output;
   }
 
-  failed : IsLawful site → (from : I) (dir : Directory) (x z : S) → IsUnready site dir x z SiteFailed → Ended source site from from x z SiteFailed
+  failed : IsLawful site → (from : I) (dir : Directory) (x z : S) → IsUnready site dir x z SiteFailed
+      → Ended source site from from x z SiteFailed
   failed law from dir x z unready = record {
-    does = ends_failed source site from from dir [] x z (leaves_none law dir x z SiteFailed unready) (no_front (source.rest from)) (inl (unready.cause refl));
+    does = ends_failed source site from from dir [] x z (leaves_none law dir x z SiteFailed unready)
+        (no_front (source.rest from)) (inl (unready.cause refl));
     source_failed = λ no. absurd cc;
     site_failed = λ _. inl (unready.cause refl);
   }
 
-  no_memory : IsLawful site → (from : I) (dir : Directory) (x z : S) → IsUnready site dir x z NoMemory → Ended source site from from x z NoMemory
+  no_memory : IsLawful site → (from : I) (dir : Directory) (x z : S) → IsUnready site dir x z NoMemory
+      → Ended source site from from x z NoMemory
   no_memory law from dir x z unready = record {
-    does = ends_memory source site from from dir [] x z (leaves_none law dir x z NoMemory unready) (no_front (source.rest from));
+    does = ends_memory source site from from dir [] x z (leaves_none law dir x z NoMemory unready)
+        (no_front (source.rest from));
     source_failed = λ no. absurd cc;
     site_failed = λ no. absurd cc;
   }
 
-  pub ended_unready : IsLawful site → (from : I) (dir : Directory) (x z : S) (outcome : Outcome) → IsUnready site dir x z outcome → Ended source site from from x z outcome
+  pub ended_unready : IsLawful site → (from : I) (dir : Directory) (x z : S) (outcome : Outcome)
+      → IsUnready site dir x z outcome → Ended source site from from x z outcome
   ended_unready law from dir x z outcome unready = ⊎_elim
-      (λ is. subst (Ended source site from from x z) (sym is) (failed law from dir x z (subst (IsUnready site dir x z) is unready)))
-      (λ is. subst (Ended source site from from x z) (sym is) (no_memory law from dir x z (subst (IsUnready site dir x z) is unready)))
+      (λ is. subst (Ended source site from from x z) (sym is)
+      (failed law from dir x z (subst (IsUnready site dir x z) is unready)))
+      (λ is. subst (Ended source site from from x z) (sym is)
+      (no_memory law from dir x z (subst (IsUnready site dir x z) is unready)))
       unready.only

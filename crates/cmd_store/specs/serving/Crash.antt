@@ -34,4 +34,5 @@ pub record IsCrash (dir : Directory) (frames : List Frame) (images : Images) (em
 
 -- the same of all that was emitted, where this text had been before
 abbrev pub IsCrashBehind : Directory → List Frame → List ℕ → Images → List ℕ → Type 0
-IsCrashBehind dir frames said images text = (emitted : List ℕ) × (text ≡ said ++ emitted) × IsCrash dir frames images emitted
+IsCrashBehind dir frames said images text = (emitted : List ℕ) × (text ≡ said ++ emitted) × IsCrash dir frames images
+    emitted

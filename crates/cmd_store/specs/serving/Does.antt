@@ -11,7 +11,8 @@ use Rattle.ad_engine.specs.Runs.{out, after}
 use Rattle.ad_engine.specs.Opening.{Refuses, is_outside}
 use Rattle.ad_engine.specs.declared.fault.OpenFault.{OpenFault}
 use Rattle.cmd_call.specs.declared.outcome.Outcome.{Outcome}
-use Rattle.cmd_call.specs.declared.outcome.Outcome.TheVariants.{Done, NotOfForm, TooMany, NoStore, SourceFailed, SiteFailed, NoMemory}
+use Rattle.cmd_call.specs.declared.outcome.Outcome.TheVariants.{Done, NotOfForm, TooMany, NoStore, SourceFailed}
+use Rattle.cmd_call.specs.declared.outcome.Outcome.TheVariants.{SiteFailed, NoMemory}
 use Rattle.cmd_call.specs.Call.{IsTold}
 use Rattle.cmd_call.specs.Outcome.{IsOfServe}
 use Rattle.cmd_call.specs.Store.{Emits, EmitsPart, KeepsSlots, IsSiteHealthy, IsAllHealthy}
@@ -57,7 +58,8 @@ module _ {I S : Type 0} (source : SourceGhosts I) (site : SiteGhosts S) where
   pub record IsServed (end : End) (from to : I) (old new : S) : Type 0 where
     pub dir : Directory
     pub store : IfSome (site.reads old) (λ held. IsStoreOf held dir)
-    pub answered : IfSome (source.rest from) (λ input. EndsAs end input × Answers site dir (frames_of input).frames old new)
+    pub answered : IfSome (source.rest from)
+        (λ input. EndsAs end input × Answers site dir (frames_of input).frames old new)
 
   -- the input was read to its end
   abbrev pub IsReadOut : I → I → Type 0
@@ -75,7 +77,8 @@ module _ {I S : Type 0} (source : SourceGhosts I) (site : SiteGhosts S) where
   abbrev pub IsPartlyServed : I → S → S → Type 0
   IsPartlyServed from old new = StaysTold (site.emitted old) (site.emitted new)
       ⊎ ((dir : Directory) × IfSome (site.reads old) (λ held. IsStoreOf held dir)
-      × IfSome (source.rest from) (λ input. EmitsPart (site.emitted old) (site.emitted new) (out dir (frames_of input).frames)))
+      × IfSome (source.rest from) (λ input. EmitsPart (site.emitted old) (site.emitted new)
+      (out dir (frames_of input).frames)))
 
   pub record ServeDoes (from to : I) (old new : S) (outcome : Outcome) : Type 0 where
     pub done : outcome ≡ Done → IsServed Whole from to old new × IsReadOut from to
@@ -91,8 +94,10 @@ module _ {I S : Type 0} (source : SourceGhosts I) (site : SiteGhosts S) where
         → (outcome ≡ outcome_at end) ⊎ (outcome ≡ NoMemory)
     -- slots that represent no directory are refused, and whatever comes they are kept as they are and nothing is
     -- emitted
-    pub refuses : IsTold NoDirStore (site.reads old) → IsSiteHealthy site old new → (outcome ≡ NoStore) ⊎ (outcome ≡ NoMemory)
-    pub none : IsTold NoDirStore (site.reads old) → KeepsSlots site old new × StaysTold (site.emitted old) (site.emitted new)
+    pub refuses : IsTold NoDirStore (site.reads old) → IsSiteHealthy site old new → (outcome ≡ NoStore)
+        ⊎ (outcome ≡ NoMemory)
+    pub none : IsTold NoDirStore (site.reads old) → KeepsSlots site old new × StaysTold (site.emitted old)
+        (site.emitted new)
     -- Where a read gave a directory as the call began, whatever a crash could leave then: at each moment of the
     -- call, whatever comes, a crash leaves what it could leave as the call began, and nothing was emitted yet, or
     -- from the sync on the directory after a prefix of the frames, in which is each frame of whose answer a byte

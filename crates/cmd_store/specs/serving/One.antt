@@ -18,7 +18,8 @@ use Rattle.ad_engine.specs.declared.engine.Engine.{Engine}
 use Rattle.ad_engine.specs.declared.fault.OpenFault.{OpenFault}
 use Rattle.ad_engine.specs.declared.fault.OpenFault.TheVariants as slots
 use Rattle.cmd_call.specs.declared.outcome.Outcome.{Outcome}
-use Rattle.cmd_call.specs.declared.outcome.Outcome.TheVariants.{Done, NotOfForm, NoCommand, NoStore, NoObject, TooMany, SourceFailed, SiteFailed, NoMemory}
+use Rattle.cmd_call.specs.declared.outcome.Outcome.TheVariants.{Done, NotOfForm, NoCommand, NoStore, NoObject}
+use Rattle.cmd_call.specs.declared.outcome.Outcome.TheVariants.{TooMany, SourceFailed, SiteFailed, NoMemory}
 use Rattle.cmd_call.specs.Store.{HasFailed, Emits, EmitsPart}
 use Rattle.cmd_store.specs.Opened.{EachStandsFor}
 use Rattle.cmd_store.specs.Ready.{IsReady}
@@ -65,7 +66,8 @@ answered_by engine frame = answer engine.dir engine.tokens frame
 -- A crash leaves the old directory, with nothing emitted of the answer, or the new one, with a prefix of it.
 abbrev pub IsAmid : Engine → Frame → List ℕ → Images → List ℕ → Type 0
 IsAmid engine frame said images text = ((text ≡ said) × IsStoreOf images engine.dir)
-    ⊎ ((k : ℕ) × (text ≡ said ++ take k (answered_by engine frame).output) × IsStoreOf images (answered_by engine frame).directory)
+    ⊎ ((k : ℕ) × (text ≡ said ++ take k (answered_by engine frame).output)
+    × IsStoreOf images (answered_by engine frame).directory)
 
 module _ {S : Type 0} (site : SiteGhosts S) where
   -- The frame was served and its answer emitted.
@@ -77,11 +79,14 @@ module _ {S : Type 0} (site : SiteGhosts S) where
     pub output : Emits (site.emitted old) (site.emitted new) (answered_by before frame).output
     pub lasts : LastsOn site before.dir behind.dir old new
 
-  pub record AnswersFrame (before behind : Engine) (frame : Frame) (old new : S) (result : Result (Unit {0}) Outcome) : Type 0 where
+  pub record AnswersFrame (before behind : Engine) (frame : Frame) (old new : S) (result : Result (Unit {0}) Outcome)
+      : Type 0 where
     pub answered : OnOk result (IsAnswered before behind frame old new)
     pub part : EmitsPart (site.emitted old) (site.emitted new) (answered_by before frame).output
-    pub amid : IfSome (site.reads old) (λ held. EachStandsFor site before.dir old → (said : List ℕ) → site.emitted old ≡ Some said
-        → (t : ℕ) (images : Images) (text : List ℕ) → site.now old ≤ t → site.left new t images text → IsAmid before frame said images text)
+    pub amid : IfSome (site.reads old) (λ held. EachStandsFor site before.dir old → (said : List ℕ) → site.emitted old
+        ≡ Some said
+        → (t : ℕ) (images : Images) (text : List ℕ) → site.now old ≤ t → site.left new t images text
+        → IsAmid before frame said images text)
     pub moments : GoesOn (site.now old) (site.now new) (site.left old) (site.left new)
     pub known : StaysKnown (site.reads old) (site.reads new)
     pub slot_faults : site.slot_faults old ≤ site.slot_faults new
@@ -109,7 +114,8 @@ module _ {I S : Type 0} (source : SourceGhosts I) (site : SiteGhosts S) where
 
   -- the same since any earlier moment from which on the slots, which represented the directory, were only looked at
   abbrev pub IsServedSince : Directory → I → I → S → S → Outcome → Type 0
-  IsServedSince dir from to opened new outcome = (old : S) → OnlyLooks site old opened → IfSome (site.reads old) (λ held. IsStoreOf held dir)
+  IsServedSince dir from to opened new outcome = (old : S) → OnlyLooks site old opened → IfSome (site.reads old)
+      (λ held. IsStoreOf held dir)
       → Ended from to old new outcome
 
   -- and since one from which on the store was made ready

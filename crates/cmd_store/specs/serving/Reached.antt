@@ -22,7 +22,8 @@ after_first dir frames n = after dir (take n frames)
 
 -- Where nothing is pending each object has the descriptor that is recomputed from the root.
 abbrev pub IsRecomputed : Directory → Type 0
-IsRecomputed dir = dir.pending ≡ [] → (number : ℕ) → is_live dir.objects number ≡ true → sd_at dir.objects number ≡ scratch dir number
+IsRecomputed dir = dir.pending ≡ [] → (number : ℕ) → is_live dir.objects number ≡ true → sd_at dir.objects number
+    ≡ scratch dir number
 
 -- Each object that was protected before a run has after it the frozen descriptor that AdminSDHolder had before.
 abbrev pub IsFrozen : Directory → Directory → Type 0
@@ -41,5 +42,6 @@ pub record Reaches (dir : Directory) (frames : List Frame) (n : ℕ) : Type 0 wh
   -- and of a protection run that is the next frame
   pub protected : (frame : Frame) → slice_get frames n ≡ Some frame → frame.body ≡ body.Run
       → IsFrozen (after_first dir frames n) (after_first dir frames (suc n))
-  pub unprotected : (frame : Frame) → slice_get frames n ≡ Some frame → frame.body ≡ body.Run → admin_sd_holder (after_first dir frames n) ≡ None
+  pub unprotected : (frame : Frame) → slice_get frames n ≡ Some frame → frame.body ≡ body.Run
+      → admin_sd_holder (after_first dir frames n) ≡ None
       → IsNoRun (after_first dir frames n) (after_first dir frames (suc n)) frame

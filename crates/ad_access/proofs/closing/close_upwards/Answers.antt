@@ -15,7 +15,8 @@ loop-i-preserved-in_default c =
     let d : Node = record { guid = record { bytes = [] }; above = None } in
     let back : l.i ≡ l.i - 1 + 1 = omega (arith, c.loop-i-test.true) in
     let lt : l.i - 1 < length nodes = omega (arith, c.loop-i-test.true, l.invariant.inside) in
-    closed_root nodes before l.rights (l.i - 1) d lt c.in_default.is (subst (λ (n : ℕ). Closed nodes before l.rights n) back l.invariant)
+    closed_root nodes before l.rights (l.i - 1) d lt c.in_default.is
+    (subst (λ (n : ℕ). Closed nodes before l.rights n) back l.invariant)
 
 pub offset_bounds-rights-above : goal.offset_bounds-rights-above
 offset_bounds-rights-above c =
@@ -50,4 +51,5 @@ loop-i-preserved c =
     let d : Node = record { guid = record { bytes = [] }; above = None } in
     let back : l.i ≡ l.i - 1 + 1 = omega (arith, c.loop-i-test.true) in
     let lt : l.i - 1 < length nodes = omega (arith, c.loop-i-test.true, l.invariant.inside) in
-    closed_more nodes before l.rights (l.i - 1) c.in-Some.above d c.requires.tree lt c.in-Some.is (subst (λ (n : ℕ). Closed nodes before l.rights n) back l.invariant)
+    closed_more nodes before l.rights (l.i - 1) c.in-Some.above d c.requires.tree lt c.in-Some.is
+    (subst (λ (n : ℕ). Closed nodes before l.rights n) back l.invariant)

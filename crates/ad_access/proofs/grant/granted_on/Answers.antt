@@ -10,7 +10,8 @@ pub returns : goal.returns
 returns c = λ bit lt.
     let sd = seen c.args.view.now in
     let by = c.split_wanted-asked.result.by_privilege in
-    let holders : Bool = granted_to_holders sd.owner sd.dacl.entries c.args.token.now (option_copied c.args.self_sid) c.args.path.now bit in
+    let holders : Bool = granted_to_holders sd.owner sd.dacl.entries c.args.token.now (option_copied c.args.self_sid)
+    c.args.path.now bit in
     has_bit-or by c.granted_to_holders.result bit
     ∙ ap (λ (b : Bool). has_bit by bit || b) (c.granted_to_holders.ensures bit lt)
     ∙ c.split_wanted-asked.ensures bit holders lt

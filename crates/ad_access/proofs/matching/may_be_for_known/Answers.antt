@@ -8,4 +8,6 @@ pub returns : goal.returns
 returns c = λ authority word e.
     let known : SidValue = record { authority = authority; sub_authorities = word ∷ [] } in
     let sid : SidValue = (entry_seen c.args.ace.now).sid in
-    c.may_be_well_known.ensures authority word (read_as c.from_sid.result.now known sid c.from_sid.ensures.0 c.from_sid.ensures.1 ∙ same_sid_laws.symm known sid ∙ e)
+    c.may_be_well_known.ensures authority word
+    (read_as c.from_sid.result.now known sid c.from_sid.ensures.0 c.from_sid.ensures.1 ∙ same_sid_laws.symm known
+    sid ∙ e)

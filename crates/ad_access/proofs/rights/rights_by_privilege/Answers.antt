@@ -4,4 +4,14 @@ use Rattle.ad_access.proofs.rights.rights_by_privilege.Goals as goal
 
 pub returns : goal.returns
 returns c = λ bit lt.
-    simp (has_bit-and, has_bit-or, c.rights_if-system.ensures bit, c.rights_if-owner.ensures bit, has_bit-system bit lt, has_bit-write_owner bit lt, masked c.args.privileges 0, masked c.args.privileges 1)
+    simp (
+      has_bit-and,
+      has_bit-or,
+      c.rights_if-system.ensures bit,
+      c.rights_if-owner.ensures bit,
+      has_bit-system bit
+          lt,
+      has_bit-write_owner bit lt,
+      masked c.args.privileges 0,
+      masked c.args.privileges 1,
+    )

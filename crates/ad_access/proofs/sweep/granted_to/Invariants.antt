@@ -6,4 +6,5 @@ use Rattle.ad_access.proofs.Swept.{Swept}
 use Rattle.ad_access.proofs.sweep.granted_to.Given as goal
 
 abbrev pub invariant-loop-ace : goal.invariant-loop-ace
-invariant-loop-ace l = Swept l.owner (holder_of l.token l.rank) (option_copied l.self_sid) l.path (seen l.view).dacl.entries (to_come l.ace-iterator) l.want l.undecided l.allowed l.owned
+invariant-loop-ace l = Swept l.owner (holder_of l.token l.rank) (option_copied l.self_sid) l.path
+    (seen l.view).dacl.entries (to_come l.ace-iterator) l.want l.undecided l.allowed l.owned

@@ -13,7 +13,8 @@ returns-then-rights-eq0 c = λ bit lt.
     let e = entry_seen c.args.ace.now in
     let so : Bool = decides_access e.kind && not (is_inherit_only e) in
     none_of (bit_and c.args.undecided c.map_generic.result) bit so c.if-rights-eq0.true
-    ∙ of_mask c.args.undecided c.map_generic.result e.mask bit so (c.map_generic.ensures bit lt ∙ ap (λ (n : ℕ). mapped_has n bit) c.mask.ensures)
+    ∙ of_mask c.args.undecided c.map_generic.result e.mask bit so
+    (c.map_generic.ensures bit lt ∙ ap (λ (n : ℕ). mapped_has n bit) c.mask.ensures)
 
 pub returns : goal.returns
 returns c = λ bit lt.
@@ -21,4 +22,5 @@ returns c = λ bit lt.
     let so : Bool = decides_access e.kind && not (is_inherit_only e) in
     c.rights_if.ensures bit
     ∙ ap (λ (b : Bool). has_bit (bit_and c.args.undecided c.map_generic.result) bit && b) c.is_spoken.ensures
-    ∙ of_mask c.args.undecided c.map_generic.result e.mask bit so (c.map_generic.ensures bit lt ∙ ap (λ (n : ℕ). mapped_has n bit) c.mask.ensures)
+    ∙ of_mask c.args.undecided c.map_generic.result e.mask bit so
+    (c.map_generic.ensures bit lt ∙ ap (λ (n : ℕ). mapped_has n bit) c.mask.ensures)

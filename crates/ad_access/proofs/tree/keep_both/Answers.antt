@@ -9,7 +9,9 @@ pub loop-i-init : goal.loop-i-init
 loop-i-init c = in_place_none (λ (place n : ℕ). bit_and n (get_or c.args.second.now place 0)) c.args.first.now
 
 pub loop-i-preserved : goal.loop-i-preserved
-loop-i-preserved c = in_place_more (λ (place n : ℕ). bit_and n (get_or c.args.second.now place 0)) c.args.first.now c.loop-i.first c.loop-i.i (omega (arith, c.loop-i-test.true, c.loop-i.invariant.len, c.requires)) c.loop-i.invariant
+loop-i-preserved c = in_place_more (λ (place n : ℕ). bit_and n (get_or c.args.second.now place 0)) c.args.first.now
+    c.loop-i.first c.loop-i.i (omega (arith, c.loop-i-test.true, c.loop-i.invariant.len, c.requires))
+    c.loop-i.invariant
 
 pub returns-clause-both : goal.returns-clause-both
 returns-clause-both c = λ place bit lt.

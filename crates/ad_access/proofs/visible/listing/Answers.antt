@@ -8,8 +8,12 @@ use Rattle.ad_access.proofs.visible.listing.Goals as goal
 
 pub returns-clause-children : goal.returns-clause-children
 unfolding has_bit
-returns-clause-children c = asked_among c.granted_on.result 132 2 (grants_on_object (seen c.args.view.now) c.args.token.now (option_copied c.args.self_sid)) (omega arith) refl c.granted_on.ensures
+returns-clause-children c = asked_among c.granted_on.result 132 2
+    (grants_on_object (seen c.args.view.now) c.args.token.now (option_copied c.args.self_sid)) (omega arith) refl
+    c.granted_on.ensures
 
 pub returns-clause-object : goal.returns-clause-object
 unfolding has_bit
-returns-clause-object c = asked_among c.granted_on.result 132 7 (grants_on_object (seen c.args.view.now) c.args.token.now (option_copied c.args.self_sid)) (omega arith) refl c.granted_on.ensures
+returns-clause-object c = asked_among c.granted_on.result 132 7
+    (grants_on_object (seen c.args.view.now) c.args.token.now (option_copied c.args.self_sid)) (omega arith) refl
+    c.granted_on.ensures

@@ -8,4 +8,6 @@ use Rattle.ad_access.proofs.visible.lists_children.Goals as goal
 
 pub returns : goal.returns
 unfolding has_bit
-returns c = asked_alone c.granted_on.result (2 ^ 2) 2 (grants_on_object (seen c.args.view.now) c.args.token.now (option_copied c.args.self_sid)) refl (omega arith) refl c.granted_on.ensures
+returns c = asked_alone c.granted_on.result (2 ^ 2) 2
+    (grants_on_object (seen c.args.view.now) c.args.token.now (option_copied c.args.self_sid)) refl (omega arith) refl
+    c.granted_on.ensures

@@ -7,9 +7,11 @@ use Rattle.ad_access_dir.proofs.masks.tree_masks.Goals as goal
 
 pub returns-clause-nodes : goal.returns-clause-nodes
 returns-clause-nodes c =
-    subst (λ (tree : List Node). IfOk c.check_tree.result (λ masks. length masks.items ≡ length tree)) (rw c.schema.ensures at c.in_ok-tree.ensures) c.check_tree.ensures.nodes
+    subst (λ (tree : List Node). IfOk c.check_tree.result (λ masks. length masks.items ≡ length tree))
+    (rw c.schema.ensures at c.in_ok-tree.ensures) c.check_tree.ensures.nodes
 
 pub returns-clause-granted : goal.returns-clause-granted
 returns-clause-granted c =
-    node_masks c.args.dir.now c.args.token.now c.args.number c.args.class c.args.attrs.now c.args.want c.check_tree.result c.in_ok-tree.tree (seen c.view_of.result) (option_copied c.self_sid.result)
+    node_masks c.args.dir.now c.args.token.now c.args.number c.args.class c.args.attrs.now c.args.want
+    c.check_tree.result c.in_ok-tree.tree (seen c.view_of.result) (option_copied c.self_sid.result)
     (rw c.schema.ensures at c.in_ok-tree.ensures) c.view_of.ensures c.self_sid.ensures c.check_tree.ensures.granted

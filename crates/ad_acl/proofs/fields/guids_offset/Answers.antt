@@ -4,4 +4,8 @@ use Rattle.ad_acl.proofs.EntryPlaces.{flat, long_20}
 use Rattle.ad_acl.proofs.fields.guids_offset.Goals as goal
 
 pub bounds-bytes-0 : goal.bounds-bytes-0
-bounds-bytes-0 c = omega (arith, long_20 (entry_in c.args.bytes.now) c.args.bytes.now (flat c.args.bytes.now (λ i. omega (arith, c.type_inv.bytes i)) c.requires))
+bounds-bytes-0 c = omega (
+  arith,
+  long_20 (entry_in c.args.bytes.now) c.args.bytes.now
+      (flat c.args.bytes.now (λ i. omega (arith, c.type_inv.bytes i)) c.requires),
+)

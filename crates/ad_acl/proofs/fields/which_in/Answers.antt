@@ -4,7 +4,15 @@ use Rattle.ad_acl.proofs.EntryPlaces.{flat, long_20, long_flags}
 use Rattle.ad_acl.proofs.fields.which_in.Goals as goal
 
 pub bounds-bytes-0 : goal.bounds-bytes-0
-bounds-bytes-0 c = omega (arith, long_20 (entry_in c.args.bytes.now) c.args.bytes.now (flat c.args.bytes.now (λ i. omega (arith, c.type_inv.bytes i)) c.requires))
+bounds-bytes-0 c = omega (
+  arith,
+  long_20 (entry_in c.args.bytes.now) c.args.bytes.now
+      (flat c.args.bytes.now (λ i. omega (arith, c.type_inv.bytes i)) c.requires),
+)
 
 pub number32-requires : goal.number32-requires
-number32-requires c = omega (arith, long_flags (entry_in c.args.bytes.now) c.args.bytes.now (flat c.args.bytes.now (λ i. omega (arith, c.type_inv.bytes i)) c.requires) c.if-bytes-ge-FIRST_OBJECT_TYPE.true)
+number32-requires c = omega (
+  arith,
+  long_flags (entry_in c.args.bytes.now) c.args.bytes.now
+      (flat c.args.bytes.now (λ i. omega (arith, c.type_inv.bytes i)) c.requires) c.if-bytes-ge-FIRST_OBJECT_TYPE.true,
+)

@@ -6,4 +6,5 @@ use Rattle.ad_acl.proofs.list.read_entries.Given as goal
 
 -- the entries so far and those that are still to be read are the whole
 abbrev pub invariant-loop : goal.invariant-loop
-invariant-loop l = with_front l.entries.items (many_at entry_at (l.count - l.counter) l.body) ≡ many_at entry_at l.count l.fn.body
+invariant-loop l = with_front l.entries.items (many_at entry_at (l.count - l.counter) l.body)
+    ≡ many_at entry_at l.count l.fn.body

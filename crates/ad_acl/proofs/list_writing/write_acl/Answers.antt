@@ -11,13 +11,22 @@ returns-in_err-entries-clause-written c =
     rw (p.1, p.2) (fault_is c.in_err-entries.field-0.0 c.args.list.now c.in_err-entries.ensures.too_long)
 
 pub write_list_of-requires : goal.write_list_of-requires
-write_list_of-requires c = omega (arith, few_entries c.args.list.now, ap length c.in_ok-entries.ensures.written, ap length c.as_slice.ensures.value)
+write_list_of-requires c = omega (
+  arith,
+  few_entries c.args.list.now,
+  ap length c.in_ok-entries.ensures.written,
+  ap
+      length c.as_slice.ensures.value,
+)
 
 pub returns-clause-written : goal.returns-clause-written
-returns-clause-written c = c.write_list_of.ensures.written c.args.list.now (c.as_slice.ensures.value ∙ c.in_ok-entries.ensures.written) refl c.has_object_entry-has_guid.ensures
+returns-clause-written c = c.write_list_of.ensures.written c.args.list.now
+    (c.as_slice.ensures.value ∙ c.in_ok-entries.ensures.written) refl c.has_object_entry-has_guid.ensures
 
 pub returns-clause-spelled : goal.returns-clause-spelled
 returns-clause-spelled c =
-    let fits : 8 + length (flat_map entry_bytes c.args.list.now) ≤ 65535 = omega (arith, c.in_ok-entries.ensures.fit, ap length c.in_ok-entries.ensures.written) in
+    let fits : 8 + length (flat_map entry_bytes c.args.list.now) ≤ 65535
+    = omega (arith, c.in_ok-entries.ensures.fit, ap length c.in_ok-entries.ensures.written) in
     written_spelled c.args.list.now c.write_list_of.result c.in_ok-entries.ensures.are fits
-    (c.write_list_of.ensures.written c.args.list.now (c.as_slice.ensures.value ∙ c.in_ok-entries.ensures.written) refl c.has_object_entry-has_guid.ensures)
+    (c.write_list_of.ensures.written c.args.list.now (c.as_slice.ensures.value ∙ c.in_ok-entries.ensures.written) refl
+    c.has_object_entry-has_guid.ensures)

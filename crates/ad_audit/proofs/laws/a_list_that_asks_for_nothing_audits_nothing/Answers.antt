@@ -4,4 +4,5 @@ use Rattle.ad_audit.proofs.laws.a_list_that_asks_for_nothing_audits_nothing.Goal
 
 pub returns : goal.returns
 unfolding audited
-returns c = λ sd token self path right success none. none_of_them sd.sacl.entries 0 sd.owner token self path right success none
+returns c = λ sd token self path right success none. none_of_them sd.sacl.entries 0 sd.owner token self path right
+    success none

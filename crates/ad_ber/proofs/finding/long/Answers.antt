@@ -11,10 +11,15 @@ returns-in_err-digits-clause-read c =
 
 pub returns-in-Some-clause-read : goal.returns-in-Some-clause-read
 returns-in-Some-clause-read c =
-    let part : part_at c.args.count c.args.input.now ≡ Ok (c.rest.result.now, c.part.new.self) = ap (λ n. part_at n c.args.input.now) (sym c.from.ensures) ∙ c.in_ok-digits.ensures.read ∙ ap (λ (d : List ℕ). Ok (d, c.part.new.self)) (sym c.rest.ensures) in
-    long_read c.args.count c.args.input.now c.rest.result.now c.part.new.self c.in-Some.number part c.in-Some.ensures (omega arith)
+    let part : part_at c.args.count c.args.input.now ≡ Ok (c.rest.result.now, c.part.new.self)
+    = ap (λ n. part_at n c.args.input.now) (sym c.from.ensures) ∙ c.in_ok-digits.ensures.read
+    ∙ ap (λ (d : List ℕ). Ok (d, c.part.new.self)) (sym c.rest.ensures) in
+    long_read c.args.count c.args.input.now c.rest.result.now c.part.new.self c.in-Some.number part c.in-Some.ensures
+    (omega arith)
 
 pub returns-in-None-clause-read : goal.returns-in-None-clause-read
 returns-in-None-clause-read c =
-    let part : part_at c.args.count c.args.input.now ≡ Ok (c.rest.result.now, c.part.new.self) = ap (λ n. part_at n c.args.input.now) (sym c.from.ensures) ∙ c.in_ok-digits.ensures.read ∙ ap (λ (d : List ℕ). Ok (d, c.part.new.self)) (sym c.rest.ensures) in
+    let part : part_at c.args.count c.args.input.now ≡ Ok (c.rest.result.now, c.part.new.self)
+    = ap (λ n. part_at n c.args.input.now) (sym c.from.ensures) ∙ c.in_ok-digits.ensures.read
+    ∙ ap (λ (d : List ℕ). Ok (d, c.part.new.self)) (sym c.rest.ensures) in
     long_above c.args.count c.args.input.now c.rest.result.now c.part.new.self part c.in-None.ensures

@@ -9,11 +9,14 @@ use Rattle.ad_change.proofs.adding.add_plan.Goals as goal
 pub plan_of-requires : goal.plan_of-requires
 plan_of-requires c = record {
   sound = c.requires.sound;
-  resolved = subst (λ (vs : List (AttrId × List (List ℕ))). Resolves c.args.dir.now c.args.token.now (act.Add c.args.parent c.args.class c.args.name.now vs c.args.sd.now))
+  resolved = subst (λ (vs : List (AttrId × List (List ℕ))). Resolves c.args.dir.now c.args.token.now
+      (act.Add c.args.parent c.args.class c.args.name.now vs c.args.sd.now))
       (sym c.as_slice.ensures) c.requires.resolved;
 }
 
 pub returns : goal.returns
 returns c =
-    subst (λ (vs : List (AttrId × List (List ℕ))). IfOk c.plan_of.result (IsPlan c.args.dir.now c.args.token.now (act.Add c.args.parent c.args.class c.args.name.now vs c.args.sd.now)))
+    subst (λ (vs : List (AttrId × List (List ℕ))). IfOk c.plan_of.result
+    (IsPlan c.args.dir.now c.args.token.now
+    (act.Add c.args.parent c.args.class c.args.name.now vs c.args.sd.now)))
     c.as_slice.ensures c.plan_of.ensures

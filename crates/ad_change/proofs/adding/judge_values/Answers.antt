@@ -18,9 +18,12 @@ returns-in_err-stored c =
     let p = err_from_is_err_and c.from_residual.result c.from_residual.ensures.1 in
     let dir = c.args.dir.now in
     let x = c.attr-item.result in
-    rw (p.1, p.2) (stops (attr_checks dir (x.0, c.as_slice.result.now)) (flat_map (attr_checks dir) c.args.values.now) c.in_err-stored.field-0.0
-    (λ r is. sym c.each.invariant.0 ∙ each_stops (attr_checks dir) c.args.values.now c.each.attr-index x r c.each-test.true c.attr-item.is
-    (ap (λ (s : List (List ℕ)). first_failing (attr_checks dir (x.0, s))) (sym c.as_slice.ensures) ∙ is)) c.in_err-stored.ensures)
+    rw (p.1, p.2) (stops (attr_checks dir (x.0, c.as_slice.result.now)) (flat_map (attr_checks dir) c.args.values.now)
+    c.in_err-stored.field-0.0
+    (λ r is. sym c.each.invariant.0 ∙ each_stops (attr_checks dir) c.args.values.now c.each.attr-index x r
+    c.each-test.true c.attr-item.is
+    (ap (λ (s : List (List ℕ)). first_failing (attr_checks dir (x.0, s))) (sym c.as_slice.ensures) ∙ is))
+    c.in_err-stored.ensures)
 
 pub each-preserved : goal.each-preserved
 each-preserved c =
@@ -28,10 +31,13 @@ each-preserved c =
     let x = c.attr-item.result in
     let values = c.args.values.now in (
       each_more (attr_checks dir) values c.each.attr-index x c.each-test.true c.attr-item.is
-          (ap (λ (s : List (List ℕ)). first_failing (attr_checks dir (x.0, s))) (sym c.as_slice.ensures) ∙ c.in_ok-stored.ensures.0) ∙ c.each.invariant.0,
-      goes_on (all_read dir) (λ y ys. refl) values c.each.attr-index x (map held_seen c.each.held.items) (map held_seen c.push_held.new.held.items)
+          (ap (λ (s : List (List ℕ)). first_failing (attr_checks dir (x.0, s))) (sym c.as_slice.ensures)
+          ∙ c.in_ok-stored.ensures.0) ∙ c.each.invariant.0,
+      goes_on (all_read dir) (λ y ys. refl) values c.each.attr-index x (map held_seen c.each.held.items)
+          (map held_seen c.push_held.new.held.items)
           (all_read dir values) c.each-test.true c.attr-item.is
-          (ap (map held_seen) c.in_ok-push_held.ensures ∙ map-append held_seen c.each.held.items ((x.0, c.in_ok-stored.stored) ∷ [])
+          (ap (map held_seen) c.in_ok-push_held.ensures ∙ map-append held_seen c.each.held.items
+          ((x.0, c.in_ok-stored.stored) ∷ [])
           ∙ ap (λ (ss : List Stored). map held_seen c.each.held.items ++ record { attr = x.0.0; values = ss } ∷ [])
           (c.in_ok-stored.ensures.1 ∙ ap (all_stored dir x.0.0) c.as_slice.ensures))
           c.each.invariant.1,
@@ -42,5 +48,6 @@ returns c =
     let dir = c.args.dir.now in
     let values = c.args.values.now in (
       sym c.each.invariant.0 ∙ each_done (attr_checks dir) values c.each.attr-index c.each-test.false,
-      comes_to_end (all_read dir) refl values c.each.attr-index (map held_seen c.each.held.items) (all_read dir values) c.each-test.false c.each.invariant.1,
+      comes_to_end (all_read dir) refl values c.each.attr-index (map held_seen c.each.held.items)
+          (all_read dir values) c.each-test.false c.each.invariant.1,
     )

@@ -9,5 +9,6 @@ use Rattle.ad_change.proofs.adding.judge_values.Given as goal
 -- the checks of those that are left decide, and what was read so far and is read of them is all that is read
 abbrev pub invariant-each : goal.invariant-each
 invariant-each l =
-    (first_failing (flat_map (attr_checks l.dir) (drop l.attr-index l.values)) ≡ first_failing (flat_map (attr_checks l.dir) l.values))
+    (first_failing (flat_map (attr_checks l.dir) (drop l.attr-index l.values))
+    ≡ first_failing (flat_map (attr_checks l.dir) l.values))
     × (map held_seen l.held.items ++ all_read l.dir (drop l.attr-index l.values) ≡ all_read l.dir l.values)

@@ -8,5 +8,7 @@ use Rattle.ad_change.proofs.adding.lacks_none.Given as goal
 -- none is missing where none of those that are left is
 abbrev pub invariant-each : goal.invariant-each
 invariant-each l =
-    list_all (λ (attr : ℕ). not (is_lacking l.schema l.class.0 attr (contains nat_cmp l.given attr))) (drop l.attr (all_attrs l.schema))
-    ≡ list_all (λ (attr : ℕ). not (is_lacking l.schema l.class.0 attr (contains nat_cmp l.given attr))) (all_attrs l.schema)
+    list_all (λ (attr : ℕ). not (is_lacking l.schema l.class.0 attr (contains nat_cmp l.given attr)))
+    (drop l.attr (all_attrs l.schema))
+    ≡ list_all (λ (attr : ℕ). not (is_lacking l.schema l.class.0 attr (contains nat_cmp l.given attr)))
+    (all_attrs l.schema)

@@ -12,7 +12,8 @@ use Rattle.ad_change.proofs.adding.plan_of.Goals as goal
 
 pub judge_add-requires : goal.judge_add-requires
 judge_add-requires c =
-    let is = addition c.args.dir.now c.args.token.now c.args.parent c.args.class c.args.name.now c.args.values.now c.args.sd.now c.requires.sound c.requires.resolved in
+    let is = addition c.args.dir.now c.args.token.now c.args.parent c.args.class c.args.name.now c.args.values.now
+    c.args.sd.now c.requires.sound c.requires.resolved in
     record {
       sound = c.requires.sound;
       parent = is.parent_live;
@@ -24,10 +25,13 @@ judge_add-requires c =
 pub new_edits-requires : goal.new_edits-requires
 new_edits-requires c =
     let dir = c.args.dir.now in
-    let is = addition dir c.args.token.now c.args.parent c.args.class c.args.name.now c.args.values.now c.args.sd.now c.requires.sound c.requires.resolved in
-    let place = new_place dir c.args.token.now c.args.parent c.args.class.0 c.args.name.now c.args.values.now c.args.sd.now c.in-Ok.object
+    let is = addition dir c.args.token.now c.args.parent c.args.class c.args.name.now c.args.values.now c.args.sd.now
+    c.requires.sound c.requires.resolved in
+    let place = new_place dir c.args.token.now c.args.parent c.args.class.0 c.args.name.now c.args.values.now
+    c.args.sd.now c.in-Ok.object
     (is_some (new_sid dir c.args.class.0)) c.in-Ok.ensures.1 in
-    let fit = counters_fit dir c.args.token.now c.args.parent c.args.class.0 c.args.name.now c.args.values.now c.args.sd.now c.in-Ok.ensures.0 in
+    let fit = counters_fit dir c.args.token.now c.args.parent c.args.class.0 c.args.name.now c.args.values.now
+    c.args.sd.now c.in-Ok.ensures.0 in
     record {
       sound = c.requires.sound;
       parent = subst (λ (p : ℕ). is_live dir.objects p ≡ true) (sym place.0) is.parent_live;
@@ -40,14 +44,20 @@ pub returns-in_ok-edits-in-Ok : goal.returns-in_ok-edits-in-Ok
 returns-in_ok-edits-in-Ok c =
     let dir = c.args.dir.now in
     let token = c.args.token.now in
-    let is = addition dir token c.args.parent c.args.class c.args.name.now c.args.values.now c.args.sd.now c.requires.sound c.requires.resolved in
-    let back = new_place_back dir token c.args.parent c.args.class.0 c.args.name.now c.args.values.now c.args.sd.now c.in-Ok.object
+    let is = addition dir token c.args.parent c.args.class c.args.name.now c.args.values.now c.args.sd.now
+    c.requires.sound c.requires.resolved in
+    let back = new_place_back dir token c.args.parent c.args.class.0 c.args.name.now c.args.values.now c.args.sd.now
+    c.in-Ok.object
     (is_some (new_sid dir c.args.class.0)) c.in-Ok.ensures.1 in
     let o = new_object dir token c.args.parent c.args.class.0 c.args.name.now c.args.values.now c.args.sd.now in
-    addition_is c.what_is_shown_reads_back.ensures.read (record { read = c.a_sid_is_read_as_spelled.ensures; lengths = c.a_sid_has_8_bytes_and_4_for_each.ensures })
-    dir token c.args.parent c.args.class c.args.name.now c.args.values.now c.args.sd.now c.in_ok-edits-in-Ok.edits c.requires.sound c.domain_is_sid.ensures
+    addition_is c.what_is_shown_reads_back.ensures.read
+    (record { read = c.a_sid_is_read_as_spelled.ensures; lengths = c.a_sid_has_8_bytes_and_4_for_each.ensures })
+    dir token c.args.parent c.args.class c.args.name.now c.args.values.now c.args.sd.now c.in_ok-edits-in-Ok.edits
+    c.requires.sound c.domain_is_sid.ensures
     is c.attrs_are_bytes.ensures c.in-Ok.ensures.0
-    (c.in_ok-edits-in-Ok.ensures o back.0 back.1 (new_own dir token c.args.parent c.args.class.0 c.args.name.now c.args.values.now c.args.sd.now) c.in-Ok.ensures.1.seen)
+    (c.in_ok-edits-in-Ok.ensures o back.0 back.1
+    (new_own dir token c.args.parent c.args.class.0 c.args.name.now c.args.values.now c.args.sd.now)
+    c.in-Ok.ensures.1.seen)
 
 pub returns-in_ok-code-in-Err : goal.returns-in_ok-code-in-Err
 unfolding later_checks

@@ -13,7 +13,8 @@ going_of-requires-clause-leaving c = record {
 }
 
 pub going_of-requires-clause-below : goal.going_of-requires-clause-below
-going_of-requires-clause-below c = (deletion c.args.dir.now c.args.token.now c.args.target c.args.tree c.requires.sound c.requires.resolved).below
+going_of-requires-clause-below c = (deletion c.args.dir.now c.args.token.now c.args.target c.args.tree
+    c.requires.sound c.requires.resolved).below
 
 pub removal-requires-clause-leaving : goal.removal-requires-clause-leaving
 removal-requires-clause-leaving c = record {
@@ -23,12 +24,16 @@ removal-requires-clause-leaving c = record {
 
 pub returns-then-may_go : goal.returns-then-may_go
 returns-then-may_go c =
-    removal_is c.args.dir.now c.args.token.now c.args.target c.args.tree c.in_ok-going.going.items c.in_ok-edits.edits c.requires.sound
+    removal_is c.args.dir.now c.args.token.now c.args.target c.args.tree c.in_ok-going.going.items c.in_ok-edits.edits
+    c.requires.sound
     (deletion c.args.dir.now c.args.token.now c.args.target c.args.tree c.requires.sound c.requires.resolved)
     c.in_ok-going.ensures
-    (subst (λ (ns : List ℕ). AreEdits (removal_edits c.args.dir.now c.args.target ns) c.in_ok-edits.edits) c.as_slice.ensures.value c.in_ok-edits.ensures)
-    (allows c.args.dir.now c.args.token.now c.args.target c.args.tree c.stands_alone-alone.result c.may_go.result c.stands_alone-alone.ensures c.may_go.ensures c.if-may_go.true)
+    (subst (λ (ns : List ℕ). AreEdits (removal_edits c.args.dir.now c.args.target ns) c.in_ok-edits.edits)
+    c.as_slice.ensures.value c.in_ok-edits.ensures)
+    (allows c.args.dir.now c.args.token.now c.args.target c.args.tree c.stands_alone-alone.result c.may_go.result
+    c.stands_alone-alone.ensures c.may_go.ensures c.if-may_go.true)
 
 pub returns : goal.returns
-returns c = refuses c.args.dir.now c.args.token.now c.args.target c.args.tree c.stands_alone-alone.result c.may_go.result c.stands_alone-alone.ensures
+returns c = refuses c.args.dir.now c.args.token.now c.args.target c.args.tree c.stands_alone-alone.result
+    c.may_go.result c.stands_alone-alone.ensures
     c.may_go.ensures c.if-may_go.false

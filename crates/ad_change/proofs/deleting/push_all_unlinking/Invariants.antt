@@ -6,4 +6,5 @@ use Rattle.ad_change.proofs.deleting.push_all_unlinking.Given as goal
 -- the edits of those so far
 abbrev pub invariant-each : goal.invariant-each
 invariant-each l =
-    AddsEdits l.initial.edits l.edits (map (λ (n : ℕ). put_object (unlinked_at l.dir l.target n)) (losing_among l.dir l.target (take l.number-index l.numbers)))
+    AddsEdits l.initial.edits l.edits (map (λ (n : ℕ). put_object (unlinked_at l.dir l.target n))
+    (losing_among l.dir l.target (take l.number-index l.numbers)))

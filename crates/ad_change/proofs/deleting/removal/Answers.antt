@@ -9,11 +9,15 @@ use Rattle.ad_change.proofs.deleting.removal.Goals as goal
 
 pub push_all_unlinking-requires-clause-live : goal.push_all_unlinking-requires-clause-live
 push_all_unlinking-requires-clause-live c =
-    subst (AllByRecursion (λ (n : ℕ). is_live c.args.dir.now.objects n ≡ true)) (sym c.as_slice.ensures.value) c.in_ok-numbers.ensures.live
+    subst (AllByRecursion (λ (n : ℕ). is_live c.args.dir.now.objects n ≡ true)) (sym c.as_slice.ensures.value)
+    c.in_ok-numbers.ensures.live
 
 pub returns : goal.returns
 returns c =
-    removal_edits_are c.args.dir.now c.args.target c.args.going.now c.as_slice.result.now c.in_ok-staying.field-0 c.push.new.self c.push_all_unlinking.new.edits
-    c.push_removals.new.edits (ap (losing_among c.args.dir.now c.args.target) c.as_slice.ensures.value ∙ c.in_ok-numbers.ensures.all)
-    (c.in_ok-push.ensures.ok ∙ ap (λ (es : List Edit). es ++ edit.PutQueue c.in_ok-staying.field-0 ∷ []) c.new-edits.ensures)
+    removal_edits_are c.args.dir.now c.args.target c.args.going.now c.as_slice.result.now c.in_ok-staying.field-0
+    c.push.new.self c.push_all_unlinking.new.edits
+    c.push_removals.new.edits (ap (losing_among c.args.dir.now c.args.target) c.as_slice.ensures.value
+    ∙ c.in_ok-numbers.ensures.all)
+    (c.in_ok-push.ensures.ok ∙ ap (λ (es : List Edit). es ++ edit.PutQueue c.in_ok-staying.field-0 ∷ [])
+    c.new-edits.ensures)
     c.in_ok-staying.ensures c.in_ok-push_all_unlinking.ensures c.in_ok-push_removals.ensures

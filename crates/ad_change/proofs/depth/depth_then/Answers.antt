@@ -17,7 +17,8 @@ up-preserved c =
     let parent = parent_then c.args.dir.now c.args.moved c.args.parent in (
       omega (arith, c.up-test.true),
       ap (λ (n : ℕ). c.up.depth + 1 + depth_within parent (65 - (c.up.depth + 1)) n) c.parent_then-at.ensures
-          ∙ goes_up parent c.up.depth c.up.at (depth_of parent c.args.number) (omega (arith, c.up-test.true)) c.if-at-eq-ROOT.false c.up.invariant.1,
+          ∙ goes_up parent c.up.depth c.up.at (depth_of parent c.args.number) (omega (arith, c.up-test.true))
+          c.if-at-eq-ROOT.false c.up.invariant.1,
     )
 
 pub returns : goal.returns

@@ -8,10 +8,12 @@ use Rattle.ad_change.proofs.DepthLaws.{shallow_then, shallow_in_place}
 use Rattle.ad_change.proofs.depth.is_shallow_with.Goals as goal
 
 pub returns-then-parent_of-parent : goal.returns-then-parent_of-parent
-returns-then-parent_of-parent c = λ name. shallow_in_place c.args.dir.now c.args.target c.args.parent name c.requires.sound c.requires.live
+returns-then-parent_of-parent c = λ name. shallow_in_place c.args.dir.now c.args.target c.args.parent name
+    c.requires.sound c.requires.live
     (sym c.parent_of.ensures ∙ c.if-parent_of-parent.true)
 
 pub returns : goal.returns
 returns c = λ name. c.are_shallow.ensures
-    ∙ ap (list_all (λ (n : ℕ). nat_le (depth_of (parent_then c.args.dir.now c.args.target c.args.parent) n) max_depth)) (c.as_slice.ensures.value ∙ c.in_ok-numbers.ensures)
+    ∙ ap (list_all (λ (n : ℕ). nat_le (depth_of (parent_then c.args.dir.now c.args.target c.args.parent) n)
+    max_depth)) (c.as_slice.ensures.value ∙ c.in_ok-numbers.ensures)
     ∙ shallow_then c.args.dir.now c.args.target c.args.parent name c.requires.live

@@ -8,5 +8,6 @@ use Rattle.ad_change.proofs.leaves.all_going.Given as goal
 -- those so far and those that are left
 abbrev pub invariant-each : goal.invariant-each
 invariant-each l =
-    l.found.items ++ map (λ (one : ℕ). (depth_of (parents l.dir) one, one)) (filter (goes_with l.dir l.target) (drop l.number-index l.numbers))
+    l.found.items ++ map (λ (one : ℕ). (depth_of (parents l.dir) one, one))
+    (filter (goes_with l.dir l.target) (drop l.number-index l.numbers))
     ≡ map (λ (one : ℕ). (depth_of (parents l.dir) one, one)) (filter (goes_with l.dir l.target) l.numbers)

@@ -14,7 +14,8 @@ pub returns-then-number-but : goal.returns-then-number-but
 returns-then-number-but c =
     let dir = c.args.dir.now in
     let o : Object = object_at dir.objects c.args.number in
-    sym (ap (left_of c.args.left) (is_the_one dir.schema c.args.but o (at_number dir.objects c.args.number c.requires ∙ c.if-number-but.true)) ∙ nothing c.args.left)
+    sym (ap (left_of c.args.left) (is_the_one dir.schema c.args.but o (at_number dir.objects c.args.number c.requires
+    ∙ c.if-number-but.true)) ∙ nothing c.args.left)
 
 pub returns : goal.returns
 returns c =
@@ -24,4 +25,5 @@ returns c =
     c.after_object.ensures (sd_at dir.objects c.args.number)
     ∙ ap (λ (s : List SchemaRecord). left_of c.args.left (object_weight s seen)) c.schema.ensures
     ∙ ap (λ (x : Object). left_of c.args.left (object_weight dir.schema x)) c.live_object.ensures
-    ∙ ap (left_of c.args.left) (sym (is_other dir.schema c.args.but o (λ e. c.if-number-but.false (sym (at_number dir.objects c.args.number c.requires) ∙ e))))
+    ∙ ap (left_of c.args.left) (sym (is_other dir.schema c.args.but o
+    (λ e. c.if-number-but.false (sym (at_number dir.objects c.args.number c.requires) ∙ e))))

@@ -12,7 +12,8 @@ each-init c = ap (λ (os : List Object). left_of c.args.left (others_weight c.ar
     (all_behind 0 0 c.args.dir.now.objects c.stands.ensures.rise (omega arith))
 
 pub after_other-requires : goal.after_other-requires
-after_other-requires c = (next_at 0 c.each.above c.in-Some.number c.args.dir.now.objects c.stands.ensures.rise (sym c.in-Some.ensures)).live
+after_other-requires c = (next_at 0 c.each.above c.in-Some.number c.args.dir.now.objects c.stands.ensures.rise
+    (sym c.in-Some.ensures)).live
 
 pub returns-in-None : goal.returns-in-None
 returns-in-None c =
@@ -20,7 +21,8 @@ returns-in-None c =
     let n = c.in-Some.number in
     sym (ap (left_of c.each.left) (others_next dir.schema c.args.but dir.objects c.each.above n
     (next_at 0 c.each.above n dir.objects c.stands.ensures.rise (sym c.in-Some.ensures)))
-    ∙ too_heavy c.each.left (other_weight dir.schema c.args.but (object_at dir.objects n)) (others_weight dir.schema c.args.but (behind n dir.objects)) (sym c.in-None.ensures))
+    ∙ too_heavy c.each.left (other_weight dir.schema c.args.but (object_at dir.objects n))
+    (others_weight dir.schema c.args.but (behind n dir.objects)) (sym c.in-None.ensures))
     ∙ c.each.invariant
 
 pub each-smaller : goal.each-smaller
@@ -35,7 +37,8 @@ each-preserved c =
     let n = c.in-Some.number in
     sym (ap (left_of c.each.left) (others_next dir.schema c.args.but dir.objects c.each.above n
     (next_at 0 c.each.above n dir.objects c.stands.ensures.rise (sym c.in-Some.ensures)))
-    ∙ spent c.each.left (other_weight dir.schema c.args.but (object_at dir.objects n)) (others_weight dir.schema c.args.but (behind n dir.objects))
+    ∙ spent c.each.left (other_weight dir.schema c.args.but (object_at dir.objects n))
+    (others_weight dir.schema c.args.but (behind n dir.objects))
     c.in-Some-after_other.less (sym c.in-Some-after_other.ensures))
     ∙ c.each.invariant
 

@@ -10,9 +10,11 @@ pub returns-in-Some : goal.returns-in-Some
 returns-in-Some c = λ sd.
     c.is_enough.ensures
     ∙ light_by c.args.dir.now (object_seen c.args.object.now sd) c.in-Some.left c.requires
-    (ap (λ (s : List SchemaRecord). left_of 268435456 (object_weight s (object_seen c.args.object.now sd))) (sym c.schema.ensures) ∙ sym (c.in-Some.ensures sd))
+    (ap (λ (s : List SchemaRecord). left_of 268435456 (object_weight s (object_seen c.args.object.now sd)))
+    (sym c.schema.ensures) ∙ sym (c.in-Some.ensures sd))
 
 pub returns-in-None : goal.returns-in-None
 returns-in-None c = λ sd.
     heavy_by c.args.dir.now (object_seen c.args.object.now sd) c.requires
-    (ap (λ (s : List SchemaRecord). left_of 268435456 (object_weight s (object_seen c.args.object.now sd))) (sym c.schema.ensures) ∙ sym (c.in-None.ensures sd))
+    (ap (λ (s : List SchemaRecord). left_of 268435456 (object_weight s (object_seen c.args.object.now sd)))
+    (sym c.schema.ensures) ∙ sym (c.in-None.ensures sd))

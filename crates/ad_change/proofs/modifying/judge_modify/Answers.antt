@@ -27,7 +27,8 @@ judge_values-requires c =
     let own = sd_at dir.objects c.args.target in
     let seen : object_seen c.in_ok-before.before own ≡ object_at dir.objects c.args.target =
     ap (λ (o : ObjectIn). object_seen o own) c.in_ok-before.ensures ∙ c.live_object.ensures in
-    let is : IsSoundObject dir (object_at dir.objects c.args.target) = sound_at dir c.requires.sound.each c.args.target c.requires.live in
+    let is : IsSoundObject dir (object_at dir.objects c.args.target) = sound_at dir c.requires.sound.each
+    c.args.target c.requires.live in
     record {
       class = subst (λ (x : Object). x.class < length (classes_of dir.schema)) (sym seen) is.content.class_of_schema;
       attrs = c.requires.attrs;
@@ -46,7 +47,8 @@ returns-in_err-after c =
     (modify_later dir c.args.token.now c.args.target c.args.items.now c.args.sd.now) c.in_err-after.field-0.0
     (λ r is. values_stop dir c.args.token.now c.args.target c.args.items.now c.args.sd.now r
     (sym c.is_owner_allowed.ensures ∙ c.if-not-is_owner_allowed.false)
-    (ap (λ (x : Object). first_failing (value_checks dir x.class x.values c.args.items.now)) (sym seen) ∙ is)) c.in_err-after.ensures)
+    (ap (λ (x : Object). first_failing (value_checks dir x.class x.values c.args.items.now)) (sym seen) ∙ is))
+    c.in_err-after.ensures)
 
 pub returns-then-not-is_light_with : goal.returns-then-not-is_light_with
 returns-then-not-is_light_with c =
@@ -56,10 +58,12 @@ returns-then-not-is_light_with c =
     let seen : object_seen before own ≡ object_at dir.objects c.args.target =
     ap (λ (o : ObjectIn). object_seen o own) c.in_ok-before.ensures ∙ c.live_object.ensures in
     let made : object_seen c.in_ok-after.after own ≡ modified_object dir c.args.target c.args.items.now =
-    c.in_ok-after.ensures.1 own ∙ ap (λ (x : Object). record x { values = after_items dir x.values c.args.items.now }) seen in
+    c.in_ok-after.ensures.1 own ∙ ap (λ (x : Object). record x { values = after_items dir x.values c.args.items.now })
+    seen in
     weight_stops dir c.args.token.now c.args.target c.args.items.now c.args.sd.now
     (sym c.is_owner_allowed.ensures ∙ c.if-not-is_owner_allowed.false)
-    (ap (λ (x : Object). first_failing (value_checks dir x.class x.values c.args.items.now)) (sym seen) ∙ c.in_ok-after.ensures.0)
+    (ap (λ (x : Object). first_failing (value_checks dir x.class x.values c.args.items.now)) (sym seen)
+    ∙ c.in_ok-after.ensures.0)
     (sym (ap (is_light_with dir) made) ∙ sym (c.is_light_with.ensures own) ∙ c.if-not-is_light_with.true)
 
 pub returns : goal.returns
@@ -70,10 +74,12 @@ returns c =
     let seen : object_seen before own ≡ object_at dir.objects c.args.target =
     ap (λ (o : ObjectIn). object_seen o own) c.in_ok-before.ensures ∙ c.live_object.ensures in
     let made : object_seen c.in_ok-after.after own ≡ modified_object dir c.args.target c.args.items.now =
-    c.in_ok-after.ensures.1 own ∙ ap (λ (x : Object). record x { values = after_items dir x.values c.args.items.now }) seen in (
+    c.in_ok-after.ensures.1 own ∙ ap (λ (x : Object). record x { values = after_items dir x.values c.args.items.now })
+    seen in (
       all_hold dir c.args.token.now c.args.target c.args.items.now c.args.sd.now
           (sym c.is_owner_allowed.ensures ∙ c.if-not-is_owner_allowed.false)
-          (ap (λ (x : Object). first_failing (value_checks dir x.class x.values c.args.items.now)) (sym seen) ∙ c.in_ok-after.ensures.0)
+          (ap (λ (x : Object). first_failing (value_checks dir x.class x.values c.args.items.now)) (sym seen)
+          ∙ c.in_ok-after.ensures.0)
           (sym (ap (is_light_with dir) made) ∙ sym (c.is_light_with.ensures own) ∙ c.if-not-is_light_with.false),
       made,
     )

@@ -11,7 +11,8 @@ use Rattle.ad_change.proofs.modifying.plan_of.Goals as goal
 
 pub judge_modify-requires : goal.judge_modify-requires
 judge_modify-requires c =
-    let is = modification c.args.dir.now c.args.token.now c.args.target c.args.items.now c.args.sd.now c.requires.sound c.requires.resolved in
+    let is = modification c.args.dir.now c.args.token.now c.args.target c.args.items.now c.args.sd.now
+    c.requires.sound c.requires.resolved in
     record {
       sound = c.requires.sound;
       live = is.live;
@@ -21,8 +22,10 @@ judge_modify-requires c =
 pub edits_of-requires : goal.edits_of-requires
 edits_of-requires c =
     let dir = c.args.dir.now in
-    let is = modification dir c.args.token.now c.args.target c.args.items.now c.args.sd.now c.requires.sound c.requires.resolved in
-    let put = modified_is_put dir c.args.target c.args.items.now (object_seen c.in-Ok.object (sd_at dir.objects c.args.target)) c.requires.sound
+    let is = modification dir c.args.token.now c.args.target c.args.items.now c.args.sd.now c.requires.sound
+    c.requires.resolved in
+    let put = modified_is_put dir c.args.target c.args.items.now
+    (object_seen c.in-Ok.object (sd_at dir.objects c.args.target)) c.requires.sound
     is.live c.in-Ok.ensures.1 in
     record { live = put.live; class = put.class; parent = put.parent }
 
@@ -33,11 +36,13 @@ returns-in_ok-edits-in-Ok c =
     let object = c.in-Ok.object in
     let edits = c.in_ok-edits-in-Ok.edits in
     let is = modification dir c.args.token.now c.args.target items c.args.sd.now c.requires.sound c.requires.resolved in
-    let put = modified_is_put dir c.args.target items (object_seen object (sd_at dir.objects c.args.target)) c.requires.sound
+    let put = modified_is_put dir c.args.target items (object_seen object (sd_at dir.objects c.args.target))
+    c.requires.sound
     is.live c.in-Ok.ensures.1 in
     let seen : object_seen object (sd_at dir.objects object.number) ≡ modified_object dir c.args.target items =
     ap (λ (n : ℕ). object_seen object (sd_at dir.objects n)) put.same ∙ c.in-Ok.ensures.1 in
-    modify_plan_is c.what_is_shown_reads_back.ensures.read dir c.args.token.now c.args.target items c.args.sd.now edits c.requires.sound is.live
+    modify_plan_is c.what_is_shown_reads_back.ensures.read dir c.args.token.now c.args.target items c.args.sd.now
+    edits c.requires.sound is.live
     (is.attrs c.items_are_bytes.ensures) c.in-Ok.ensures.0
     (subst (λ (o : Object). AreNeeded dir (modify_edits dir o c.args.sd.now) edits) seen c.in_ok-edits-in-Ok.ensures)
 

@@ -11,8 +11,10 @@ counted_on-requires-clause-rid c = λ e. c.requires.rid (sym c.gets_sid-gets.ens
 
 pub returns : goal.returns
 returns c = λ o parent class own seen.
-    new_made c.args.dir.now c.args.token.now o c.args.object c.push-2.new.self c.in_ok-bytes.bytes c.in_ok-meta.meta c.args.sd.now c.requires.sound
-    (c.in_ok-push-2.ensures.ok ∙ ap (λ (es : List Edit). es ++ edit.PutMeta c.in_ok-meta.meta ∷ []) (c.in_ok-push.ensures.ok
+    new_made c.args.dir.now c.args.token.now o c.args.object c.push-2.new.self c.in_ok-bytes.bytes c.in_ok-meta.meta
+    c.args.sd.now c.requires.sound
+    (c.in_ok-push-2.ensures.ok ∙ ap (λ (es : List Edit). es ++ edit.PutMeta c.in_ok-meta.meta ∷ [])
+    (c.in_ok-push.ensures.ok
     ∙ ap (λ (es : List Edit). es ++ edit.PutObject c.args.object c.in_ok-bytes.bytes ∷ []) c.new-edits.ensures))
     c.in_ok-bytes.ensures
     (c.in_ok-meta.ensures (new_sid c.args.dir.now o.class)

@@ -7,6 +7,8 @@ use Rattle.ad_change.proofs.new_object.numbered.Goals as goal
 
 pub returns : goal.returns
 returns c = λ sd.
-    numbered_made c.args.dir.now c.args.parent c.args.class c.in_ok-own.own c.args.name.now (map held_seen c.args.held.items) c.from_vec-values.result
-    c.meta-meta.result.now.next_number (option_copied c.args.sid) sd (ap (λ (m : Meta). m.next_number) c.meta-meta.ensures) c.in_ok-own.ensures c.requires.sid
+    numbered_made c.args.dir.now c.args.parent c.args.class c.in_ok-own.own c.args.name.now
+    (map held_seen c.args.held.items) c.from_vec-values.result
+    c.meta-meta.result.now.next_number (option_copied c.args.sid) sd
+    (ap (λ (m : Meta). m.next_number) c.meta-meta.ensures) c.in_ok-own.ensures c.requires.sid
     (ap (map held_seen) c.from_vec-values.ensures ∙ c.in_ok-with_sid.ensures)

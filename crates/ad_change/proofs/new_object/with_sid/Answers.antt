@@ -5,4 +5,5 @@ use Rattle.ad_change.proofs.AddLaws.{no_new_sid}
 use Rattle.ad_change.proofs.new_object.with_sid.Goals as goal
 
 pub returns-in-None : goal.returns-in-None
-returns-in-None c = rw c.in-None.is (no_new_sid (object_sid c.args.dir.now.schema) (map held_seen c.args.held.now.items))
+returns-in-None c = rw c.in-None.is (no_new_sid (object_sid c.args.dir.now.schema)
+    (map held_seen c.args.held.now.items))

@@ -4,4 +4,5 @@ use Rattle.ad_change.proofs.same.same_held_all.Given as goal
 
 -- all are the same where those after are
 abbrev pub invariant-each : goal.invariant-each
-invariant-each l = (length l.a ≡ length l.b) × (map held_seen (drop l.i l.a) ≡ map held_seen (drop l.i l.b) → map held_seen l.a ≡ map held_seen l.b)
+invariant-each l = (length l.a ≡ length l.b)
+    × (map held_seen (drop l.i l.a) ≡ map held_seen (drop l.i l.b) → map held_seen l.a ≡ map held_seen l.b)

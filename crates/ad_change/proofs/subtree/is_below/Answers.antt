@@ -8,11 +8,13 @@ pub up-init : goal.up-init
 up-init c = above_all (parents c.args.dir.now) c.args.other c.args.number
 
 pub returns-then-at-eq-ROOT : goal.returns-then-at-eq-ROOT
-returns-then-at-eq-ROOT c = sym (above_root (parents c.args.dir.now) c.up.left c.args.other c.up.at c.if-at-eq-ROOT.true) ∙ c.up.invariant
+returns-then-at-eq-ROOT c = sym (above_root (parents c.args.dir.now) c.up.left c.args.other c.up.at
+    c.if-at-eq-ROOT.true) ∙ c.up.invariant
 
 pub returns-then-at-other : goal.returns-then-at-other
 returns-then-at-other c =
-    sym (above_found (parents c.args.dir.now) c.up.left c.args.other c.up.at c.up-test.true c.if-at-eq-ROOT.false (sym c.parent_of-at.ensures ∙ c.if-at-other.true))
+    sym (above_found (parents c.args.dir.now) c.up.left c.args.other c.up.at c.up-test.true c.if-at-eq-ROOT.false
+    (sym c.parent_of-at.ensures ∙ c.if-at-other.true))
     ∙ c.up.invariant
 
 pub up-preserved : goal.up-preserved

@@ -7,5 +7,6 @@ use Rattle.ad_change.proofs.unlinking.all_kept.Given as goal
 -- what is kept so far and of those that are left is all that is kept
 abbrev pub invariant-each : goal.invariant-each
 invariant-each l =
-    map held_seen l.all ++ filter_map (unlinked_held (goes_with l.dir l.target)) (map held_seen (drop l.held-index l.values))
+    map held_seen l.all ++ filter_map (unlinked_held (goes_with l.dir l.target))
+    (map held_seen (drop l.held-index l.values))
     ≡ filter_map (unlinked_held (goes_with l.dir l.target)) (map held_seen l.values)

@@ -7,5 +7,6 @@ use Rattle.ad_change.proofs.unlinking.kept_of.Given as goal
 -- what is kept so far and of those that are left is all that is kept
 abbrev pub invariant-each : goal.invariant-each
 invariant-each l =
-    map stored_seen l.kept ++ filter (stays_linked (goes_with l.dir l.target)) (map stored_seen (drop l.value-index l.stored))
+    map stored_seen l.kept ++ filter (stays_linked (goes_with l.dir l.target))
+    (map stored_seen (drop l.value-index l.stored))
     ≡ filter (stays_linked (goes_with l.dir l.target)) (map stored_seen l.stored)

@@ -9,5 +9,6 @@ use Rattle.ad_change.proofs.unlinking.loses.Given as goal
 -- none so far has one that is lost
 abbrev pub invariant-each : goal.invariant-each
 invariant-each l =
-    list_any (λ (held : Held). loses_some (goes_with l.dir l.target) held.values) (map held_seen (drop l.held-index l.values))
+    list_any (λ (held : Held). loses_some (goes_with l.dir l.target) held.values)
+    (map held_seen (drop l.held-index l.values))
     ≡ list_any (λ (held : Held). loses_some (goes_with l.dir l.target) held.values) (map held_seen l.values)

@@ -11,13 +11,17 @@ pub returns-in_ok-push : goal.returns-in_ok-push
 returns-in_ok-push c =
     let goes = goes_with c.args.dir.now c.args.target in
     let o = object_at c.args.dir.now.objects c.args.number in
-    adds_one c.args.edits.now c.push.new.self c.in_ok-unlinking.field-0 (λ (n : ℕ). put_object (unlinked_at c.args.dir.now c.args.target n)) c.args.number
-    (loses goes o) (loses_is goes c.live_object.result.now o c.as_slice.result.now c.loses.result c.live_object.ensures c.as_slice.ensures c.loses.ensures ∙ c.if-loses.true)
+    adds_one c.args.edits.now c.push.new.self c.in_ok-unlinking.field-0
+    (λ (n : ℕ). put_object (unlinked_at c.args.dir.now c.args.target n)) c.args.number
+    (loses goes o) (loses_is goes c.live_object.result.now o c.as_slice.result.now c.loses.result
+    c.live_object.ensures c.as_slice.ensures c.loses.ensures ∙ c.if-loses.true)
     c.in_ok-push.ensures.ok c.in_ok-unlinking.ensures.seen c.in_ok-unlinking.ensures.normal
 
 pub returns-else-loses : goal.returns-else-loses
 returns-else-loses c =
     let goes = goes_with c.args.dir.now c.args.target in
     let o = object_at c.args.dir.now.objects c.args.number in
-    adds_none c.args.edits.now (λ (n : ℕ). put_object (unlinked_at c.args.dir.now c.args.target n)) c.args.number (loses goes o)
-    (loses_is goes c.live_object.result.now o c.as_slice.result.now c.loses.result c.live_object.ensures c.as_slice.ensures c.loses.ensures ∙ c.if-loses.false)
+    adds_none c.args.edits.now (λ (n : ℕ). put_object (unlinked_at c.args.dir.now c.args.target n)) c.args.number
+    (loses goes o)
+    (loses_is goes c.live_object.result.now o c.as_slice.result.now c.loses.result c.live_object.ensures
+    c.as_slice.ensures c.loses.ensures ∙ c.if-loses.false)

@@ -7,4 +7,5 @@ use Rattle.ad_change.proofs.unlinking.some_lost.Given as goal
 -- none so far is lost
 abbrev pub invariant-each : goal.invariant-each
 invariant-each l =
-    loses_some (goes_with l.dir l.target) (map stored_seen (drop l.value-index l.stored)) ≡ loses_some (goes_with l.dir l.target) (map stored_seen l.stored)
+    loses_some (goes_with l.dir l.target) (map stored_seen (drop l.value-index l.stored))
+    ≡ loses_some (goes_with l.dir l.target) (map stored_seen l.stored)

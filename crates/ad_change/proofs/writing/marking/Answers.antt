@@ -14,9 +14,12 @@ pub returns : goal.returns
 returns c = λ (own : Sd) spelled.
     let dir = c.args.dir.now in
     write_made dir c.push-2.new.self c.args.object own c.args.bytes c.into_entries.result c.is_another.result
-    (c.in_ok-push-2.ensures.ok ∙ ap (λ (es : List Edit). es ++ edit.PutQueue c.into_entries.result ∷ []) (c.in_ok-push.ensures.ok
+    (c.in_ok-push-2.ensures.ok ∙ ap (λ (es : List Edit). es ++ edit.PutQueue c.into_entries.result ∷ [])
+    (c.in_ok-push.ensures.ok
     ∙ ap (λ (es : List Edit). es ++ edit.PutObject c.args.object c.args.bytes ∷ []) c.new-edits.ensures))
     spelled
-    (c.is_another.ensures (whole_at dir (object_seen c.args.object own)) (spelled.0, c.as_slice.ensures.value ∙ spelled.1))
+    (c.is_another.ensures (whole_at dir (object_seen c.args.object own))
+    (spelled.0, c.as_slice.ensures.value ∙ spelled.1))
     (c.into_entries.ensures.entries ∙ c.in_ok-mark_if.ensures
-    ∙ ap (λ (ps : List Pending). if c.is_another.result then marked c.args.object.number ps else ps) (c.in_ok-queue.ensures ∙ c.queue.ensures))
+    ∙ ap (λ (ps : List Pending). if c.is_another.result then marked c.args.object.number ps else ps)
+    (c.in_ok-queue.ensures ∙ c.queue.ensures))

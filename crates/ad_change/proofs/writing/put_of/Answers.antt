@@ -8,4 +8,5 @@ use Rattle.ad_change.proofs.writing.put_of.Goals as goal
 pub returns : goal.returns
 returns c = λ (sd : Sd) spelled.
     put_made c.push.new.self c.args.object c.args.bytes sd
-    (c.in_ok-push.ensures.ok ∙ ap (λ (es : List Edit). es ++ edit.PutObject c.args.object c.args.bytes ∷ []) c.new-edits.ensures) spelled
+    (c.in_ok-push.ensures.ok ∙ ap (λ (es : List Edit). es ++ edit.PutObject c.args.object c.args.bytes ∷ [])
+    c.new-edits.ensures) spelled

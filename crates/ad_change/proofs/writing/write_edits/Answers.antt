@@ -10,12 +10,20 @@ returns-then-is_there c =
     let dir = c.args.dir.now in
     let o = object_seen c.args.object (seen c.args.own) in
     write_stood dir o c.is_there.result c.new.result c.stands.ensures.rise c.requires.live
-    (c.is_there.ensures (whole_at dir o) (c.in_ok-bytes.ensures.0, c.as_slice.ensures.value ∙ c.in_ok-bytes.ensures.1)) c.if-is_there.true c.new.ensures
+    (c.is_there.ensures (whole_at dir o) (
+      c.in_ok-bytes.ensures.0,
+      c.as_slice.ensures.value
+          ∙ c.in_ok-bytes.ensures.1,
+    )) c.if-is_there.true c.new.ensures
 
 pub returns : goal.returns
 returns c =
     let dir = c.args.dir.now in
     let o = object_seen c.args.object (seen c.args.own) in
     write_needed dir o c.is_there.result c.marking.result
-    (c.is_there.ensures (whole_at dir o) (c.in_ok-bytes.ensures.0, c.as_slice.ensures.value ∙ c.in_ok-bytes.ensures.1)) c.if-is_there.false
+    (c.is_there.ensures (whole_at dir o) (
+      c.in_ok-bytes.ensures.0,
+      c.as_slice.ensures.value
+          ∙ c.in_ok-bytes.ensures.1,
+    )) c.if-is_there.false
     (c.marking.ensures (seen c.args.own) c.in_ok-bytes.ensures)

@@ -24,9 +24,12 @@ returns-in_err-judge_if c =
     let within : attr < length marks = omega (arith, c.each-test.true, c.in_ok-named.ensures.len) in
     let less : attr < n = omega (arith, c.each-test.true, c.attr_count-count.ensures) in
     let is : c.index.result.now ≡ named attr =
-    c.index.ensures ∙ get_or_default marks attr c.index.result.now false within ∙ c.in_ok-named.ensures.each attr c.each-test.true in
-    rw (p.1, p.2) (stops (if c.index.result.now then f attr else []) (flat_map f (filter named (all_attrs schema))) c.in_err-judge_if.field-0.0
-    (λ r stopped. from_start f named n ∙ sym c.each.invariant ∙ one_stops f named n attr r c.index.result.now less is stopped)
+    c.index.ensures ∙ get_or_default marks attr c.index.result.now false within ∙ c.in_ok-named.ensures.each attr
+    c.each-test.true in
+    rw (p.1, p.2) (stops (if c.index.result.now then f attr else []) (flat_map f (filter named (all_attrs schema)))
+    c.in_err-judge_if.field-0.0
+    (λ r stopped. from_start f named n ∙ sym c.each.invariant ∙ one_stops f named n attr r c.index.result.now less is
+    stopped)
     (c.in_err-judge_if.ensures (map held_seen c.args.held.now) (c.in_ok-counts.ensures attr)))
 
 pub each-preserved : goal.each-preserved
@@ -40,13 +43,18 @@ each-preserved c =
     let within : attr < length marks = omega (arith, c.each-test.true, c.in_ok-named.ensures.len) in
     let less : attr < n = omega (arith, c.each-test.true, c.attr_count-count.ensures) in
     let is : c.index.result.now ≡ named attr =
-    c.index.ensures ∙ get_or_default marks attr c.index.result.now false within ∙ c.in_ok-named.ensures.each attr c.each-test.true in
-    sym (one_more f named n attr c.index.result.now less is (c.in_ok-judge_if.ensures (map held_seen c.args.held.now) (c.in_ok-counts.ensures attr)).0) ∙ c.each.invariant
+    c.index.ensures ∙ get_or_default marks attr c.index.result.now false within ∙ c.in_ok-named.ensures.each attr
+    c.each-test.true in
+    sym (one_more f named n attr c.index.result.now less is
+    (c.in_ok-judge_if.ensures (map held_seen c.args.held.now) (c.in_ok-counts.ensures attr)).0) ∙ c.each.invariant
 
 pub returns : goal.returns
 returns c =
     let schema = c.args.schema.now in
     let n = length (attrs_of schema) in
     let f : ℕ → List Check = final_checks schema c.args.class.0 (map held_seen c.args.held.now) in
-    let named : ℕ → Bool = is_item_named c.args.items.now in
-    (from_start f named n ∙ sym c.each.invariant ∙ no_more f named n c.each.attr (omega (arith, c.each-test.false, c.attr_count-count.ensures)), tt)
+    let named : ℕ → Bool = is_item_named c.args.items.now in (
+      from_start f named n ∙ sym c.each.invariant ∙ no_more f named n c.each.attr
+          (omega (arith, c.each-test.false, c.attr_count-count.ensures)),
+      tt,
+    )

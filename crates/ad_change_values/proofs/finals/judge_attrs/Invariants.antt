@@ -9,5 +9,7 @@ use Rattle.ad_change_values.proofs.finals.judge_attrs.Given as goal
 -- the checks of the attributes to come decide
 abbrev pub invariant-each : goal.invariant-each
 invariant-each l =
-    first_failing (from_on (final_checks l.schema l.class.0 (map held_seen l.held)) (is_item_named l.items) (length (attrs_of l.schema)) l.attr)
-    ≡ first_failing (from_on (final_checks l.schema l.class.0 (map held_seen l.held)) (is_item_named l.items) (length (attrs_of l.schema)) 0)
+    first_failing (from_on (final_checks l.schema l.class.0 (map held_seen l.held)) (is_item_named l.items)
+    (length (attrs_of l.schema)) l.attr)
+    ≡ first_failing (from_on (final_checks l.schema l.class.0 (map held_seen l.held)) (is_item_named l.items)
+    (length (attrs_of l.schema)) 0)

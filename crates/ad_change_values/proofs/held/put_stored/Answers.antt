@@ -7,7 +7,8 @@ use Rattle.ad_change_values.proofs.held.put_stored.Goals as goal
 
 pub returns-then-is_empty : goal.returns-then-is_empty
 returns-then-is_empty c =
-    put_none c.args.attr c.args.held.now.items c.args.stored c.requires (eqb-true (length c.args.stored) 0 (sym c.is_empty.ensures ∙ c.if-is_empty.true))
+    put_none c.args.attr c.args.held.now.items c.args.stored c.requires
+    (eqb-true (length c.args.stored) 0 (sym c.is_empty.ensures ∙ c.if-is_empty.true))
 
 pub returns-in_ok-insert-in-Some : goal.returns-in_ok-insert-in-Some
 returns-in_ok-insert-in-Some c =

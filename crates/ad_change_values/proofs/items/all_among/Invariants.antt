@@ -7,4 +7,5 @@ use Rattle.ad_change_values.proofs.items.all_among.Given as goal
 -- each so far is one
 abbrev pub invariant-loop-one : goal.invariant-loop-one
 invariant-loop-one l =
-    list_all (is_among (map stored_seen l.stored)) (map stored_seen (drop l.one-index l.new)) ≡ list_all (is_among (map stored_seen l.stored)) (map stored_seen l.new)
+    list_all (is_among (map stored_seen l.stored)) (map stored_seen (drop l.one-index l.new))
+    ≡ list_all (is_among (map stored_seen l.stored)) (map stored_seen l.new)

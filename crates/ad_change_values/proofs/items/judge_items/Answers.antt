@@ -19,18 +19,22 @@ returns-in_err-apply_item c =
     let first = map held_seen c.args.held.items in
     let held = by_attr c.loop-item.rows.entries in
     let item = c.item-item.result in
-    rw (p.1, p.2) (stops (item_checks dir held item) (all_item_checks dir first c.args.items.now) c.in_err-apply_item.field-0.0
-    (λ r is. items_no_more dir first c.args.items.now c.loop-item.item-index item held r c.loop-item-test.true c.item-item.is c.loop-item.invariant is)
+    rw (p.1, p.2) (stops (item_checks dir held item) (all_item_checks dir first c.args.items.now)
+    c.in_err-apply_item.field-0.0
+    (λ r is. items_no_more dir first c.args.items.now c.loop-item.item-index item held r c.loop-item-test.true
+    c.item-item.is c.loop-item.invariant is)
     c.in_err-apply_item.ensures)
 
 pub loop-item-preserved : goal.loop-item-preserved
 loop-item-preserved c =
-    items_more c.args.dir.now (map held_seen c.args.held.items) c.args.items.now c.loop-item.item-index c.item-item.result
+    items_more c.args.dir.now (map held_seen c.args.held.items) c.args.items.now c.loop-item.item-index
+    c.item-item.result
     (by_attr c.loop-item.rows.entries) (by_attr c.apply_item.new.rows.entries) c.loop-item-test.true c.item-item.is
     c.in_ok-apply_item.ensures.0 c.in_ok-apply_item.ensures.1 c.loop-item.invariant
 
 pub returns : goal.returns
 returns c =
-    let done = items_done c.args.dir.now (map held_seen c.args.held.items) c.args.items.now c.loop-item.item-index (by_attr c.loop-item.rows.entries)
+    let done = items_done c.args.dir.now (map held_seen c.args.held.items) c.args.items.now c.loop-item.item-index
+    (by_attr c.loop-item.rows.entries)
     c.loop-item-test.false c.loop-item.invariant in
     (done.0, c.in_ok-after.ensures ∙ done.1)

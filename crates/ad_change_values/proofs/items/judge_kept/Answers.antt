@@ -12,25 +12,30 @@ returns-then-not-fresh c =
 
 pub returns-then-not-gives_once : goal.returns-then-not-gives_once
 returns-then-not-gives_once c =
-    kept_twice c.args.schema.now c.args.item.now (map stored_seen c.args.new.now) (map stored_seen c.args.stored.now) c.args.twice c.requires
+    kept_twice c.args.schema.now c.args.item.now (map stored_seen c.args.new.now) (map stored_seen c.args.stored.now)
+    c.args.twice c.requires
     (sym c.in_ok-fresh.ensures ∙ c.if-not-fresh.false) (sym c.gives_once.ensures ∙ c.if-not-gives_once.true)
 
 pub returns-then-not-there : goal.returns-then-not-there
 returns-then-not-there c =
-    kept_absent c.args.schema.now c.args.item.now (map stored_seen c.args.new.now) (map stored_seen c.args.stored.now) c.args.twice c.requires
+    kept_absent c.args.schema.now c.args.item.now (map stored_seen c.args.new.now) (map stored_seen c.args.stored.now)
+    c.args.twice c.requires
     (sym c.in_ok-fresh.ensures ∙ c.if-not-fresh.false) (sym c.gives_once.ensures ∙ c.if-not-gives_once.false)
     (sym c.in_ok-there.ensures ∙ c.if-not-there.true)
-    ∙ sym (ap (λ (n : ℕ). Some (code n)) (c.absent.ensures ∙ ap (λ (b : Bool). if b then 19 else 16) c.is_password.ensures))
+    ∙ sym (ap (λ (n : ℕ). Some (code n)) (c.absent.ensures ∙ ap (λ (b : Bool). if b then 19 else 16)
+    c.is_password.ensures))
 
 pub returns-then-not-is_filled : goal.returns-then-not-is_filled
 returns-then-not-is_filled c =
-    kept_empty c.args.schema.now c.args.item.now (map stored_seen c.args.new.now) (map stored_seen c.args.stored.now) c.args.twice c.requires
+    kept_empty c.args.schema.now c.args.item.now (map stored_seen c.args.new.now) (map stored_seen c.args.stored.now)
+    c.args.twice c.requires
     (sym c.in_ok-fresh.ensures ∙ c.if-not-fresh.false) (sym c.gives_once.ensures ∙ c.if-not-gives_once.false)
     (sym c.in_ok-there.ensures ∙ c.if-not-there.false) (sym c.is_filled.ensures ∙ c.if-not-is_filled.true)
 
 pub returns : goal.returns
 returns c = (
-  kept_fine c.args.schema.now c.args.item.now (map stored_seen c.args.new.now) (map stored_seen c.args.stored.now) c.args.twice c.requires
+  kept_fine c.args.schema.now c.args.item.now (map stored_seen c.args.new.now) (map stored_seen c.args.stored.now)
+      c.args.twice c.requires
       (sym c.in_ok-fresh.ensures ∙ c.if-not-fresh.false) (sym c.gives_once.ensures ∙ c.if-not-gives_once.false)
       (sym c.in_ok-there.ensures ∙ c.if-not-there.false) (sym c.is_filled.ensures ∙ c.if-not-is_filled.false),
   tt,

@@ -5,9 +5,12 @@ use Rattle.ad_change_values.proofs.items.taken_from.Goals as goal
 
 pub returns-then-is_none : goal.returns-then-is_none
 returns-then-is_none c =
-    taken_all c.args.gone.now c.args.stored c.of.result (eqb-true (length c.args.gone.now) 0 (sym c.is_none.ensures ∙ c.if-is_none.true)) (c.of.ensures ∙ c.new.ensures)
+    taken_all c.args.gone.now c.args.stored c.of.result
+    (eqb-true (length c.args.gone.now) 0 (sym c.is_none.ensures ∙ c.if-is_none.true))
+    (c.of.ensures ∙ c.new.ensures)
 
 pub returns : goal.returns
 returns c =
-    taken_some c.args.gone.now c.args.stored c.in_ok-left.left (eqb-false (length c.args.gone.now) 0 (sym c.is_none.ensures ∙ c.if-is_none.false))
+    taken_some c.args.gone.now c.args.stored c.in_ok-left.left
+    (eqb-false (length c.args.gone.now) 0 (sym c.is_none.ensures ∙ c.if-is_none.false))
     c.in_ok-left.ensures

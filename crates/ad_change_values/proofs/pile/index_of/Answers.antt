@@ -7,4 +7,5 @@ pub returns-clause-pile : goal.returns-clause-pile
 returns-clause-pile c = subst (IsIndex (since_in c.in_ok-places.places)) c.as_slice.ensures c.in_ok-places.ensures.index
 
 pub returns-clause-seen : goal.returns-clause-seen
-returns-clause-seen c = subst (λ (all : List StoredIn). alive (since_in c.in_ok-places.places) 0 all ≡ all) c.as_slice.ensures c.in_ok-places.ensures.all
+returns-clause-seen c = subst (λ (all : List StoredIn). alive (since_in c.in_ok-places.places) 0 all ≡ all)
+    c.as_slice.ensures c.in_ok-places.ensures.all

@@ -7,4 +7,5 @@ use Rattle.ad_change_values.proofs.pile.without_these.Goals as goal
 pub returns : goal.returns
 returns c =
     c.from_vec.ensures
-    ∙ (filter_same _ (not_among c.args.gone.now) _ (λ x b f' k. search rules) _ _ c.retain.ensures.filtered ∙ ap (filter (not_among c.args.gone.now)) c.in_ok-left.ensures)
+    ∙ (filter_same _ (not_among c.args.gone.now) _ (λ x b f' k. search rules) _ _ c.retain.ensures.filtered
+    ∙ ap (filter (not_among c.args.gone.now)) c.in_ok-left.ensures)

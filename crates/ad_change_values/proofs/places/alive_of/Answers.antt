@@ -8,7 +8,9 @@ loop-one-init c = (c.new-left.ensures.items ∙ alive_none (since_in c.args.plac
 
 pub loop-one-preserved : goal.loop-one-preserved
 loop-one-preserved c = (
-  alive_next (since_in c.args.places.now) c.loop-one.yielded c.in-Some.one c.loop-one.place c.in_ok-there.there c.loop-one.left.items c.push_if.new.left.items
+  alive_next (since_in c.args.places.now) c.loop-one.yielded c.in-Some.one c.loop-one.place c.in_ok-there.there
+      c.loop-one.left.items c.push_if.new.left.items
       c.loop-one.invariant.1 c.loop-one.invariant.0 c.in_ok-there.ensures c.in_ok-push_if.ensures,
-  length_more c.loop-one.yielded c.in-Some.one c.loop-one.place c.in_ok-after.after c.in_ok-after.ensures c.loop-one.invariant.1,
+  length_more c.loop-one.yielded c.in-Some.one c.loop-one.place c.in_ok-after.after c.in_ok-after.ensures
+      c.loop-one.invariant.1,
 )

@@ -9,16 +9,21 @@ loop-value-init c = none_yet (contains stored_order c.new-keys.result) c.args.re
 
 pub returns-then-not-new : goal.returns-then-not-new
 returns-then-not-new c =
-    one_found (contains stored_order c.loop-value.keys) c.in_ok-key.key c.args.read.now c.loop-value.value-index c.value-item.result c.loop-value-test.true
-    c.value-item.is c.in_ok-key.ensures (was_old (contains stored_order c.loop-value.keys c.in_ok-key.key) c.in_ok-new.new c.in_ok-new.ensures.new c.if-not-new.true)
+    one_found (contains stored_order c.loop-value.keys) c.in_ok-key.key c.args.read.now c.loop-value.value-index
+    c.value-item.result c.loop-value-test.true
+    c.value-item.is c.in_ok-key.ensures (was_old (contains stored_order c.loop-value.keys c.in_ok-key.key)
+    c.in_ok-new.new c.in_ok-new.ensures.new c.if-not-new.true)
     c.loop-value.invariant
 
 pub loop-value-preserved : goal.loop-value-preserved
 loop-value-preserved c =
-    one_more (contains stored_order c.loop-value.keys) (contains stored_order c.is_new.new.keys) c.in_ok-key.key c.args.read.now c.loop-value.value-index
+    one_more (contains stored_order c.loop-value.keys) (contains stored_order c.is_new.new.keys) c.in_ok-key.key
+    c.args.read.now c.loop-value.value-index
     c.value-item.result c.loop-value-test.true c.value-item.is c.in_ok-key.ensures
-    (was_new (contains stored_order c.loop-value.keys c.in_ok-key.key) c.in_ok-new.new c.in_ok-new.ensures.new c.if-not-new.false) c.in_ok-new.ensures.keys
+    (was_new (contains stored_order c.loop-value.keys c.in_ok-key.key) c.in_ok-new.new c.in_ok-new.ensures.new
+    c.if-not-new.false) c.in_ok-new.ensures.keys
     c.loop-value.invariant
 
 pub returns : goal.returns
-returns c = none_found (contains stored_order c.loop-value.keys) c.args.read.now c.loop-value.value-index c.loop-value-test.false c.loop-value.invariant
+returns c = none_found (contains stored_order c.loop-value.keys) c.args.read.now c.loop-value.value-index
+    c.loop-value-test.false c.loop-value.invariant

@@ -12,4 +12,5 @@ returns-then-is_empty c =
 pub returns-in-Ok : goal.returns-in-Ok
 returns-in-Ok c =
     ap by_attr c.in-Ok.ensures.entries
-    ∙ put_these c.args.rows.now.entries c.args.attr.0 c.args.stored (eqb-false (length c.args.stored) 0 (sym c.is_empty.ensures ∙ c.if-is_empty.false))
+    ∙ put_these c.args.rows.now.entries c.args.attr.0 c.args.stored
+    (eqb-false (length c.args.stored) 0 (sym c.is_empty.ensures ∙ c.if-is_empty.false))

@@ -7,6 +7,7 @@ use Rattle.ad_change_values.proofs.rows.rows_of.Given as goal
 -- those so far, and those to come
 abbrev pub invariant-loop-attr : goal.invariant-loop-attr
 invariant-loop-attr l = record {
-  both : by_attr l.rows.entries ++ map held_seen (into_iter_items l.attr-iterator) ≡ map held_seen (into_iter_items l.initial.attr-iterator);
+  both : by_attr l.rows.entries ++ map held_seen (into_iter_items l.attr-iterator)
+      ≡ map held_seen (into_iter_items l.initial.attr-iterator);
   len : into_iter_len l.attr-iterator ≡ length (into_iter_items l.attr-iterator);
 }

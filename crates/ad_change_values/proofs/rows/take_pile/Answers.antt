@@ -12,7 +12,8 @@ returns-in-Some-clause-taken c =
     ∙ row_at c.args.rows.now.entries c.args.attr.0 c.remove.result c.remove.ensures.value
 
 pub returns-in-Some-clause-left : goal.returns-in-Some-clause-left
-returns-in-Some-clause-left c = ap by_attr c.remove.ensures.entries ∙ row_left c.args.rows.now.entries c.args.attr.0 0 c.requires
+returns-in-Some-clause-left c = ap by_attr c.remove.ensures.entries ∙ row_left c.args.rows.now.entries c.args.attr.0 0
+    c.requires
 
 pub returns-in-None-clause-taken : goal.returns-in-None-clause-taken
 returns-in-None-clause-taken c =
@@ -21,4 +22,5 @@ returns-in-None-clause-taken c =
     ∙ row_at c.args.rows.now.entries c.args.attr.0 c.remove.result c.remove.ensures.value
 
 pub returns-in-None-clause-left : goal.returns-in-None-clause-left
-returns-in-None-clause-left c = ap by_attr c.remove.ensures.entries ∙ row_left c.args.rows.now.entries c.args.attr.0 0 c.requires
+returns-in-None-clause-left c = ap by_attr c.remove.ensures.entries ∙ row_left c.args.rows.now.entries c.args.attr.0 0
+    c.requires

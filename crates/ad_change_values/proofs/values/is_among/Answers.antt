@@ -5,4 +5,5 @@ use Rattle.ad_change_values.proofs.SentLaws.{any_seen}
 use Rattle.ad_change_values.proofs.values.is_among.Goals as goal
 
 pub returns : goal.returns
-returns c = c.any_same.ensures ∙ sym (any_seen (same_stored (stored_seen c.args.value.now)) stored_seen c.args.stored.now)
+returns c = c.any_same.ensures ∙ sym (any_seen (same_stored (stored_seen c.args.value.now)) stored_seen
+    c.args.stored.now)

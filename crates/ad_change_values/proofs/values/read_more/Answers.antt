@@ -4,7 +4,8 @@ use Rattle.ad_change_values.proofs.values.read_more.Goals as goal
 
 pub returns-in_ok-push-in-Ok : goal.returns-in_ok-push-in-Ok
 returns-in_ok-push-in-Ok c =
-    one_read c.args.schema.now c.args.attr.0 c.args.bytes.now c.in-Ok.value c.args.read.now c.push.new.self c.in-Ok.ensures c.in_ok-push-in-Ok.ensures.ok
+    one_read c.args.schema.now c.args.attr.0 c.args.bytes.now c.in-Ok.value c.args.read.now c.push.new.self
+    c.in-Ok.ensures c.in_ok-push-in-Ok.ensures.ok
 
 pub returns-in-Err-TooLong : goal.returns-in-Err-TooLong
 returns-in-Err-TooLong c =

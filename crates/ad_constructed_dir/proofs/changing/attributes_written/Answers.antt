@@ -10,6 +10,8 @@ unfolding changing_of
 returns c =
     if_ok c.attributes.result
     (λ names so. (rw (c.schema.ensures, c.as_slice.ensures.value) at so)
-    ∙ attributes_by c.args.dir.now c.args.token.now c.args.number c.class_of-class.result.0 c.in_ok-written.written.items c.in_ok-written.ensures
-    ∙ ap (λ k. attributes c.args.dir.now.schema k (rights_at c.args.dir.now c.args.token.now c.args.number)) c.class_of-class.ensures.class)
+    ∙ attributes_by c.args.dir.now c.args.token.now c.args.number c.class_of-class.result.0
+    c.in_ok-written.written.items c.in_ok-written.ensures
+    ∙ ap (λ k. attributes c.args.dir.now.schema k (rights_at c.args.dir.now c.args.token.now c.args.number))
+    c.class_of-class.ensures.class)
     c.attributes.ensures

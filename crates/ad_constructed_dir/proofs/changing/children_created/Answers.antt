@@ -11,5 +11,6 @@ returns c =
     if_ok c.children.result
     (λ names so. (rw c.schema.ensures at so)
     ∙ children_by c.args.dir.now c.args.token.now c.args.number c.requires c.class_of.result.0 []
-    ∙ ap (λ k. children c.args.dir.now.schema k (rights_at c.args.dir.now c.args.token.now c.args.number)) c.class_of.ensures.class)
+    ∙ ap (λ k. children c.args.dir.now.schema k (rights_at c.args.dir.now c.args.token.now c.args.number))
+    c.class_of.ensures.class)
     c.children.ensures

@@ -8,4 +8,5 @@ use Rattle.ad_dir.proofs.holding.put_all.Given as goal
 abbrev pub invariant-loop-object : goal.invariant-loop-object
 invariant-loop-object l =
     (goal.iterator-loop-object).can_next l.object-iterator × (goal.iterator-loop-object).is_finite l.object-iterator
-    × (objects_in l.all.entries ++ objects_of l.object-iterator.rest.items ≡ objects_of l.fn.objects.items) × HaveTheirSids l.schema l.all.entries × IsIndexed l.schema l.index (objects_in l.all.entries)
+    × (objects_in l.all.entries ++ objects_of l.object-iterator.rest.items ≡ objects_of l.fn.objects.items)
+    × HaveTheirSids l.schema l.all.entries × IsIndexed l.schema l.index (objects_in l.all.entries)

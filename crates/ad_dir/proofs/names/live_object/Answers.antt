@@ -4,4 +4,5 @@ use Rattle.ad_dir.proofs.NameLaws.{object_is}
 use Rattle.ad_dir.proofs.names.live_object.Goals as goal
 
 pub returns : goal.returns
-returns c = object_is c.args.dir.now.objects c.args.number (object_seen c.in-Some.object.now (sd_at c.args.dir.now.objects c.args.number)) c.in-Some.ensures
+returns c = object_is c.args.dir.now.objects c.args.number
+    (object_seen c.in-Some.object.now (sd_at c.args.dir.now.objects c.args.number)) c.in-Some.ensures

@@ -10,5 +10,6 @@ unfolding admin_sd_holder
 returns c =
     let dir = c.args.dir.now in
     c.child_of.ensures
-    ∙ ap (option_and_then (λ (n : ℕ). child_of_rdn dir n (common_name (codes "AdminSDHolder")))) c.child_of-system.ensures
+    ∙ ap (option_and_then (λ (n : ℕ). child_of_rdn dir n (common_name (codes "AdminSDHolder"))))
+    c.child_of-system.ensures
     ∙ sym (below_two dir (common_name (codes "System")) (common_name (codes "AdminSDHolder")))

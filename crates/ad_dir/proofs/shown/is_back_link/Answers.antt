@@ -13,4 +13,5 @@ unfolding attr_is_back_link
 returns-else-attr-attrs c =
     let le : length c.attrs.result.now ≤ c.args.attr.0 = omega (arith, c.if-attr-attrs.false) in
     let test : nat_lt c.args.attr.0 (length c.attrs.result.now) ≡ false = grind (arith, nat_tests) in
-    test ∙ sym (ap (λ (found : Option AttrInfo). option_map_or is_back_link found false) (slice_get_past (attrs_of c.args.schema.now) c.args.attr.0 (rw (← c.attrs.ensures) le)))
+    test ∙ sym (ap (λ (found : Option AttrInfo). option_map_or is_back_link found false)
+    (slice_get_past (attrs_of c.args.schema.now) c.args.attr.0 (rw (← c.attrs.ensures) le)))

@@ -10,5 +10,8 @@ pub returns-in-Some : goal.returns-in-Some
 returns-in-Some c = λ named.
     let schema = c.args.schema.now in
     let info : AttrInfo = c.in-Some.info.now in
-    let at : slice_get (attrs_of schema) c.args.attr.0 ≡ Some info = ap (λ (infos : List AttrInfo). slice_get infos c.args.attr.0) (sym c.attrs.ensures) ∙ sym c.in-Some.ensures in
-    c.same_name.ensures ∙ ap (λ (n : List ℕ). same_name n c.args.name.now) c.as_slice.ensures ∙ same_named schema c.args.name.now c.args.attr.0 info at named
+    let at : slice_get (attrs_of schema) c.args.attr.0 ≡ Some info
+    = ap (λ (infos : List AttrInfo). slice_get infos c.args.attr.0) (sym c.attrs.ensures) ∙ sym c.in-Some.ensures
+    in
+    c.same_name.ensures ∙ ap (λ (n : List ℕ). same_name n c.args.name.now) c.as_slice.ensures
+    ∙ same_named schema c.args.name.now c.args.attr.0 info at named

@@ -7,5 +7,7 @@ pub returns : goal.returns
 returns c =
     if_ok c.one.result
     (λ values is. is
-    ∙ ap (λ (text : List ℕ). computed c.args.syntax text ∷ []) (c.as_slice.ensures.value ∙ c.in_ok-text.ensures.written ∙ name_is c.args.dir.now c.args.number c.in_ok-dn_of.field-0.rdns c.in_ok-dn_of.ensures))
+    ∙ ap (λ (text : List ℕ). computed c.args.syntax text ∷ [])
+    (c.as_slice.ensures.value ∙ c.in_ok-text.ensures.written ∙ name_is c.args.dir.now c.args.number
+    c.in_ok-dn_of.field-0.rdns c.in_ok-dn_of.ensures))
     c.one.ensures

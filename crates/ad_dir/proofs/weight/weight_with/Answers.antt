@@ -14,6 +14,8 @@ returns c = λ sd rise all.
     let os : List Object = objects_in c.args.objects.now.entries in
     let o : Object = object_seen c.args.object.now sd in
     c.with_less.ensures (objects_weight schema (put o os)) (weight_in schema os o.number)
-    (weighs_as c.with_more-more.result (objects_weight schema os + object_weight schema o) (objects_weight schema (put o os) + weight_in schema os o.number)
-    (sym (put_weighs schema 0 o os rise)) (c.with_more-more.ensures (objects_weight schema os) (object_weight schema o) all (c.weight_of.ensures sd)))
+    (weighs_as c.with_more-more.result (objects_weight schema os + object_weight schema o)
+    (objects_weight schema (put o os) + weight_in schema os o.number)
+    (sym (put_weighs schema 0 o os rise))
+    (c.with_more-more.ensures (objects_weight schema os) (object_weight schema o) all (c.weight_of.ensures sd)))
     c.weight_at.ensures

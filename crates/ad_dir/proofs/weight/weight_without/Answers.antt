@@ -13,5 +13,6 @@ returns c = λ rise all.
     let os : List Object = objects_in c.args.objects.now.entries in
     let n = c.args.number in
     c.with_less.ensures (objects_weight schema (removed n os)) (weight_in schema os n)
-    (weighs_as c.args.all (objects_weight schema os) (objects_weight schema (removed n os) + weight_in schema os n) (sym (removed_weighs schema 0 n os rise)) all)
+    (weighs_as c.args.all (objects_weight schema os) (objects_weight schema (removed n os) + weight_in schema os n)
+    (sym (removed_weighs schema 0 n os rise)) all)
     c.weight_at.ensures

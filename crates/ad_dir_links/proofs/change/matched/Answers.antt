@@ -14,15 +14,19 @@ each-preserved c =
       | then-is_next w ↦
           let found = next_at c.args.new.now c.each.place target (sym w.if-is_next.ensures) in (
             let inside = found.0 in omega (arith, w.place-is, inside),
-            split_next c.args.old.now c.args.new.now c.each.target-index c.each.place c.if-is_next.place target c.each.less.items c.if-is_next.less.items
+            split_next c.args.old.now c.args.new.now c.each.target-index c.each.place c.if-is_next.place target
+                c.each.less.items c.if-is_next.less.items
                 c.each-test.true refl found.0 found.1 w.place-is (ap (λ v. v.items) w.less-is) c.each.invariant.1,
           )
       | else-is_next+in_ok-push w ↦ (
         let before = c.each.invariant.0 in omega (arith, w.place-is, before),
-        split_less c.args.old.now c.args.new.now c.each.target-index c.each.place c.if-is_next.place target c.each.less.items c.if-is_next.less.items
-            c.each-test.true refl w.place-is (ap (λ v. v.items) w.less-is ∙ w.in_ok-push.ensures.items) c.each.invariant.1,
+        split_less c.args.old.now c.args.new.now c.each.target-index c.each.place c.if-is_next.place target
+            c.each.less.items c.if-is_next.less.items
+            c.each-test.true refl w.place-is (ap (λ v. v.items) w.less-is ∙ w.in_ok-push.ensures.items)
+            c.each.invariant.1,
       )
     ]
 
 pub returns-clause-balanced : goal.returns-clause-balanced
-returns-clause-balanced c = split_whole c.args.old.now c.args.new.now c.each.place c.each.less.items c.each.target-index c.each-test.false c.each.invariant.1
+returns-clause-balanced c = split_whole c.args.old.now c.args.new.now c.each.place c.each.less.items
+    c.each.target-index c.each-test.false c.each.invariant.1

@@ -5,4 +5,5 @@ use Rattle.ad_dir_links.proofs.gather.push_all.Given as goal
 
 -- those so far and those of the attributes that are left are all
 abbrev pub invariant-each : goal.invariant-each
-invariant-each l = l.all.items ++ ties_in l.indexed (map held_seen (drop l.held-index l.values)) ≡ l.initial.all.items ++ ties_in l.indexed (map held_seen l.values)
+invariant-each l = l.all.items ++ ties_in l.indexed (map held_seen (drop l.held-index l.values)) ≡ l.initial.all.items
+    ++ ties_in l.indexed (map held_seen l.values)

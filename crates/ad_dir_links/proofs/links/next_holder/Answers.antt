@@ -9,14 +9,17 @@ overflow_sub-key c = omega (arith, c.pair_key-first.ensures, c.pair_key.ensures,
 
 pub returns-in-Some-clause-above : goal.returns-in-Some-clause-above
 returns-in-Some-clause-above c =
-    above_pair c.try_from.result c.ok.result c.args.target c.args.above c.pair_key-first.result c.pair_key.result c.in-Some.key c.pair_key-first.ensures c.pair_key.ensures
+    above_pair c.try_from.result c.ok.result c.args.target c.args.above c.pair_key-first.result c.pair_key.result
+    c.in-Some.key c.pair_key-first.ensures c.pair_key.ensures
     c.in-Some.ensures.above c.try_from.ensures c.ok.ensures.value
 
 pub returns-in-Some-clause-least : goal.returns-in-Some-clause-least
 unfolding pair_key
 returns-in-Some-clause-least c = λ holder small more some.
-    let least : c.in-Some.key ≤ pair_key c.args.target holder = c.in-Some.ensures.least (pair_key c.args.target holder) (omega (arith, c.pair_key.ensures, more)) some in
-    within_pair c.try_from.result c.ok.result c.args.target holder c.pair_key-first.result c.pair_key.result c.in-Some.key c.pair_key-first.ensures
+    let least : c.in-Some.key ≤ pair_key c.args.target holder = c.in-Some.ensures.least
+    (pair_key c.args.target holder) (omega (arith, c.pair_key.ensures, more)) some in
+    within_pair c.try_from.result c.ok.result c.args.target holder c.pair_key-first.result c.pair_key.result
+    c.in-Some.key c.pair_key-first.ensures
     least small c.try_from.ensures c.ok.ensures.value
 
 pub returns-in-None-clause-least : goal.returns-in-None-clause-least

@@ -5,4 +5,5 @@ use Rattle.ad_dir_objects.proofs.sid.stored_of.Given as goal
 
 -- none so far is of the attribute
 abbrev pub invariant-loop-held : goal.invariant-loop-held
-invariant-loop-held l = stored_in (map held_seen (drop l.held-index l.values)) l.attr.0 ≡ stored_in (map held_seen l.values) l.attr.0
+invariant-loop-held l = stored_in (map held_seen (drop l.held-index l.values)) l.attr.0
+    ≡ stored_in (map held_seen l.values) l.attr.0

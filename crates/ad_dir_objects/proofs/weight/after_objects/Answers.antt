@@ -8,7 +8,8 @@ use Rattle.ad_dir_objects.proofs.weight.after_objects.Goals as goal
 pub returns-in-None : goal.returns-in-None
 returns-in-None c =
     sym (ap (left_of c.loop-entry.left)
-    (objects_next c.args.schema.now c.args.objects.now c.loop-entry.entry-index c.entry-item.result c.loop-entry-test.true
+    (objects_next c.args.schema.now c.args.objects.now c.loop-entry.entry-index c.entry-item.result
+    c.loop-entry-test.true
     (sym c.entry-item.is)) ∙ too_heavy c.loop-entry.left (object_weight c.args.schema.now
     (object_seen c.entry-item.result.0 c.entry-item.result.1)) (objects_weight c.args.schema.now
     (objects_of (drop (c.loop-entry.entry-index + 1) c.args.objects.now))) (sym
@@ -18,7 +19,8 @@ returns-in-None c =
 pub loop-entry-preserved : goal.loop-entry-preserved
 loop-entry-preserved c =
     sym (ap (left_of c.loop-entry.left)
-    (objects_next c.args.schema.now c.args.objects.now c.loop-entry.entry-index c.entry-item.result c.loop-entry-test.true
+    (objects_next c.args.schema.now c.args.objects.now c.loop-entry.entry-index c.entry-item.result
+    c.loop-entry-test.true
     (sym c.entry-item.is)) ∙ spent c.loop-entry.left (object_weight c.args.schema.now
     (object_seen c.entry-item.result.0 c.entry-item.result.1)) (objects_weight c.args.schema.now
     (objects_of (drop (c.loop-entry.entry-index + 1) c.args.objects.now))) c.in-Some.less (sym

@@ -13,11 +13,18 @@ use Rattle.ad_dir_table.proofs.by_name.name_change.Goals as goal
 pub returns-in-Some : goal.returns-in-Some
 returns-in-Some c =
     if_ok c.renamed.result
-    (λ change all sd. subst (λ (was : Option ChildName). IsChange was (name_of (object_seen c.args.object.now sd)) (option_map key_name change.to) (option_map key_name change.from))
-    (ap (option_and_then name_of) c.in-Some.ensures) (all (sd_at (objects_in c.args.objects.now.entries) c.args.object.now.number) sd))
+    (λ change all sd. subst (λ (was : Option ChildName). IsChange was (name_of (object_seen c.args.object.now sd))
+    (option_map key_name change.to) (option_map key_name change.from))
+    (ap (option_and_then name_of) c.in-Some.ensures)
+    (all (sd_at (objects_in c.args.objects.now.entries) c.args.object.now.number) sd))
     c.renamed.ensures
 
 pub returns-in_ok-key_of-in-None : goal.returns-in_ok-key_of-in-None
 returns-in_ok-key_of-in-None c = λ sd.
     let none = ap (option_and_then name_of) c.in-None.ensures in
-    inr (record { put = c.in_ok-key_of-in-None.ensures sd; taken = none; apart = λ v now was. none-some v (none ∙ was) })
+    inr (record {
+      put = c.in_ok-key_of-in-None.ensures sd;
+      taken = none;
+      apart = λ v now was.
+          none-some v (none ∙ was);
+    })

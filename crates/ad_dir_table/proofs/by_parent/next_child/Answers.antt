@@ -6,4 +6,5 @@ use Rattle.ad_dir_table.proofs.by_parent.next_child.Goals as goal
 pub returns : goal.returns
 returns c =
     c.number_at.ensures ∙ ap (slice_get c.children_of-numbers.result.now) c.up_to.ensures.place
-    ∙ first_above c.args.above c.children_of-numbers.result.now ∙ ap (find (nat_lt c.args.above)) c.children_of-numbers.ensures
+    ∙ first_above c.args.above c.children_of-numbers.result.now ∙ ap (find (nat_lt c.args.above))
+    c.children_of-numbers.ensures

@@ -6,6 +6,8 @@ use Rattle.ad_dir_table.proofs.by_parent.up_to.Goals as goal
 
 pub returns-clause-place : goal.returns-clause-place
 returns-clause-place c =
-    let parted = IsPartitionedBy-leb (λ (y : ℕ). y) c.args.numbers.now c.args.number (rises_by 0 c.args.numbers.now c.requires) in
-    let split = IsPartitionPoint-from_clause (λ (y : ℕ). nat_le y c.args.number) _ _ c.partition_point.ensures.partitioned parted (λ a r q k. search rules) in
+    let parted = IsPartitionedBy-leb (λ (y : ℕ). y) c.args.numbers.now c.args.number
+    (rises_by 0 c.args.numbers.now c.requires) in
+    let split = IsPartitionPoint-from_clause (λ (y : ℕ). nat_le y c.args.number) _ _
+    c.partition_point.ensures.partitioned parted (λ a r q k. search rules) in
     place_is c.args.number c.args.numbers.now c.partition_point.result c.partition_point.ensures.bound split.0 split.1

@@ -6,7 +6,8 @@ use Rattle.ad_dir_table.proofs.folding.is_folding.Given as goal
 
 -- of the others it is what it is of all
 abbrev pub invariant-walk : goal.invariant-walk
-invariant-walk l = (bytes_eq (folded l.rest.rest.now) l.left ≡ bytes_eq (folded l.text) l.bytes) × IsUtf8 l.rest.rest.now
+invariant-walk l = (bytes_eq (folded l.rest.rest.now) l.left ≡ bytes_eq (folded l.text) l.bytes)
+    × IsUtf8 l.rest.rest.now
 
 abbrev pub decreases-walk : goal.decreases-walk
 decreases-walk l = length (chars l.rest.rest.now)

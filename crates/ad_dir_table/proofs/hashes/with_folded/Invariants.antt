@@ -5,4 +5,5 @@ use Rattle.ad_dir_table.proofs.hashes.with_folded.Given as goal
 
 -- behind the others it is the state behind all
 abbrev pub invariant-loop-character : goal.invariant-loop-character
-invariant-loop-character l = with_all l.state (encode_utf8_all (drop l.character-index l.folded)) ≡ with_all l.fn.hasher (encode_utf8_all l.folded)
+invariant-loop-character l = with_all l.state (encode_utf8_all (drop l.character-index l.folded))
+    ≡ with_all l.fn.hasher (encode_utf8_all l.folded)

@@ -9,7 +9,8 @@ use Rattle.ad_dir_table.proofs.index.edit.Goals as goal
 
 pub drop_child-requires : goal.drop_child-requires
 drop_child-requires c =
-    lists_rise_more c.args.changes.parents.to c.args.number c.args.index.now.children.entries c.add_child.new.children.entries c.requires.rise c.requires.above c.requires.new c.add_child.ensures
+    lists_rise_more c.args.changes.parents.to c.args.number c.args.index.now.children.entries
+    c.add_child.new.children.entries c.requires.rise c.requires.above c.requires.new c.add_child.ensures
 
 pub returns : goal.returns
 returns c = record {
@@ -17,7 +18,13 @@ returns c = record {
   sids = record {
     mid = sid_at c.put_sid.new.sids.entries;
     puts = c.put_sid.ensures;
-    takes = subst (λ (from : Option SidValue). Takes from (sid_at c.put_sid.new.sids.entries) (sid_at c.take_sid.new.sids.entries)) c.as_ref.ensures.value c.take_sid.ensures;
+    takes = subst (λ (from : Option SidValue). Takes from (sid_at c.put_sid.new.sids.entries)
+        (sid_at c.take_sid.new.sids.entries)) c.as_ref.ensures.value c.take_sid.ensures;
   };
-  children = record { mid = listed c.add_child.new.children.entries; adds = c.add_child.ensures; drops = c.drop_child.ensures };
+  children = record {
+    mid = listed c.add_child.new.children.entries;
+    adds = c.add_child.ensures;
+    drops
+        = c.drop_child.ensures;
+  };
 }

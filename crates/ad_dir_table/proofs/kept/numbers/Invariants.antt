@@ -4,4 +4,5 @@ use Rattle.ad_dir_table.proofs.kept.numbers.Given as goal
 
 -- those so far, and those of the others
 abbrev pub invariant-loop-kept : goal.invariant-loop-kept
-invariant-loop-kept l = l.all.items ++ map (λ kept. kept.object.number) l.kept-iterator ≡ map (λ kept. kept.object.number) (values_of l.objects.entries)
+invariant-loop-kept l = l.all.items ++ map (λ kept. kept.object.number) l.kept-iterator
+    ≡ map (λ kept. kept.object.number) (values_of l.objects.entries)

@@ -18,10 +18,14 @@ returns-in-Some-clause-live c =
     let entries = c.args.parts.now.kept.entries in
     let kept = c.in-Some.kept.now in
     shared_live c.args.parts.now.pool.live kept.id.0
-    (subst (λ (n : ℕ). 0 < n) (sym (c.requires.shared kept.id.0)) (found_with (λ (k : Kept). 0 < count_of k.id.0 entries) (is_at (nat_cmp c.args.number)) entries kept (all_counted entries) (sym c.in-Some.ensures.at)))
+    (subst (λ (n : ℕ). 0 < n) (sym (c.requires.shared kept.id.0))
+    (found_with (λ (k : Kept). 0 < count_of k.id.0 entries) (is_at (nat_cmp c.args.number)) entries kept
+    (all_counted entries) (sym c.in-Some.ensures.at)))
 
 pub returns-in-Some-clause-bytes : goal.returns-in-Some-clause-bytes
 returns-in-Some-clause-bytes c =
     let live = c.args.parts.now.pool.live in
     let kept = c.in-Some.kept.now in
-    subst (λ (sd : Sd). SpellsNormal sd (bytes_at live kept.id.0)) (sym (sd_told (object_kept live kept) (objects_in (entries_of c.args.parts.now)) c.args.number (c.in-Some.ensures.found live))) (c.in-Some.ensures.normal live c.requires.normal)
+    subst (λ (sd : Sd). SpellsNormal sd (bytes_at live kept.id.0))
+    (sym (sd_told (object_kept live kept) (objects_in (entries_of c.args.parts.now)) c.args.number
+    (c.in-Some.ensures.found live))) (c.in-Some.ensures.normal live c.requires.normal)

@@ -5,4 +5,5 @@ use Rattle.ad_dir_table.proofs.parts.object.Goals as goal
 
 pub returns-in-Some : goal.returns-in-Some
 returns-in-Some c =
-    object_told c.in-Some.kept.now.object (sd_of c.args.parts.now.pool.live c.in-Some.kept.now.id.0) (objects_in (entries_of c.args.parts.now)) c.args.number (c.in-Some.ensures.found c.args.parts.now.pool.live)
+    object_told c.in-Some.kept.now.object (sd_of c.args.parts.now.pool.live c.in-Some.kept.now.id.0)
+    (objects_in (entries_of c.args.parts.now)) c.args.number (c.in-Some.ensures.found c.args.parts.now.pool.live)

@@ -13,23 +13,29 @@ give_back_if-requires c =
     let parts = c.args.parts.now in
     let test = is_at (nat_cmp c.args.number) in
     let left : List (ℕ × Kept) = remove_entry test parts.kept.entries in
-    but_live parts.pool.live left c.take-was.result (subst (λ (was : Option SdId). SharesBut parts.pool.live left was) (sym c.take-was.ensures.was) (removed_shares parts.pool.live parts.kept.entries test c.requires.kept.shared))
+    but_live parts.pool.live left c.take-was.result
+    (subst (λ (was : Option SdId). SharesBut parts.pool.live left was) (sym c.take-was.ensures.was)
+    (removed_shares parts.pool.live parts.kept.entries test c.requires.kept.shared))
 
 pub returns-clause-kept : goal.returns-clause-kept
 returns-clause-kept c =
     let parts = c.args.parts.now in
-    let done = remove_done parts.pool c.give_back_if.new.pool parts.kept.entries c.take-was.new.objects.entries c.args.number c.take-was.result c.requires.kept.keyed c.requires.kept.ordered c.requires.kept.normal c.requires.kept.shared
+    let done = remove_done parts.pool c.give_back_if.new.pool parts.kept.entries c.take-was.new.objects.entries
+    c.args.number c.take-was.result c.requires.kept.keyed c.requires.kept.ordered c.requires.kept.normal
+    c.requires.kept.shared
     c.take-was.ensures.entries c.take-was.ensures.was c.give_back_if.ensures.taken c.give_back_if.ensures.none in
     record { keyed = done.keyed; ordered = c.take-was.ensures.ordered; normal = done.normal; shared = done.shares }
 
 pub returns-clause-removed : goal.returns-clause-removed
 returns-clause-removed c =
     let parts = c.args.parts.now in
-    (remove_done parts.pool c.give_back_if.new.pool parts.kept.entries c.take-was.new.objects.entries c.args.number c.take-was.result c.requires.kept.keyed c.requires.kept.ordered c.requires.kept.normal c.requires.kept.shared
+    (remove_done parts.pool c.give_back_if.new.pool parts.kept.entries c.take-was.new.objects.entries c.args.number
+    c.take-was.result c.requires.kept.keyed c.requires.kept.ordered c.requires.kept.normal c.requires.kept.shared
     c.take-was.ensures.entries c.take-was.ensures.was c.give_back_if.ensures.taken c.give_back_if.ensures.none).seen
 
 pub returns-clause-sids : goal.returns-clause-sids
 returns-clause-sids c =
     let parts = c.args.parts.now in
-    (remove_done parts.pool c.give_back_if.new.pool parts.kept.entries c.take-was.new.objects.entries c.args.number c.take-was.result c.requires.kept.keyed c.requires.kept.ordered c.requires.kept.normal c.requires.kept.shared
+    (remove_done parts.pool c.give_back_if.new.pool parts.kept.entries c.take-was.new.objects.entries c.args.number
+    c.take-was.result c.requires.kept.keyed c.requires.kept.ordered c.requires.kept.normal c.requires.kept.shared
     c.take-was.ensures.entries c.take-was.ensures.was c.give_back_if.ensures.taken c.give_back_if.ensures.none).sids

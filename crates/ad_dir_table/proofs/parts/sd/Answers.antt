@@ -10,4 +10,6 @@ pub returns-in-Some : goal.returns-in-Some
 returns-in-Some c =
     let objects = objects_in (entries_of c.args.parts.now) in
     let sd = sd_at objects c.args.number in
-    sd_live objects c.args.number _ c.in-Some.ensures.some (c.of_normal.ensures.only sd (subst (λ (bytes : List ℕ). SpellsNormal sd bytes) (sym c.bytes_at.ensures) c.in-Some.ensures.bytes))
+    sd_live objects c.args.number _ c.in-Some.ensures.some
+    (c.of_normal.ensures.only sd (subst (λ (bytes : List ℕ). SpellsNormal sd bytes) (sym c.bytes_at.ensures)
+    c.in-Some.ensures.bytes))

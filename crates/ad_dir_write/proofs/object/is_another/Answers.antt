@@ -7,5 +7,6 @@ use Rattle.ad_dir_write.proofs.object.is_another.Goals as goal
 
 pub returns : goal.returns
 returns c = λ sd s.
-    c.ne.ensures ∙ ap not (same_bytes (sd_at c.args.dir.now.objects c.args.number) sd c.as_bytes.result.now c.args.bytes.now
+    c.ne.ensures ∙ ap not (same_bytes (sd_at c.args.dir.now.objects c.args.number) sd c.as_bytes.result.now
+    c.args.bytes.now
     (subst (λ (own : Sd). SpellsNormal own c.as_bytes.result.now) c.live_sd.ensures c.as_bytes.ensures) s)

@@ -6,4 +6,5 @@ use Rattle.ad_dir_model.proofs.Finding.{of-live}
 use Rattle.ad_dir_write.proofs.object.live_sd.Goals as goal
 
 pub returns : goal.returns
-returns c = same_Some _ _ (c.in-Some.ensures ∙ ap (option_map (λ (o : Object). o.sd)) (of-live c.args.dir.now.objects c.args.number c.requires))
+returns c = same_Some _ _ (c.in-Some.ensures ∙ ap (option_map (λ (o : Object). o.sd))
+    (of-live c.args.dir.now.objects c.args.number c.requires))

@@ -10,7 +10,8 @@ loop-i-preserved c =
     let queue = c.args.queue.now in
     let i = c.loop-i.i in
     let lt : i < length queue = omega (arith, c.loop-i-test.true, c.len-len.ensures.len) in
-    let entry : get_or queue i c.in-Some.entry ≡ c.in-Some.entry = get_or_from_slice_get queue i c.in-Some.entry c.in-Some.entry (sym c.in-Some.ensures) in
+    let entry : get_or queue i c.in-Some.entry ≡ c.in-Some.entry = get_or_from_slice_get queue i c.in-Some.entry
+    c.in-Some.entry (sym c.in-Some.ensures) in
     c.in_ok-push-in-Some.ensures.items
     ∙ ap (λ (ps : List Pending). ps ++ c.in-Some.entry ∷ []) c.loop-i.invariant
     ∙ ap (λ (p : Pending). take i queue ++ p ∷ []) (sym entry)

@@ -8,4 +8,5 @@ returns c =
     let longer = c.extend_from_slice.new.self.items in
     let at : c.len-start.result ≡ length old = search rules in
     c.in_ok-push.ensures.items
-    ∙ bare_written old longer c.lower_from.new.key.items c.args.value.now c.len-start.result c.requires at c.in_ok-extend_from_slice.ensures.items c.lower_from.ensures
+    ∙ bare_written old longer c.lower_from.new.key.items c.args.value.now c.len-start.result c.requires at
+    c.in_ok-extend_from_slice.ensures.items c.lower_from.ensures

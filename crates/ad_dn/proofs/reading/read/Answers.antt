@@ -17,26 +17,32 @@ pub returns-in-Err : goal.returns-in-Err
 returns-in-Err c = record {
   found = tt;
   only = λ dn spelled e. absurd (stop_only c.in-Err.fault c.args.text.now dn c.in-Err.ensures.err spelled e);
-  value = λ e. dn_none c.args.text.now (λ dn spelled. stop_only c.in-Err.fault c.args.text.now dn c.in-Err.ensures.err spelled e);
+  value = λ e. dn_none c.args.text.now (λ dn spelled. stop_only c.in-Err.fault c.args.text.now dn c.in-Err.ensures.err
+      spelled e);
   fault = stop_is_fault c.in-Err.fault c.args.text.now c.in-Err.ensures.err;
 }
 
 pub from_vec-requires : goal.from_vec-requires
 from_vec-requires c =
-    let read : finished c.in-Ok.state ≡ Some c.in-Some.rdns.items = sym c.in_ok-rdns.ensures ∙ ap (option_map (λ v. v.items)) c.in-Some.is in
-    spelled_are c.in-Some.rdns.items c.args.text.now (finished_spells c.in-Ok.state c.args.text.now c.in-Some.rdns.items c.in-Ok.ensures.ok read)
+    let read : finished c.in-Ok.state ≡ Some c.in-Some.rdns.items = sym c.in_ok-rdns.ensures
+    ∙ ap (option_map (λ v. v.items)) c.in-Some.is in
+    spelled_are c.in-Some.rdns.items c.args.text.now
+    (finished_spells c.in-Ok.state c.args.text.now c.in-Some.rdns.items c.in-Ok.ensures.ok read)
 
 pub returns-in-Some : goal.returns-in-Some
 returns-in-Some c =
     let text = c.args.text.now in
     let items = c.in-Some.rdns.items in
-    let read : finished c.in-Ok.state ≡ Some items = sym c.in_ok-rdns.ensures ∙ ap (option_map (λ v. v.items)) c.in-Some.is in
+    let read : finished c.in-Ok.state ≡ Some items = sym c.in_ok-rdns.ensures ∙ ap (option_map (λ v. v.items))
+    c.in-Some.is in
     let kept : name items ≡ name c.from_vec.result = ap name (sym c.from_vec.ensures) in
-    let found : SpellsDn (name c.from_vec.result) text = subst (λ (d : Dn). SpellsDn d text) kept (finished_spells c.in-Ok.state text items c.in-Ok.ensures.ok read) in
+    let found : SpellsDn (name c.from_vec.result) text = subst (λ (d : Dn). SpellsDn d text) kept
+    (finished_spells c.in-Ok.state text items c.in-Ok.ensures.ok read) in
     record {
       found = found;
       only = λ dn spelled.
-          let whole : finished_name c.in-Ok.state ≡ Some dn = finished_once SpellsDn step start finished_name reads_names c.in-Ok.state text dn c.in-Ok.ensures.ok spelled in
+          let whole : finished_name c.in-Ok.state ≡ Some dn = finished_once SpellsDn step start finished_name
+          reads_names c.in-Ok.state text dn c.in-Ok.ensures.ok spelled in
           let same : dn ≡ name items = same_Some dn (name items) (sym whole ∙ ap (option_map name) read) in
           let given : Dn → Result Dn DnFault = λ d. Ok d in
           ap given (same ∙ kept);
@@ -48,8 +54,10 @@ pub returns-in-None : goal.returns-in-None
 returns-in-None c =
     let text = c.args.text.now in
     let none : (dn : Dn) → SpellsDn dn text → ⊥ = λ dn spelled. (
-    let whole : finished_name c.in-Ok.state ≡ Some dn = finished_once SpellsDn step start finished_name reads_names c.in-Ok.state text dn c.in-Ok.ensures.ok spelled in
-    let nothing : finished c.in-Ok.state ≡ None = sym c.in_ok-rdns.ensures ∙ ap (option_map (λ v. v.items)) c.in-None.is in
+    let whole : finished_name c.in-Ok.state ≡ Some dn = finished_once SpellsDn step start finished_name reads_names
+    c.in-Ok.state text dn c.in-Ok.ensures.ok spelled in
+    let nothing : finished c.in-Ok.state ≡ None = sym c.in_ok-rdns.ensures ∙ ap (option_map (λ v. v.items))
+    c.in-None.is in
     none-some dn (sym (ap (option_map name) nothing) ∙ whole)
     ) in
     record {

@@ -6,4 +6,5 @@ use Rattle.ad_dn.proofs.text.push_bytes.Given as goal
 
 -- the bytes so far were written
 abbrev pub invariant-loop-byte : goal.invariant-loop-byte
-invariant-loop-byte l = l.text.items ≡ l.initial.text.items ++ flat_map (λ b. piece_text (piece_of b)) (take l.byte-index l.bytes)
+invariant-loop-byte l = l.text.items ≡ l.initial.text.items ++ flat_map (λ b. piece_text (piece_of b))
+    (take l.byte-index l.bytes)

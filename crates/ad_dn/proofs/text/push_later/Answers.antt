@@ -14,5 +14,6 @@ returns-in_ok-push_bytes-in-Some c =
     on_ok_weaker c.push_last.result
     (λ e. e ∙ ap (λ (x : List ℕ). x ++ piece_text (last_piece last)) c.in_ok-push_bytes-in-Some.ensures
     ∙ append_assoc old (flat_map (λ b. piece_text (piece_of b)) between) (piece_text (last_piece last))
-    ∙ ap (λ (x : List ℕ). old ++ x) (later_split between last ∙ ap (λ (x : List ℕ). flat_map piece_text (later_pieces x)) (sym c.in-Some.ensures.cases.0)))
+    ∙ ap (λ (x : List ℕ). old ++ x) (later_split between last
+    ∙ ap (λ (x : List ℕ). flat_map piece_text (later_pieces x)) (sym c.in-Some.ensures.cases.0)))
     c.push_last.ensures

@@ -9,5 +9,7 @@ returns c =
     onward c.put_list-2.result c.put_list.new.out.items c.put_list-2.new.out.items
     (list_lines c.args.schema.now (codes "sacl") c.args.sd.now.sacl) c.args.out.now.items
     (lines_of c.args.schema.now c.args.name.now c.args.sd.now)
-    (λ last. then c.in_ok-put_labelled.ensures (then c.in_ok-put_sid_line.ensures (then c.in_ok-put_sid_line-2.ensures (then c.in_ok-put_list.ensures last))))
+    (λ last. then c.in_ok-put_labelled.ensures
+    (then c.in_ok-put_sid_line.ensures
+    (then c.in_ok-put_sid_line-2.ensures (then c.in_ok-put_list.ensures last))))
     c.put_list-2.ensures

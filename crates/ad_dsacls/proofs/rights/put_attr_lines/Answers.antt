@@ -13,25 +13,34 @@ use Rattle.ad_dsacls.proofs.EffectiveLaws.{masked_is, lines_more}
 use Rattle.ad_dsacls.proofs.rights.put_attr_lines.Goals as goal
 
 pub attr_masks-requires-clause-attrs : goal.attr_masks-requires-clause-attrs
-attr_masks-requires-clause-attrs c = allowed_all c.args.dir.now.schema c.args.class.0 c.args.attrs.now c.requires.allowed
+attr_masks-requires-clause-attrs c = allowed_all c.args.dir.now.schema c.args.class.0 c.args.attrs.now
+    c.requires.allowed
 
 pub put_attr_line-requires : goal.put_attr_line-requires
 put_attr_line-requires c =
     let none : AttrId = record { 0 = 0 } in
     let within : c.each.i < length c.args.attrs.now = omega arith in
-    rw c.schema.ensures (allowed_all c.args.dir.now.schema c.args.class.0 c.args.attrs.now c.requires.allowed c.each.i none within)
+    rw c.schema.ensures (allowed_all c.args.dir.now.schema c.args.class.0 c.args.attrs.now c.requires.allowed c.each.i
+    none within)
 
 pub each-preserved : goal.each-preserved
 each-preserved c =
     let none : AttrId = record { 0 = 0 } in
     let within : c.each.i < length c.args.attrs.now = omega arith in
     let attr : AttrId = get_or c.args.attrs.now c.each.i none in
-    let there : slice_get c.args.attrs.now c.each.i ≡ Some attr = slice_get-get_or c.args.attrs.now c.each.i none within in
-    let mask : ℕ = get_or c.as_slice-masks.result.now ((length c.as_slice-masks.result.now - length c.args.attrs.now) + c.each.i) 0 in
-    let is : IsMask 0x130 (is_granted c.args.dir.now c.args.token.now c.args.number (path_of c.args.dir.now.schema c.args.class attr)) mask =
-    subst (λ (masks : List ℕ). IsMask 0x130 (is_granted c.args.dir.now c.args.token.now c.args.number (path_of c.args.dir.now.schema c.args.class attr)) (get_or masks ((length masks - length c.args.attrs.now) + c.each.i) 0))
+    let there : slice_get c.args.attrs.now c.each.i ≡ Some attr = slice_get-get_or c.args.attrs.now c.each.i none
+    within in
+    let mask : ℕ = get_or c.as_slice-masks.result.now ((length c.as_slice-masks.result.now - length c.args.attrs.now)
+    + c.each.i) 0 in
+    let is : IsMask 0x130 (is_granted c.args.dir.now c.args.token.now c.args.number
+    (path_of c.args.dir.now.schema c.args.class attr)) mask =
+    subst (λ (masks : List ℕ). IsMask 0x130
+    (is_granted c.args.dir.now c.args.token.now c.args.number (path_of c.args.dir.now.schema c.args.class attr))
+    (get_or masks ((length masks - length c.args.attrs.now) + c.each.i) 0))
     (sym c.as_slice-masks.ensures.value) (c.in_ok-masks.ensures.granted c.each.i attr there) in
-    lines_more (attribute_line c.args.dir.now c.args.token.now c.args.number c.args.class) c.args.attrs.now c.each.i none c.args.out.now.items c.each.out.items c.put_attr_line.new.out.items
+    lines_more (attribute_line c.args.dir.now c.args.token.now c.args.number c.args.class) c.args.attrs.now c.each.i
+    none c.args.out.now.items c.each.out.items c.put_attr_line.new.out.items
     (masked_line c.schema.result.now attr mask) within c.each.invariant
-    (ap (λ (schema : List SchemaRecord). masked_line schema attr mask) c.schema.ensures ∙ masked_is c.args.dir.now c.args.token.now c.args.number c.args.class attr mask is)
+    (ap (λ (schema : List SchemaRecord). masked_line schema attr mask) c.schema.ensures ∙ masked_is c.args.dir.now
+    c.args.token.now c.args.number c.args.class attr mask is)
     c.in_ok-put_attr_line.ensures

@@ -11,15 +11,19 @@ pub returns-then-not-is_child_class : goal.returns-then-not-is_child_class
 returns-then-not-is_child_class c =
     let there = rw c.schema.ensures at c.class_info-info.ensures.info in
     let none = rw c.schema-2.ensures at c.if-not-is_child_class.ensures in
-    called (child_none c.args.dir.now c.args.token.now c.args.number c.args.class c.args.child.0 c.class_info-info.result.now there (sym none)) (nothing c.args.out.now.items)
+    called (child_none c.args.dir.now c.args.token.now c.args.number c.args.class c.args.child.0
+    c.class_info-info.result.now there (sym none)) (nothing c.args.out.now.items)
 
 pub returns : goal.returns
 returns c =
     let there = rw c.schema.ensures at c.class_info-info.ensures.info in
     let some = rw c.schema-2.ensures at c.if-not-is_child_class.ensures in
-    put_as c.put_named.result c.args.out.now.items c.put_named.new.out.items (line_of (label_of (codes "child ") c.as_slice.result.now) (codes_text right_codes c.mask_on-mask.result))
+    put_as c.put_named.result c.args.out.now.items c.put_named.new.out.items
+    (line_of (label_of (codes "child ") c.as_slice.result.now) (codes_text right_codes c.mask_on-mask.result))
     (child_line c.args.dir.now c.args.token.now c.args.number c.args.class c.args.child.0)
-    (ap (λ (name : List ℕ). line_of (label_of (codes "child ") name) (codes_text right_codes c.mask_on-mask.result)) c.as_slice.ensures
-    ∙ child_is c.args.dir.now c.args.token.now c.args.number c.mask_on-mask.result c.args.class c.args.child.0 c.class_info-info.result.now (guids_of c.one.result) there (sym some) c.one.ensures
+    (ap (λ (name : List ℕ). line_of (label_of (codes "child ") name) (codes_text right_codes c.mask_on-mask.result))
+    c.as_slice.ensures
+    ∙ child_is c.args.dir.now c.args.token.now c.args.number c.mask_on-mask.result c.args.class c.args.child.0
+    c.class_info-info.result.now (guids_of c.one.result) there (sym some) c.one.ensures
     c.mask_on-mask.ensures)
     c.put_named.ensures

@@ -8,7 +8,10 @@ use Rattle.ad_dsacls.proofs.rights.put_extended_line.Goals as goal
 
 pub returns : goal.returns
 returns c =
-    put_as c.put_named.result c.args.out.now.items c.put_named.new.out.items (line_of (label_of (codes "right ") c.as_slice.result.now) (codes_text right_codes c.mask_on-mask.result))
+    put_as c.put_named.result c.args.out.now.items c.put_named.new.out.items
+    (line_of (label_of (codes "right ") c.as_slice.result.now) (codes_text right_codes c.mask_on-mask.result))
     (extended_line c.args.dir.now c.args.token.now c.args.number c.args.right.now)
-    (ap (λ (name : List ℕ). line_of (label_of (codes "right ") name) (codes_text right_codes c.mask_on-mask.result)) c.as_slice.ensures
-    ∙ extended_is c.args.dir.now c.args.token.now c.args.number c.mask_on-mask.result c.args.right.now (guids_of c.one.result) c.one.ensures c.mask_on-mask.ensures) c.put_named.ensures
+    (ap (λ (name : List ℕ). line_of (label_of (codes "right ") name) (codes_text right_codes c.mask_on-mask.result))
+    c.as_slice.ensures
+    ∙ extended_is c.args.dir.now c.args.token.now c.args.number c.mask_on-mask.result c.args.right.now
+    (guids_of c.one.result) c.one.ensures c.mask_on-mask.ensures) c.put_named.ensures

@@ -13,13 +13,19 @@ attrs_of_set-requires c = allowed_all c.args.dir.now.schema c.args.class.0 c.arg
 pub set_mask-requires-clause-attrs : goal.set_mask-requires-clause-attrs
 set_mask-requires-clause-attrs c =
     set_all c.args.dir.now.schema c.args.class.0 c.args.right.now.guid c.as_slice.result.now
-    (c.as_slice.ensures.value ∙ c.in_ok-own.ensures ∙ ap (filter (is_of_set c.args.dir.now.schema c.args.right.now.guid)) c.requires.allowed)
+    (c.as_slice.ensures.value ∙ c.in_ok-own.ensures
+    ∙ ap (filter (is_of_set c.args.dir.now.schema c.args.right.now.guid)) c.requires.allowed)
 
 pub returns : goal.returns
 returns c =
-    put_as c.put_named.result c.args.out.now.items c.put_named.new.out.items (line_of (label_of (codes "set ") c.as_slice-2.result.now) (codes_text right_codes c.in_ok-mask.mask))
+    put_as c.put_named.result c.args.out.now.items c.put_named.new.out.items
+    (line_of (label_of (codes "set ") c.as_slice-2.result.now) (codes_text right_codes c.in_ok-mask.mask))
     (set_line c.args.dir.now c.args.token.now c.args.number c.args.class c.args.right.now)
-    (ap (λ (name : List ℕ). line_of (label_of (codes "set ") name) (codes_text right_codes c.in_ok-mask.mask)) c.as_slice-2.ensures
-    ∙ set_is c.args.dir.now c.args.token.now c.args.number c.in_ok-mask.mask c.args.class c.args.right.now c.as_slice.result.now
-    (c.as_slice.ensures.value ∙ c.in_ok-own.ensures ∙ ap (filter (is_of_set c.args.dir.now.schema c.args.right.now.guid)) c.requires.allowed) c.in_ok-mask.ensures)
+    (ap (λ (name : List ℕ). line_of (label_of (codes "set ") name) (codes_text right_codes c.in_ok-mask.mask))
+    c.as_slice-2.ensures
+    ∙ set_is c.args.dir.now c.args.token.now c.args.number c.in_ok-mask.mask c.args.class c.args.right.now
+    c.as_slice.result.now
+    (c.as_slice.ensures.value ∙ c.in_ok-own.ensures
+    ∙ ap (filter (is_of_set c.args.dir.now.schema c.args.right.now.guid)) c.requires.allowed)
+    c.in_ok-mask.ensures)
     c.put_named.ensures

@@ -10,7 +10,8 @@ returns-then-mask-eq-ALL_RIGHTS c =
 
 pub returns : goal.returns
 returns c =
-    let text : c.extend_from_slice.new.self.items ++ hex_text 8 c.args.mask ≡ c.args.out.now.items ++ rights_text c.args.mask =
+    let text : c.extend_from_slice.new.self.items ++ hex_text 8 c.args.mask ≡ c.args.out.now.items
+    ++ rights_text c.args.mask =
     ap (λ (t : List ℕ). t ++ hex_text 8 c.args.mask) c.in_ok-extend_from_slice.ensures.items
     ∙ append_assoc c.args.out.now.items (codes "0x") (hex_text 8 c.args.mask)
     ∙ ap (λ (t : List ℕ). c.args.out.now.items ++ t) (sym (as_hex c.args.mask c.if-mask-eq-ALL_RIGHTS.false)) in

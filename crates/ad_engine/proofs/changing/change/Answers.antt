@@ -11,11 +11,13 @@ returns-in-Ok c =
     let dir = c.args.dir.now in
     let m = message_seen c.args.message.now in
     decided_as c.judged.result dir _ (changed dir c.args.token.now m c.args.tag (settings_of m))
-    (ap (λ (r : Result Settings ℕ). changed dir c.args.token.now m c.args.tag r) (sym c.in-Ok.is ∙ c.settings.ensures)) c.judged.ensures
+    (ap (λ (r : Result Settings ℕ). changed dir c.args.token.now m c.args.tag r)
+    (sym c.in-Ok.is ∙ c.settings.ensures)) c.judged.ensures
 
 pub returns-in-Err : goal.returns-in-Err
 returns-in-Err c =
     let dir = c.args.dir.now in
     let m = message_seen c.args.message.now in
     decided_here c.refused.result dir _ (changed dir c.args.token.now m c.args.tag (settings_of m))
-    (ap (λ (r : Result Settings ℕ). changed dir c.args.token.now m c.args.tag r) (sym c.in-Err.is ∙ c.settings.ensures)) c.refused.ensures
+    (ap (λ (r : Result Settings ℕ). changed dir c.args.token.now m c.args.tag r)
+    (sym c.in-Err.is ∙ c.settings.ensures)) c.refused.ensures

@@ -7,5 +7,6 @@ use Rattle.ad_engine.proofs.changing.hidden.Goals as goal
 pub returns : goal.returns
 returns c = λ dir.
     replied dir c.in_ok-bytes.bytes.items (done c.args.id c.args.tag 32 (dn_text c.args.dn.now) []) c.replying.result
-    (c.in_ok-bytes.ensures ∙ done_with c.args.id c.args.tag 32 c.in_ok-name.name.items (dn_text c.args.dn.now) c.new.result.items [] c.in_ok-name.ensures.written c.new.ensures.items)
+    (c.in_ok-bytes.ensures ∙ done_with c.args.id c.args.tag 32 c.in_ok-name.name.items (dn_text c.args.dn.now)
+    c.new.result.items [] c.in_ok-name.ensures.written c.new.ensures.items)
     (c.replying.ensures dir)

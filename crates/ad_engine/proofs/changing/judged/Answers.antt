@@ -13,27 +13,34 @@ pub returns-in-Refused : goal.returns-in-Refused
 returns-in-Refused c =
     let dir = c.args.dir.now in
     let message = c.args.message.now in
-    let is = refused_first dir c.args.token.now (op_seen message.op) c.args.settings.now c.in-Refused.code (sym c.in_ok-act.ensures ∙ c.in-Refused.is) in
-    decided_here c.refused.result dir _ (by_effect message.id c.args.tag (effect dir c.args.token.now (op_seen message.op) c.args.settings.now))
+    let is = refused_first dir c.args.token.now (op_seen message.op) c.args.settings.now c.in-Refused.code
+    (sym c.in_ok-act.ensures ∙ c.in-Refused.is) in
+    decided_here c.refused.result dir _ (by_effect message.id c.args.tag
+    (effect dir c.args.token.now (op_seen message.op) c.args.settings.now))
     (sym (ap (λ (e : Effect). by_effect message.id c.args.tag e) is)) c.refused.ensures
 
 pub returns-in-Hidden : goal.returns-in-Hidden
 returns-in-Hidden c =
     let dir = c.args.dir.now in
     let message = c.args.message.now in
-    let is = hidden_first dir c.args.token.now (op_seen message.op) c.args.settings.now c.in-Hidden.dn (sym c.in_ok-act.ensures ∙ c.in-Hidden.is) in
-    decided_here c.hidden.result dir _ (by_effect message.id c.args.tag (effect dir c.args.token.now (op_seen message.op) c.args.settings.now))
+    let is = hidden_first dir c.args.token.now (op_seen message.op) c.args.settings.now c.in-Hidden.dn
+    (sym c.in_ok-act.ensures ∙ c.in-Hidden.is) in
+    decided_here c.hidden.result dir _ (by_effect message.id c.args.tag
+    (effect dir c.args.token.now (op_seen message.op) c.args.settings.now))
     (sym (ap (λ (e : Effect). by_effect message.id c.args.tag e) is)) c.hidden.ensures
 
 pub missing-requires : goal.missing-requires
 missing-requires c =
-    c.a_missing_need_names_live_objects.ensures c.args.dir.now c.args.token.now (op_seen c.args.message.now.op) c.args.settings.now c.in-Missing.need c.stands.ensures
+    c.a_missing_need_names_live_objects.ensures c.args.dir.now c.args.token.now (op_seen c.args.message.now.op)
+    c.args.settings.now c.in-Missing.need c.stands.ensures
     (sym c.in_ok-act.ensures ∙ c.in-Missing.is)
 
 pub returns-in-Missing : goal.returns-in-Missing
 returns-in-Missing c =
     let dir = c.args.dir.now in
     let message = c.args.message.now in
-    let is = missing_first dir c.args.token.now (op_seen message.op) c.args.settings.now c.in-Missing.need (sym c.in_ok-act.ensures ∙ c.in-Missing.is) in
-    decided_as c.missing.result dir _ (by_effect message.id c.args.tag (effect dir c.args.token.now (op_seen message.op) c.args.settings.now))
+    let is = missing_first dir c.args.token.now (op_seen message.op) c.args.settings.now c.in-Missing.need
+    (sym c.in_ok-act.ensures ∙ c.in-Missing.is) in
+    decided_as c.missing.result dir _ (by_effect message.id c.args.tag
+    (effect dir c.args.token.now (op_seen message.op) c.args.settings.now))
     (sym (ap (λ (e : Effect). by_effect message.id c.args.tag e) is)) c.missing.ensures

@@ -13,9 +13,11 @@ pub returns-in-Refused : goal.returns-in-Refused
 returns-in-Refused c =
     let dir = c.args.dir.now in
     let message = c.args.message.now in
-    let is = refused_later dir c.args.token.now (op_seen message.op) c.args.settings.now c.args.act.now c.in-Refused.code c.requires.granted
+    let is = refused_later dir c.args.token.now (op_seen message.op) c.args.settings.now c.args.act.now
+    c.in-Refused.code c.requires.granted
     (rw c.in-Refused.is at c.in_ok-code.ensures) in
-    decided_here c.refused.result dir _ (by_effect message.id c.args.tag (effect dir c.args.token.now (op_seen message.op) c.args.settings.now))
+    decided_here c.refused.result dir _ (by_effect message.id c.args.tag
+    (effect dir c.args.token.now (op_seen message.op) c.args.settings.now))
     (sym (ap (λ (e : Effect). by_effect message.id c.args.tag e) is)) c.refused.ensures
 
 pub returns-in-Edits : goal.returns-in-Edits
@@ -24,12 +26,15 @@ returns-in-Edits c =
     let message = c.args.message.now in
     let after = made dir c.args.token.now c.args.act.now in
     let plan = rw c.in-Edits.is at c.in_ok-code.ensures in
-    let is = made_so dir c.args.token.now (op_seen message.op) c.args.settings.now c.args.act.now c.requires.granted plan.holds in
+    let is = made_so dir c.args.token.now (op_seen message.op) c.args.settings.now c.args.act.now c.requires.granted
+    plan.holds in
     let are : AreEditsTo dir c.in-Edits.edits after = record {
       may = plan.may;
       make = plan.make;
       sound = c.stays_sound.ensures c.args.token.now c.args.settings.now after c.requires.change is;
       nothing = plan.nothing;
     } in
-    decided_as c.made.result dir _ (by_effect message.id c.args.tag (effect dir c.args.token.now (op_seen message.op) c.args.settings.now))
-    (sym (ap (λ (e : Effect). by_effect message.id c.args.tag e) is)) (IfOk-weaker c.made.result _ _ (λ (d : Decided) all. all dir after are) c.made.ensures)
+    decided_as c.made.result dir _ (by_effect message.id c.args.tag
+    (effect dir c.args.token.now (op_seen message.op) c.args.settings.now))
+    (sym (ap (λ (e : Effect). by_effect message.id c.args.tag e) is))
+    (IfOk-weaker c.made.result _ _ (λ (d : Decided) all. all dir after are) c.made.ensures)

@@ -13,37 +13,43 @@ returns-in-Bind c =
     let dir = c.args.dir.now in
     let m = c.args.message.now in
     decided_here c.refused.result dir _ (op_decided dir c.args.token.now (message_seen m) (op_seen m.op))
-    (ap (λ (op : Op). op_decided dir c.args.token.now (message_seen m) (op_seen op)) (sym c.in-Bind.is)) c.refused.ensures
+    (ap (λ (op : Op). op_decided dir c.args.token.now (message_seen m) (op_seen op)) (sym c.in-Bind.is))
+    c.refused.ensures
 
 pub returns-in-Unbind : goal.returns-in-Unbind
 returns-in-Unbind c =
     let dir = c.args.dir.now in
     let m = c.args.message.now in
-    subst (λ (op : Op). IsDecided dir (op_decided dir c.args.token.now (message_seen m) (op_seen op)) c.dropping.result) (sym c.in-Unbind.is) (c.dropping.ensures dir)
+    subst (λ (op : Op). IsDecided dir (op_decided dir c.args.token.now (message_seen m) (op_seen op))
+    c.dropping.result) (sym c.in-Unbind.is) (c.dropping.ensures dir)
 
 pub returns-in-Search : goal.returns-in-Search
 returns-in-Search c =
     let dir = c.args.dir.now in
     let m = c.args.message.now in
     decided_as c.search.result dir _ (op_decided dir c.args.token.now (message_seen m) (op_seen m.op))
-    (ap (λ (op : Op). op_decided dir c.args.token.now (message_seen m) (op_seen op)) (sym c.in-Search.is)) c.search.ensures
+    (ap (λ (op : Op). op_decided dir c.args.token.now (message_seen m) (op_seen op)) (sym c.in-Search.is))
+    c.search.ensures
 
 pub returns-in-Compare : goal.returns-in-Compare
 returns-in-Compare c =
     let dir = c.args.dir.now in
     let m = c.args.message.now in
     decided_as c.comparison.result dir _ (op_decided dir c.args.token.now (message_seen m) (op_seen m.op))
-    (ap (λ (op : Op). op_decided dir c.args.token.now (message_seen m) (op_seen op)) (sym c.in-Compare.is)) c.comparison.ensures
+    (ap (λ (op : Op). op_decided dir c.args.token.now (message_seen m) (op_seen op)) (sym c.in-Compare.is))
+    c.comparison.ensures
 
 pub change-requires-clause-change : goal.change-requires-clause-change
-change-requires-clause-change c = subst (λ (op : Op). IsChange (op_seen op)) (sym c.in-Modify.is) (subst (λ (op : Op). HasOpRanges (op_seen op)) c.in-Modify.is c.requires.ranges)
+change-requires-clause-change c = subst (λ (op : Op). IsChange (op_seen op)) (sym c.in-Modify.is)
+    (subst (λ (op : Op). HasOpRanges (op_seen op)) c.in-Modify.is c.requires.ranges)
 
 pub returns-in-Modify : goal.returns-in-Modify
 returns-in-Modify c =
     let dir = c.args.dir.now in
     let m = c.args.message.now in
     decided_as c.change.result dir _ (op_decided dir c.args.token.now (message_seen m) (op_seen m.op))
-    (ap (λ (op : Op). op_decided dir c.args.token.now (message_seen m) (op_seen op)) (sym c.in-Modify.is)) c.change.ensures
+    (ap (λ (op : Op). op_decided dir c.args.token.now (message_seen m) (op_seen op)) (sym c.in-Modify.is))
+    c.change.ensures
 
 pub change-requires-in-Add-clause-change : goal.change-requires-in-Add-clause-change
 change-requires-in-Add-clause-change c = subst (λ (op : Op). IsChange (op_seen op)) (sym c.in-Add.is) tt
@@ -53,7 +59,8 @@ returns-in-Add c =
     let dir = c.args.dir.now in
     let m = c.args.message.now in
     decided_as c.change-in-Add.result dir _ (op_decided dir c.args.token.now (message_seen m) (op_seen m.op))
-    (ap (λ (op : Op). op_decided dir c.args.token.now (message_seen m) (op_seen op)) (sym c.in-Add.is)) c.change-in-Add.ensures
+    (ap (λ (op : Op). op_decided dir c.args.token.now (message_seen m) (op_seen op)) (sym c.in-Add.is))
+    c.change-in-Add.ensures
 
 pub change-requires-in-Delete-clause-change : goal.change-requires-in-Delete-clause-change
 change-requires-in-Delete-clause-change c = subst (λ (op : Op). IsChange (op_seen op)) (sym c.in-Delete.is) tt
@@ -63,7 +70,8 @@ returns-in-Delete c =
     let dir = c.args.dir.now in
     let m = c.args.message.now in
     decided_as c.change-in-Delete.result dir _ (op_decided dir c.args.token.now (message_seen m) (op_seen m.op))
-    (ap (λ (op : Op). op_decided dir c.args.token.now (message_seen m) (op_seen op)) (sym c.in-Delete.is)) c.change-in-Delete.ensures
+    (ap (λ (op : Op). op_decided dir c.args.token.now (message_seen m) (op_seen op)) (sym c.in-Delete.is))
+    c.change-in-Delete.ensures
 
 pub change-requires-in-Rename-clause-change : goal.change-requires-in-Rename-clause-change
 change-requires-in-Rename-clause-change c = subst (λ (op : Op). IsChange (op_seen op)) (sym c.in-Rename.is) tt
@@ -73,13 +81,15 @@ returns-in-Rename c =
     let dir = c.args.dir.now in
     let m = c.args.message.now in
     decided_as c.change-in-Rename.result dir _ (op_decided dir c.args.token.now (message_seen m) (op_seen m.op))
-    (ap (λ (op : Op). op_decided dir c.args.token.now (message_seen m) (op_seen op)) (sym c.in-Rename.is)) c.change-in-Rename.ensures
+    (ap (λ (op : Op). op_decided dir c.args.token.now (message_seen m) (op_seen op)) (sym c.in-Rename.is))
+    c.change-in-Rename.ensures
 
 pub returns-in-Abandon : goal.returns-in-Abandon
 returns-in-Abandon c =
     let dir = c.args.dir.now in
     let m = c.args.message.now in
-    subst (λ (op : Op). IsDecided dir (op_decided dir c.args.token.now (message_seen m) (op_seen op)) c.replying.result) (sym c.in-Abandon.is)
+    subst (λ (op : Op). IsDecided dir (op_decided dir c.args.token.now (message_seen m) (op_seen op))
+    c.replying.result) (sym c.in-Abandon.is)
     (replied dir c.new.result.items [] c.replying.result c.new.ensures.items (c.replying.ensures dir))
 
 pub returns-in-Extended : goal.returns-in-Extended
@@ -87,4 +97,5 @@ returns-in-Extended c =
     let dir = c.args.dir.now in
     let m = c.args.message.now in
     decided_here c.refused-in-Extended.result dir _ (op_decided dir c.args.token.now (message_seen m) (op_seen m.op))
-    (ap (λ (op : Op). op_decided dir c.args.token.now (message_seen m) (op_seen op)) (sym c.in-Extended.is)) c.refused-in-Extended.ensures
+    (ap (λ (op : Op). op_decided dir c.args.token.now (message_seen m) (op_seen op)) (sym c.in-Extended.is))
+    c.refused-in-Extended.ensures

@@ -13,7 +13,8 @@ returns-in_ok-bytes-in-Ok c =
     let m = message_seen c.args.message.now in
     let answer = search_answer dir c.args.token.now m.id (search_seen c.args.request.now) in
     replied dir c.in_ok-bytes-in-Ok.bytes.items (searched m.id answer (settings_of m)) c.replying.result
-    (c.in_ok-bytes-in-Ok.ensures.answer ∙ ap (λ (r : Result Settings ℕ). searched m.id answer r) (sym c.in-Ok.is ∙ c.settings.ensures)) (c.replying.ensures dir)
+    (c.in_ok-bytes-in-Ok.ensures.answer ∙ ap (λ (r : Result Settings ℕ). searched m.id answer r)
+    (sym c.in-Ok.is ∙ c.settings.ensures)) (c.replying.ensures dir)
 
 pub returns-in-Err : goal.returns-in-Err
 returns-in-Err c =
@@ -21,4 +22,5 @@ returns-in-Err c =
     let m = message_seen c.args.message.now in
     let answer = search_answer dir c.args.token.now m.id (search_seen c.args.request.now) in
     decided_here c.refused.result dir _ (replies (searched m.id answer (settings_of m)))
-    (ap (λ (r : Result Settings ℕ). replies (searched m.id answer r)) (sym c.in-Err.is ∙ c.settings.ensures)) c.refused.ensures
+    (ap (λ (r : Result Settings ℕ). replies (searched m.id answer r)) (sym c.in-Err.is ∙ c.settings.ensures))
+    c.refused.ensures

@@ -6,7 +6,8 @@ use Rattle.ad_engine.proofs.ranges.domain_has_form.Goals as goal
 
 pub returns-in-Some : goal.returns-in-Some
 unfolding domain_sid
-returns-in-Some c = λ sid is. subst IsSid (same_Some c.in-Some.sid.now sid (c.in-Some.ensures ∙ is)) c.has_its_ranges.ensures
+returns-in-Some c = λ sid is. subst IsSid (same_Some c.in-Some.sid.now sid (c.in-Some.ensures ∙ is))
+    c.has_its_ranges.ensures
 
 pub returns-in-None : goal.returns-in-None
 unfolding domain_sid

@@ -10,13 +10,16 @@ use Rattle.ad_engine.proofs.ranges.stays_sound.Goals as goal
 pub returns-in-Modify : goal.returns-in-Modify
 returns-in-Modify c = λ token s after change e.
     c.a_modify_keeps_a_directory_sound.ensures c.args.dir.now after token c.in-Modify.modify s c.requires
-    (subst (λ (items : List Item). AllByRecursion (λ (item : Item). AllByRecursion IsBytes item.values) items) c.as_slice.ensures c.items_are_bytes.ensures)
+    (subst (λ (items : List Item). AllByRecursion (λ (item : Item). AllByRecursion IsBytes item.values) items)
+    c.as_slice.ensures c.items_are_bytes.ensures)
     (subst (λ (op : Op). effect c.args.dir.now token (op_seen op) s ≡ changes_to after) c.in-Modify.is e)
 
 pub returns-in-Add : goal.returns-in-Add
 returns-in-Add c = λ token s after change e.
-    c.an_add_keeps_a_directory_sound.ensures c.args.dir.now after token c.in-Add.add s c.requires c.domain_has_form.ensures
-    (subst (λ (attrs : List (List ℕ × List (List ℕ))). AllByRecursion (λ (attr : List ℕ × List (List ℕ)). AllByRecursion IsBytes attr.1) attrs)
+    c.an_add_keeps_a_directory_sound.ensures c.args.dir.now after token c.in-Add.add s c.requires
+    c.domain_has_form.ensures
+    (subst (λ (attrs : List (List ℕ × List (List ℕ))). AllByRecursion
+    (λ (attr : List ℕ × List (List ℕ)). AllByRecursion IsBytes attr.1) attrs)
     c.as_slice-in-Add.ensures c.attrs_are_bytes.ensures)
     (subst (λ (op : Op). effect c.args.dir.now token (op_seen op) s ≡ changes_to after) c.in-Add.is e)
 

@@ -4,4 +4,5 @@ use Rattle.ad_engine.proofs.Decisions.{replied}
 use Rattle.ad_engine.proofs.replies.notice.Goals as goal
 
 pub returns : goal.returns
-returns c = λ dir. replied dir c.in_ok-bytes.bytes.items (reply_bytes Notice) c.replying.result c.in_ok-bytes.ensures (c.replying.ensures dir)
+returns c = λ dir. replied dir c.in_ok-bytes.bytes.items (reply_bytes Notice) c.replying.result c.in_ok-bytes.ensures
+    (c.replying.ensures dir)

@@ -7,7 +7,8 @@ returns-then-most-eq0 c = record { due = λ some. absurd (omega (arith, some, c.
 
 pub returns-then-len-eq0 : goal.returns-then-len-eq0
 returns-then-len-eq0 c = record {
-  due = λ _. nil_from_length c.args.dir.now.pending (sym (ap length c.queue.ensures) ∙ sym c.len.ensures.len ∙ c.if-len-eq0.true);
+  due = λ _. nil_from_length c.args.dir.now.pending (sym (ap length c.queue.ensures) ∙ sym c.len.ensures.len
+      ∙ c.if-len-eq0.true);
 }
 
 pub returns : goal.returns

@@ -7,10 +7,15 @@ use Rattle.ad_engine.proofs.Making.{makes_one}
 use Rattle.ad_engine.proofs.stepping.put_queue.Goals as goal
 
 pub apply-requires : goal.apply-requires
-apply-requires c = record { normal = tt; may = subst (MayPend c.args.dir.now) (sym c.into_entries.ensures.entries) c.requires }
+apply-requires c = record {
+  normal = tt;
+  may = subst (MayPend c.args.dir.now) (sym c.into_entries.ensures.entries)
+      c.requires;
+}
 
 pub returns : goal.returns
 returns c =
-    subst (λ (ps : List Pending). Makes (put_queue ps ∷ []) c.args.dir.now c.apply.new.self c.args.batch.now c.note.new.self) c.into_entries.ensures.entries
+    subst (λ (ps : List Pending). Makes (put_queue ps ∷ []) c.args.dir.now c.apply.new.self c.args.batch.now
+    c.note.new.self) c.into_entries.ensures.entries
     (makes_one (put_queue c.into_entries.result.items) c.args.dir.now c.apply.new.self c.args.batch.now c.note.new.self
     c.in_ok-apply.ensures.ok c.in_ok-note.ensures.noted)

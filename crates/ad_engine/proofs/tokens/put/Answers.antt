@@ -6,4 +6,5 @@ use Rattle.ad_engine.proofs.tokens.put.Goals as goal
 pub returns : goal.returns
 returns c =
     ap (λ (ts : List (Option Token)). set ts c.args.place (Some c.args.token)) c.in_ok-pad.ensures
-    ∙ put_at c.args.place (c.args.place + 1 - length c.args.items.now.items) c.args.token c.args.items.now.items (omega arith)
+    ∙ put_at c.args.place (c.args.place + 1 - length c.args.items.now.items) c.args.token c.args.items.now.items
+    (omega arith)

@@ -14,4 +14,5 @@ returns-clause-answer c = λ dir here there entry a b same.
 
 pub returns-clause-rights : goal.returns-clause-rights
 returns-clause-rights c = λ dir here there token bytes a b same.
-    ap (λ (d : Directory). message_decided d token bytes) (agreed c.other_frames_do_not_count.ensures dir here there a b same)
+    ap (λ (d : Directory). message_decided d token bytes)
+    (agreed c.other_frames_do_not_count.ensures dir here there a b same)

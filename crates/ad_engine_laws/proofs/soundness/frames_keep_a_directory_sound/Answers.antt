@@ -6,4 +6,5 @@ pub returns-clause-from : goal.returns-clause-from
 returns-clause-from c = frames_sound c.an_answer_keeps_a_directory_sound.ensures.answer
 
 pub returns-clause-after : goal.returns-clause-after
-returns-clause-after c = λ dir frames sound fits. frames_sound c.an_answer_keeps_a_directory_sound.ensures.answer dir no_tokens frames sound fits
+returns-clause-after c = λ dir frames sound fits. frames_sound c.an_answer_keeps_a_directory_sound.ensures.answer dir
+    no_tokens frames sound fits

@@ -5,4 +5,5 @@ use Rattle.ad_filter.proofs.comparison.any_fits.Given as goal
 
 -- none so far does
 abbrev pub invariant-loop-value : goal.invariant-loop-value
-invariant-loop-value l = any_passes l.syntax (fits_key l.pattern) (drop l.value-index l.values) ≡ any_passes l.syntax (fits_key l.pattern) l.values
+invariant-loop-value l = any_passes l.syntax (fits_key l.pattern) (drop l.value-index l.values)
+    ≡ any_passes l.syntax (fits_key l.pattern) l.values

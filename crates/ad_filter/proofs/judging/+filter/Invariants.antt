@@ -18,12 +18,15 @@ decreases-some_of g l = 2 * depth_of_all (filters_of (map filter_seen l.filters.
 -- what those so far say and those that are left is what all say, and what is kept tells what may be read
 abbrev pub invariant-all_of-each : goal.invariant-all_of-each
 invariant-all_of-each g l =
-    (both l.so_far (all_of (view_by (g.V.Readable.named l.view) (g.V.Readable.shown l.view)) (filters_of (map filter_seen (drop l.i l.filters))))
+    (both l.so_far (all_of (view_by (g.V.Readable.named l.view) (g.V.Readable.shown l.view))
+    (filters_of (map filter_seen (drop l.i l.filters))))
     ≡ all_of (view_by (g.V.Readable.named l.view) (g.V.Readable.shown l.view)) (filters_of (map filter_seen l.filters)))
     × AreRead (g.V.Readable.shown l.view) l.kept
 
 abbrev pub invariant-some_of-each : goal.invariant-some_of-each
 invariant-some_of-each g l =
-    (either l.so_far (some_of (view_by (g.V.Readable.named l.view) (g.V.Readable.shown l.view)) (filters_of (map filter_seen (drop l.i l.filters))))
-    ≡ some_of (view_by (g.V.Readable.named l.view) (g.V.Readable.shown l.view)) (filters_of (map filter_seen l.filters)))
+    (either l.so_far (some_of (view_by (g.V.Readable.named l.view) (g.V.Readable.shown l.view))
+    (filters_of (map filter_seen (drop l.i l.filters))))
+    ≡ some_of (view_by (g.V.Readable.named l.view) (g.V.Readable.shown l.view))
+    (filters_of (map filter_seen l.filters)))
     × AreRead (g.V.Readable.shown l.view) l.kept

@@ -12,7 +12,8 @@ returns-clause-kept g c =
     let named = g.V.Readable.named c.args.view.now in
     let shown = g.V.Readable.shown c.args.view.now in
     subst (λ (r : Option Readable). IsKept (get nat_cmp c.keep.new.kept c.in-Some.attr.0) r)
-    (sym (known_by named shown c.args.name.now ∙ ap (option_and_then shown) (sym c.in-Some.ensures))) c.in_ok-keep.ensures.kept
+    (sym (known_by named shown c.args.name.now ∙ ap (option_and_then shown) (sym c.in-Some.ensures)))
+    c.in_ok-keep.ensures.kept
 
 pub returns-in_default-clause-kept : goal.returns-in_default-clause-kept
 returns-in_default-clause-kept g c =

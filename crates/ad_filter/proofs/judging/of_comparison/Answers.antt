@@ -9,12 +9,14 @@ use Rattle.ad_filter.proofs.judging.of_comparison.Goals as goal
 
 pub values_at-requires : goal.values_at-requires
 values_at-requires g c =
-    let readable = known (view_by (g.V.Readable.named c.args.view.now) (g.V.Readable.shown c.args.view.now)) c.args.name.now in
+    let readable = known (view_by (g.V.Readable.named c.args.view.now) (g.V.Readable.shown c.args.view.now))
+    c.args.name.now in
     is_there (get nat_cmp c.attr_kept.new.kept c.in-Some.attr.0) readable (rw c.in-Some.is at c.in_ok-attr.ensures.kept)
 
 pub compared_if-requires : goal.compared_if-requires
 compared_if-requires g c =
-    let readable = known (view_by (g.V.Readable.named c.args.view.now) (g.V.Readable.shown c.args.view.now)) c.args.name.now in
+    let readable = known (view_by (g.V.Readable.named c.args.view.now) (g.V.Readable.shown c.args.view.now))
+    c.args.name.now in
     let read =
     read_at (get nat_cmp c.attr_kept.new.kept c.in-Some.attr.0) c.values_at.result.now readable c.values_at.ensures
     (rw c.in-Some.is at c.in_ok-attr.ensures.kept) in
@@ -22,9 +24,11 @@ compared_if-requires g c =
 
 pub returns-in-Some-clause-says : goal.returns-in-Some-clause-says
 returns-in-Some-clause-says g c =
-    let readable = known (view_by (g.V.Readable.named c.args.view.now) (g.V.Readable.shown c.args.view.now)) c.args.name.now in
+    let readable = known (view_by (g.V.Readable.named c.args.view.now) (g.V.Readable.shown c.args.view.now))
+    c.args.name.now in
     let read =
     read_at (get nat_cmp c.attr_kept.new.kept c.in-Some.attr.0) c.values_at.result.now readable c.values_at.ensures
     (rw c.in-Some.is at c.in_ok-attr.ensures.kept) in
     subst (λ (x : Truth). IfOk c.compared_if.result (λ t. t ≡ x))
-    (said_same c.values_at.result.now readable (says_compared c.args.comparison c.args.sent.now) (same_compared c.args.comparison c.args.sent.now) read) c.compared_if.ensures
+    (said_same c.values_at.result.now readable (says_compared c.args.comparison c.args.sent.now)
+    (same_compared c.args.comparison c.args.sent.now) read) c.compared_if.ensures

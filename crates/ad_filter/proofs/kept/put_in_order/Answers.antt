@@ -6,5 +6,6 @@ use Rattle.ad_filter.proofs.kept.put_in_order.Goals as goal
 
 pub returns-clause-order : goal.returns-clause-order
 returns-clause-order c = λ ordered.
-    c.sort_unstable_by.ensures.sorted (λ (a b : Value). is_lt (key_order a.key b.key)) (ranks_by c.keys_are_ordered.ensures.total (λ (v : Value). v.key))
+    c.sort_unstable_by.ensures.sorted (λ (a b : Value). is_lt (key_order a.key b.key))
+    (ranks_by c.keys_are_ordered.ensures.total (λ (v : Value). v.key))
     (answers_always _ _ _ (λ f a r q k. let is : r ≡ key_order a.0.now.key a.1.0.now.key = search rules in ap is_lt is))

@@ -4,4 +4,5 @@ use Rattle.ad_gen.proofs.lines.push_line.Goals as goal
 
 pub returns : goal.returns
 unfolding line
-returns c = then c.in_ok-push_text.ensures (then c.in_ok-push_text-2.ensures (then c.in_ok-push_text-3.ensures c.in_ok-push_text-4.ensures))
+returns c = then c.in_ok-push_text.ensures
+    (then c.in_ok-push_text-2.ensures (then c.in_ok-push_text-3.ensures c.in_ok-push_text-4.ensures))

@@ -9,4 +9,5 @@ unfolding units
 loop-i-init c = none (string_bytes c.args.out.now)
 
 pub loop-i-preserved : goal.loop-i-preserved
-loop-i-preserved c = rw (units_more c.loop-i.i) (then c.loop-i.invariant (then c.in_ok-push_unit.ensures c.in_ok-push_users.ensures))
+loop-i-preserved c = rw (units_more c.loop-i.i)
+    (then c.loop-i.invariant (then c.in_ok-push_unit.ensures c.in_ok-push_users.ensures))

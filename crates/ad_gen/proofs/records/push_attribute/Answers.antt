@@ -4,4 +4,5 @@ use Rattle.ad_gen.proofs.records.push_attribute.Goals as goal
 
 pub returns : goal.returns
 unfolding attribute
-returns c = then c.in_ok-push_begun.ensures (then c.in_ok-push_line.ensures (then c.in_ok-push_guid.ensures c.in_ok-push_others.ensures))
+returns c = then c.in_ok-push_begun.ensures
+    (then c.in_ok-push_line.ensures (then c.in_ok-push_guid.ensures c.in_ok-push_others.ensures))

@@ -4,4 +4,5 @@ use Rattle.ad_gen.proofs.schema.push_account_attributes.Goals as goal
 
 pub returns : goal.returns
 unfolding account_attributes
-returns c = then c.in_ok-push_attribute.ensures (then c.in_ok-push_attribute-2.ensures (then c.in_ok-push_attribute-3.ensures c.in_ok-push_attribute-4.ensures))
+returns c = then c.in_ok-push_attribute.ensures
+    (then c.in_ok-push_attribute-2.ensures (then c.in_ok-push_attribute-3.ensures c.in_ok-push_attribute-4.ensures))

@@ -1,4 +1,5 @@
-use Rattle.ad_gen_laws.proofs.Classes.{domain_class, system_class, sd_holder_class, administrators_class, unit_class, user_class}
+use Rattle.ad_gen_laws.proofs.Classes.{domain_class, system_class, sd_holder_class, administrators_class, unit_class}
+use Rattle.ad_gen_laws.proofs.Classes.{user_class}
 use Rattle.ad_gen_laws.proofs.laws.the_classes_of_the_sample.Goals as goal
 
 pub returns : goal.returns

@@ -9,8 +9,17 @@ pub loop-i-preserved : goal.loop-i-preserved
 loop-i-preserved c = record {
   put = λ old text len e.
       let so_far = c.loop-i.invariant.put old text len e in
-      let n : length (text ++ flat_map (le_bytes 4) (take c.loop-i.i c.args.words.now)) ≡ c.args.at + 4 * c.loop-i.i = omega (arith, length-append text (flat_map (le_bytes 4) (take c.loop-i.i c.args.words.now)), length-words (take c.loop-i.i c.args.words.now), length-take c.loop-i.i c.args.words.now) in
-      written_more c.put.new.into old text c.args.words.now c.to_le_bytes.result c.args.at c.loop-i.i c.loop-i-test.true c.to_le_bytes.ensures
+      let n : length (text ++ flat_map (le_bytes 4) (take c.loop-i.i c.args.words.now)) ≡ c.args.at + 4 * c.loop-i.i
+      = omega (
+        arith,
+        length-append text (flat_map (le_bytes 4) (take c.loop-i.i c.args.words.now)),
+        length-words
+            (take c.loop-i.i c.args.words.now),
+        length-take c.loop-i.i c.args.words.now,
+      ) in
+      written_more c.put.new.into old text c.args.words.now c.to_le_bytes.result c.args.at c.loop-i.i
+      c.loop-i-test.true c.to_le_bytes.ensures
       (c.put.ensures old (text ++ flat_map (le_bytes 4) (take c.loop-i.i c.args.words.now)) n so_far);
-  fit = fit_more c.args.words.now c.loop-i.i c.loop-i-test.true c.loop-i.invariant.fit (omega (arith, c.type_inv.words c.loop-i.i));
+  fit = fit_more c.args.words.now c.loop-i.i c.loop-i-test.true c.loop-i.invariant.fit
+      (omega (arith, c.type_inv.words c.loop-i.i));
 }

@@ -25,4 +25,5 @@ returns-then-from-count c = λ sid words e.
 pub returns : goal.returns
 returns c = λ sid words e.
     let b = begun sid c.args.bytes.now (λ i. omega (arith, c.type_inv.bytes i)) e in
-    eq-eqb _ _ (c.word_at.ensures ∙ begun_last sid c.args.bytes.now b (length c.args.words.now) (sym (ap length words)) ∙ ap (λ (xs : _). get_or xs (length c.args.words.now - 1) 0) words)
+    eq-eqb _ _ (c.word_at.ensures ∙ begun_last sid c.args.bytes.now b (length c.args.words.now)
+    (sym (ap length words)) ∙ ap (λ (xs : _). get_or xs (length c.args.words.now - 1) 0) words)

@@ -9,7 +9,8 @@ use Rattle.ad_ids.proofs.sid_index.begun_in.Given as goal
 abbrev pub invariant-loop-end : goal.invariant-loop-end
 invariant-loop-end l = record {
   within : l.end ≤ length l.items;
-  chain : (sid : SidValue) (rest : List ℕ) → sid_at l.bytes ≡ Ok (sid, rest) → IsChainFrom (bucket_of l.fn.key) l.end l.items sid;
+  chain : (sid : SidValue) (rest : List ℕ) → sid_at l.bytes ≡ Ok (sid, rest) → IsChainFrom (bucket_of l.fn.key) l.end
+      l.items sid;
 }
 
 abbrev pub decreases-loop-end : goal.decreases-loop-end

@@ -11,7 +11,8 @@ unfolding groups_at
 returns-in_err-mark c =
     let p = err_from_is_err_and c.from_residual.result c.from_residual.ensures.1 in
     let so_far = c.loop.invariant in
-    rw (p.1, p.2) (λ _. rw (ends marked_at c.in_err-mark.field-0.0 so_far.0 c.args.count c.loop.counter c.loop.input (many_at marked_at c.args.count c.args.input.now) c.loop-test.true c.in_err-mark.ensures so_far.3) refl)
+    rw (p.1, p.2) (λ _. rw (ends marked_at c.in_err-mark.field-0.0 so_far.0 c.args.count c.loop.counter c.loop.input
+    (many_at marked_at c.args.count c.args.input.now) c.loop-test.true c.in_err-mark.ensures so_far.3) refl)
 
 pub loop-preserved : goal.loop-preserved
 loop-preserved c =
@@ -21,11 +22,19 @@ loop-preserved c =
       so_far.0 ++ (mark, sid) ∷ [],
       c.in_ok-put_group.ensures.enabled ∙ rw (so_far.1, enabled_of-push so_far.0 mark sid) refl,
       c.in_ok-put_group.ensures.deny_only ∙ rw (so_far.2, deny_only_of-push so_far.0 mark sid) refl,
-      goes_on marked_at so_far.0 c.args.count c.loop.counter c.loop.input (mark, sid) c.marked.new.input (many_at marked_at c.args.count c.args.input.now) c.loop-test.true c.in_ok-mark.ensures so_far.3,
+      goes_on marked_at so_far.0 c.args.count c.loop.counter c.loop.input (mark, sid) c.marked.new.input
+          (many_at marked_at c.args.count c.args.input.now) c.loop-test.true c.in_ok-mark.ensures so_far.3,
     )
 
 pub returns : goal.returns
 unfolding groups_at
 returns c =
     let so_far = c.loop.invariant in
-    rw (c.indexed.ensures, c.indexed-2.ensures, is_done marked_at so_far.0 c.args.count c.loop.counter c.loop.input (many_at marked_at c.args.count c.args.input.now) c.loop-test.false so_far.3, so_far.1, so_far.2) refl
+    rw (
+      c.indexed.ensures,
+      c.indexed-2.ensures,
+      is_done marked_at so_far.0 c.args.count c.loop.counter c.loop.input
+          (many_at marked_at c.args.count c.args.input.now) c.loop-test.false so_far.3,
+      so_far.1,
+      so_far.2,
+    ) refl

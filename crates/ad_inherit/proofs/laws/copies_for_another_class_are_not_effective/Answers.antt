@@ -5,4 +5,5 @@ use Rattle.ad_inherit.proofs.CopyFlags.{none_effective}
 use Rattle.ad_inherit.proofs.laws.copies_for_another_class_are_not_effective.Goals as goal
 
 pub returns : goal.returns
-returns c = λ entry class owner group unfit. AllPass-from_list_all (λ copy. has copy inherit_only) (copies entry class owner group) (none_effective entry class owner group unfit)
+returns c = λ entry class owner group unfit. AllPass-from_list_all (λ copy. has copy inherit_only)
+    (copies entry class owner group) (none_effective entry class owner group unfit)

@@ -5,4 +5,5 @@ use Rattle.ad_inherit.proofs.lists.explicit_of_view.Given as goal
 
 -- the explicit entries so far and those that are left are those of the whole
 abbrev pub invariant-loop-ace : goal.invariant-loop-ace
-invariant-loop-ace l = l.aces ++ explicit_entries (entries_left l.ace-iterator) ≡ explicit_entries (entries_left l.fn.entries)
+invariant-loop-ace l = l.aces ++ explicit_entries (entries_left l.ace-iterator)
+    ≡ explicit_entries (entries_left l.fn.entries)

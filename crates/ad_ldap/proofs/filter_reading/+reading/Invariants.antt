@@ -25,7 +25,8 @@ abbrev pub decreases-alone : goal.decreases-alone
 decreases-alone l = 4 * l.levels + 1
 
 abbrev pub invariant-filters-each : goal.invariant-filters-each
-invariant-filters-each l = IsReading (filter_at l.levels l.end) (filters_seen l.filters) l.input (each_of (filter_at l.levels) l.end l.fn.input)
+invariant-filters-each l = IsReading (filter_at l.levels l.end) (filters_seen l.filters) l.input
+    (each_of (filter_at l.levels) l.end l.fn.input)
 
 abbrev pub decreases-filters-each : goal.decreases-filters-each
 decreases-filters-each l = length l.input

@@ -8,7 +8,8 @@ use Rattle.ad_ldap.proofs.judging.controls_fault.Goals as goal
 
 pub returns-in-None : goal.returns-in-None
 returns-in-None c =
-    c.first_own_fault.ensures ∙ ap (first_own (op_seen c.args.op.now)) c.as_slice-items.ensures ∙ own_alone (op_seen c.args.op.now) [] c.args.controls.now c.in-None.ensures
+    c.first_own_fault.ensures ∙ ap (first_own (op_seen c.args.op.now)) c.as_slice-items.ensures
+    ∙ own_alone (op_seen c.args.op.now) [] c.args.controls.now c.in-None.ensures
 
 pub fault_up_to-requires : goal.fault_up_to-requires
 fault_up_to-requires c = subst (IsAgainAt c.in-Some.place) (sym c.as_slice-items.ensures) c.in-Some.ensures

@@ -12,11 +12,20 @@ each-init c = rw c.new-controls.ensures (each_starts (inside_at 48 control_of c.
 pub returns-in_err-control : goal.returns-in_err-control
 returns-in_err-control c =
     let p = err_from_is_err_and c.from_residual.result c.from_residual.ensures.1 in
-    rw (p.1, p.2) (λ h. each_stops (inside_at 48 control_of c.args.end) c.each.controls c.each.input c.in_err-control.field-0.0 (each_of (inside_at 48 control_of) c.args.end c.args.input.now) (eqb-false _ _ (sym c.is_empty.ensures ∙ c.each-test.true)) (c.in_err-control.ensures.read h) c.each.invariant)
+    rw (p.1, p.2) (λ h. each_stops (inside_at 48 control_of c.args.end) c.each.controls c.each.input
+    c.in_err-control.field-0.0 (each_of (inside_at 48 control_of) c.args.end c.args.input.now)
+    (eqb-false _ _ (sym c.is_empty.ensures ∙ c.each-test.true)) (c.in_err-control.ensures.read h)
+    c.each.invariant)
 
 pub each-preserved : goal.each-preserved
 each-preserved c =
-    rw c.in_ok-push.ensures.ok (each_goes_on (inside_at 48 control_of c.args.end) c.each.controls c.each.input c.in_ok-control.control c.control_inside.new.input (each_of (inside_at 48 control_of) c.args.end c.args.input.now) (eqb-false _ _ (sym c.is_empty.ensures ∙ c.each-test.true)) c.in_ok-control.ensures.read c.in_ok-control.ensures.left c.each.invariant)
+    rw c.in_ok-push.ensures.ok (each_goes_on (inside_at 48 control_of c.args.end) c.each.controls c.each.input
+    c.in_ok-control.control c.control_inside.new.input
+    (each_of (inside_at 48 control_of) c.args.end c.args.input.now)
+    (eqb-false _ _ (sym c.is_empty.ensures ∙ c.each-test.true)) c.in_ok-control.ensures.read
+    c.in_ok-control.ensures.left c.each.invariant)
 
 pub returns : goal.returns
-returns c = each_done (inside_at 48 control_of c.args.end) c.each.controls c.each.input (each_of (inside_at 48 control_of) c.args.end c.args.input.now) (eqb-true _ _ (sym c.is_empty.ensures ∙ c.each-test.false)) c.each.invariant
+returns c = each_done (inside_at 48 control_of c.args.end) c.each.controls c.each.input
+    (each_of (inside_at 48 control_of) c.args.end c.args.input.now)
+    (eqb-true _ _ (sym c.is_empty.ensures ∙ c.each-test.false)) c.each.invariant

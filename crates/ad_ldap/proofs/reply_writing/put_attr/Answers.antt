@@ -11,11 +11,17 @@ returns c =
     let values = c.args.attr.now.1 in
     let body = c.in_ok-body.body in
     let set = c.in_ok-values.values in
-    let is_set : set ≡ length (values_bytes values) = c.in_ok-values.ensures ∙ ap (λ (vs : List (List ℕ)). length (values_bytes vs)) c.as_slice.ensures in
+    let is_set : set ≡ length (values_bytes values) = c.in_ok-values.ensures
+    ∙ ap (λ (vs : List (List ℕ)). length (values_bytes vs)) c.as_slice.ensures in
     let front : c.put.new.into.items ≡ (old ++ header 48 body) ++ element_bytes 4 name =
-    c.in_ok-put.ensures.ok ∙ ap (λ (t : List ℕ). t ++ element_bytes 4 c.as_slice-2.result.now) c.in_ok-put_header.ensures.ok ∙ ap (λ (n : List ℕ). (old ++ header 48 body) ++ element_bytes 4 n) c.as_slice-2.ensures in
-    let whole : c.put_values.new.into.items ≡ (((old ++ header 48 body) ++ element_bytes 4 name) ++ header 49 set) ++ values_bytes values =
+    c.in_ok-put.ensures.ok ∙ ap (λ (t : List ℕ). t ++ element_bytes 4 c.as_slice-2.result.now)
+    c.in_ok-put_header.ensures.ok ∙ ap (λ (n : List ℕ). (old ++ header 48 body) ++ element_bytes 4 n)
+    c.as_slice-2.ensures in
+    let whole : c.put_values.new.into.items ≡ (((old ++ header 48 body) ++ element_bytes 4 name) ++ header 49 set)
+    ++ values_bytes values =
     c.in_ok-put_values.ensures
-    ∙ ap (λ (t : List ℕ). t ++ values_bytes c.as_slice-3.result.now) (c.in_ok-put_header-2.ensures.ok ∙ ap (λ (t : List ℕ). t ++ header 49 set) front)
-    ∙ ap (λ (vs : List (List ℕ)). (((old ++ header 48 body) ++ element_bytes 4 name) ++ header 49 set) ++ values_bytes vs) c.as_slice-3.ensures in
+    ∙ ap (λ (t : List ℕ). t ++ values_bytes c.as_slice-3.result.now)
+    (c.in_ok-put_header-2.ensures.ok ∙ ap (λ (t : List ℕ). t ++ header 49 set) front)
+    ∙ ap (λ (vs : List (List ℕ)). (((old ++ header 48 body) ++ element_bytes 4 name) ++ header 49 set)
+    ++ values_bytes vs) c.as_slice-3.ensures in
     attr_joined old c.put_values.new.into.items name values body set c.in_ok-body.ensures is_set whole

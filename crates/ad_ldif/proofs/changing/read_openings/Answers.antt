@@ -8,7 +8,8 @@ pub returns-in_err-control-clause-opened : goal.returns-in_err-control-clause-op
 returns-in_err-control-clause-opened c =
     let p = err_from_is_err_and c.from_residual-in_err-control.result c.from_residual-in_err-control.ensures.1 in
     let cut = rw c.in-Some.is at c.in_ok-line.ensures.lines in
-    rw (p.1, p.2) (fails_by _ _ _ c.lines.invariant.opened (bad_line _ _ _ _ _ c.in_err-control.field-0.0 cut c.in_err-control.ensures))
+    rw (p.1, p.2) (fails_by _ _ _ c.lines.invariant.opened
+    (bad_line _ _ _ _ _ c.in_err-control.field-0.0 cut c.in_err-control.ensures))
 
 pub returns-in-Type-clause-opened : goal.returns-in-Type-clause-opened
 returns-in-Type-clause-opened c =
@@ -19,7 +20,8 @@ pub lines-preserved-in_ok-push-in-Control : goal.lines-preserved-in_ok-push-in-C
 lines-preserved-in_ok-push-in-Control c =
     let cut = rw c.in-Some.is at c.in_ok-line.ensures.lines in
     record {
-      opened = c.lines.invariant.opened ∙ rw c.in_ok-push-in-Control.ensures.ok (one_control _ _ _ _ _ _ cut (rw c.in-Control.is at c.in_ok-control.ensures));
+      opened = c.lines.invariant.opened ∙ rw c.in_ok-push-in-Control.ensures.ok
+          (one_control _ _ _ _ _ _ cut (rw c.in-Control.is at c.in_ok-control.ensures));
       others = c.lines.invariant.others ∙ rw c.in-Some.is at c.in_ok-line.ensures.others;
     }
 
@@ -27,7 +29,8 @@ pub lines-preserved : goal.lines-preserved
 lines-preserved c =
     let cut = rw c.in-Some.is at c.in_ok-line.ensures.lines in
     record {
-      opened = c.lines.invariant.opened ∙ rw c.in_ok-push-in-Control.ensures.ok (one_control _ _ _ _ _ _ cut (rw c.in-Control.is at c.in_ok-control.ensures));
+      opened = c.lines.invariant.opened ∙ rw c.in_ok-push-in-Control.ensures.ok
+          (one_control _ _ _ _ _ _ cut (rw c.in-Control.is at c.in_ok-control.ensures));
       others = c.lines.invariant.others ∙ rw c.in-Some.is at c.in_ok-line.ensures.others;
     }
 

@@ -6,18 +6,23 @@ use Rattle.ad_ldif.proofs.FoldLemmas.{one_passed, all_passed}
 use Rattle.ad_ldif.proofs.folded.folded_of.Goals as goal
 
 pub slice_bounds-extend_from_slice-count : goal.slice_bounds-extend_from_slice-count
-slice_bounds-extend_from_slice-count c = begun 32 _ _ _ refl refl (sym c.begins_with.ensures ∙ c.lines-test.true) c.cut.ensures.line
+slice_bounds-extend_from_slice-count c = begun 32 _ _ _ refl refl (sym c.begins_with.ensures ∙ c.lines-test.true)
+    c.cut.ensures.line
 
 pub slice_bounds-extend_from_slice-start : goal.slice_bounds-extend_from_slice-start
-slice_bounds-extend_from_slice-start c = begun 32 _ _ _ refl refl (sym c.begins_with.ensures ∙ c.lines-test.true) c.cut.ensures.line
+slice_bounds-extend_from_slice-start c = begun 32 _ _ _ refl refl (sym c.begins_with.ensures ∙ c.lines-test.true)
+    c.cut.ensures.line
 
 pub lines-preserved : goal.lines-preserved
 lines-preserved c =
     let items : c.extend_from_slice.new.self.items ≡ c.lines.tail.items ++ behind_first c.cut.result.0.now =
-    c.in_ok-extend_from_slice.ensures.items ∙ ap (λ (more : List ℕ). c.lines.tail.items ++ more) (behind_first_is c.cut.result.0.now) in
+    c.in_ok-extend_from_slice.ensures.items ∙ ap (λ (more : List ℕ). c.lines.tail.items ++ more)
+    (behind_first_is c.cut.result.0.now) in
     record {
-      adds = subst (λ (tail : List ℕ). Adds (physical c.args.raw.now) tail (c.lines.count + 1) (physical c.cut.result.1.now)) (sym items)
-          (one_passed _ _ _ _ _ _ (sym c.begins_with.ensures ∙ c.lines-test.true) c.cut.ensures.line c.lines.invariant.adds);
+      adds = subst (λ (tail : List ℕ). Adds (physical c.args.raw.now) tail (c.lines.count + 1)
+          (physical c.cut.result.1.now)) (sym items)
+          (one_passed _ _ _ _ _ _ (sym c.begins_with.ensures ∙ c.lines-test.true) c.cut.ensures.line
+          c.lines.invariant.adds);
       few = omega (arith, c.cut.ensures.shorter, c.lines.invariant.few);
     }
 

@@ -17,9 +17,11 @@ returns-in_err-fields-clause-fields c =
 
 pub returns-in_err-read_fields-clause-fields : goal.returns-in_err-read_fields-clause-fields
 returns-in_err-read_fields-clause-fields c =
-    let p = err_from_is_err_and c.from_residual-in_err-read_fields.result c.from_residual-in_err-read_fields.ensures.1 in
+    let p = err_from_is_err_and c.from_residual-in_err-read_fields.result c.from_residual-in_err-read_fields.ensures.1
+    in
     let cut = rw c.in-Some.is at c.in_ok-line.ensures.lines in
-    rw (p.1, p.2) (fails_by c.in_err-read_fields.field-0.0 _ _ (body_behind _ _ _ _ cut c.in_ok-fields.ensures) c.in_err-read_fields.ensures.fields)
+    rw (p.1, p.2) (fails_by c.in_err-read_fields.field-0.0 _ _ (body_behind _ _ _ _ cut c.in_ok-fields.ensures)
+    c.in_err-read_fields.ensures.fields)
 
 pub returns-clause-fields : goal.returns-clause-fields
 returns-clause-fields c =

@@ -9,7 +9,8 @@ returns-in_err-read_field-clause-fields c =
     let p = err_from_is_err_and c.from_residual-in_err-read_field.result c.from_residual-in_err-read_field.ensures.1 in
     let cut = rw c.in-Some.is at c.in_ok-line.ensures.lines in
     let bad = rw c.bytes.ensures at c.in_err-read_field.ensures in
-    rw (p.1, p.2) (fails_by _ _ _ c.loop-line.invariant.fields (bad_field _ _ _ _ c.in_err-read_field.field-0.0 cut bad))
+    rw (p.1, p.2) (fails_by _ _ _ c.loop-line.invariant.fields
+    (bad_field _ _ _ _ c.in_err-read_field.field-0.0 cut bad))
 
 pub loop-line-preserved : goal.loop-line-preserved
 loop-line-preserved c =

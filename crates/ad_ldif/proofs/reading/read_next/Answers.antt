@@ -9,7 +9,8 @@ returns-in_default-clause-told c =
 
 pub returns-in_err-read_record-clause-told : goal.returns-in_err-read_record-clause-told
 returns-in_err-read_record-clause-told c =
-    let p = err_from_is_err_and c.from_residual-in_err-read_record.result c.from_residual-in_err-read_record.ensures.1 in
+    let p = err_from_is_err_and c.from_residual-in_err-read_record.result c.from_residual-in_err-read_record.ensures.1
+    in
     let cut = rw c.in-Some.is at c.in_ok-first.ensures.records in
     rw (p.1, p.2) (fault_told _ _ _ c.in_err-read_record.field-0.0 _ cut c.in_err-read_record.ensures.entry)
 

@@ -6,4 +6,5 @@ use Rattle.ad_acl.specs.Entry.{Entry}
 use Rattle.ad_ldifmod.proofs.kept.take_out.Goals as goal
 
 pub returns : goal.returns
-returns c = filter_same _ (λ (entry : Entry). not (same_sid entry.sid c.args.sid)) _ (λ x b f' k. search rules) _ _ c.retain.ensures.filtered
+returns c = filter_same _ (λ (entry : Entry). not (same_sid entry.sid c.args.sid)) _ (λ x b f' k. search rules) _ _
+    c.retain.ensures.filtered

@@ -7,4 +7,5 @@ use Rattle.ad_ldifmod.proofs.messages.message_of.Goals as goal
 
 pub fits-requires : goal.fits-requires
 fits-requires c =
-    subst (λ (m : Message). IsWritable (message_seen m)) (sym c.in_ok-message.ensures) (writable c.args.id c.args.name.now c.in-Ok.sd c.requires.from (omega (arith, c.requires.to)))
+    subst (λ (m : Message). IsWritable (message_seen m)) (sym c.in_ok-message.ensures)
+    (writable c.args.id c.args.name.now c.in-Ok.sd c.requires.from (omega (arith, c.requires.to)))

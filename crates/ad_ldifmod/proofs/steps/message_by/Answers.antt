@@ -10,13 +10,25 @@ use Rattle.ad_ldifmod.proofs.steps.message_by.Goals as goal
 pub returns-clause-message : goal.returns-clause-message
 returns-clause-message c =
     subst (λ (r : Result Message Stop). GivesUnless is_memory_stop (λ (m : Message). m) c.renewed.result r)
-    (sym (message_is c.args.dir.now (lists_in c.args.dir.now c.args.kept.now) c.args.id c.args.line.now (parts_seen c.in_ok-parts.parts) c.in_ok-change.change c.in_ok-number.number
-    (record { parts_are = c.in_ok-parts.ensures; change_is = c.in_ok-change.ensures; number_is = c.in_ok-number.ensures.named })))
+    (sym (message_is c.args.dir.now (lists_in c.args.dir.now c.args.kept.now) c.args.id c.args.line.now
+    (parts_seen c.in_ok-parts.parts) c.in_ok-change.change c.in_ok-number.number
+    (record {
+      parts_are = c.in_ok-parts.ensures;
+      change_is = c.in_ok-change.ensures;
+      number_is
+          = c.in_ok-number.ensures.named;
+    })))
     c.renewed.ensures.message
 
 pub returns-clause-lists : goal.returns-clause-lists
 returns-clause-lists c =
     on_ok_weaker c.renewed.result
-    (λ changed. lists_are c.args.dir.now c.args.kept.now c.renewed.new.kept c.args.line.now (parts_seen c.in_ok-parts.parts) c.in_ok-change.change c.in_ok-number.number
-    (record { parts_are = c.in_ok-parts.ensures; change_is = c.in_ok-change.ensures; number_is = c.in_ok-number.ensures.named }) changed)
+    (λ changed. lists_are c.args.dir.now c.args.kept.now c.renewed.new.kept c.args.line.now
+    (parts_seen c.in_ok-parts.parts) c.in_ok-change.change c.in_ok-number.number
+    (record {
+      parts_are = c.in_ok-parts.ensures;
+      change_is = c.in_ok-change.ensures;
+      number_is
+          = c.in_ok-number.ensures.named;
+    }) changed)
     c.renewed.ensures.lists

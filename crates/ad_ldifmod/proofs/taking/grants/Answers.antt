@@ -10,7 +10,8 @@ pub returns-in_err-take_lines-clause-given : goal.returns-in_err-take_lines-clau
 returns-in_err-take_lines-clause-given c =
     let none : (n : ℕ) → get nat_eq c.new-kept.result n ≡ None = λ n. rw c.new-kept.ensures.empty refl in
     let p = err_from_is_err_and c.from_residual.result c.from_residual.ensures.1 in
-    rw (p.1, p.2) (λ real. sym (begins c.args.dir.now c.new-kept.result c.args.text.now none) ∙ c.in_err-take_lines.ensures.faulty real)
+    rw (p.1, p.2) (λ real. sym (begins c.args.dir.now c.new-kept.result c.args.text.now none)
+    ∙ c.in_err-take_lines.ensures.faulty real)
 
 pub returns-clause-given : goal.returns-clause-given
 returns-clause-given c =

@@ -17,8 +17,10 @@ lines-preserved c =
     let line = c.line-item.result in
     let i = c.lines.line-index in
     let more : take (i + 1) c.args.lines.now ≡ take i c.args.lines.now ++ line ∷ [] =
-    take_more c.args.lines.now i line c.lines-test.true ∙ ap (λ (l : LdifLine). take i c.args.lines.now ++ l ∷ []) (sym c.line-item.is) in
+    take_more c.args.lines.now i line c.lines-test.true ∙ ap (λ (l : LdifLine). take i c.args.lines.now ++ l ∷ [])
+    (sym c.line-item.is) in
     record {
       names = c.in_ok-put_line.ensures.names;
-      attrs = c.in_ok-put_line.ensures.attrs ∙ ap (λ attrs. and_line attrs (field_of line)) c.lines.invariant.attrs ∙ one_grouped (take i c.args.lines.now) (take (i + 1) c.args.lines.now) line more;
+      attrs = c.in_ok-put_line.ensures.attrs ∙ ap (λ attrs. and_line attrs (field_of line)) c.lines.invariant.attrs
+          ∙ one_grouped (take i c.args.lines.now) (take (i + 1) c.args.lines.now) line more;
     }

@@ -19,6 +19,13 @@ returns-in_err-next_rid g c =
 pub returns : goal.returns
 returns g c =
     let counted = c.args.counted in
-    let meta : Meta = record { next_number = counted.next_number; next_rid = c.in_ok-next_rid.next_rid; suffix = counted.suffix.rdns } in
+    let meta : Meta = record {
+      next_number = counted.next_number;
+      next_rid = c.in_ok-next_rid.next_rid;
+      suffix
+          = counted.suffix.rdns;
+    } in
     c.in_ok-next_rid.ensures
-    ∙ ap (λ (os : List (ObjectIn × Sd)). Ok (record { schema = c.args.schema.now; objects = map entry_seen os; pending = []; meta = meta })) c.as_slice.ensures.value
+    ∙ ap (λ (os : List (ObjectIn × Sd)). Ok
+    (record { schema = c.args.schema.now; objects = map entry_seen os; pending = []; meta = meta }))
+    c.as_slice.ensures.value

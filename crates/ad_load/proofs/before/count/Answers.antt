@@ -10,7 +10,8 @@ returns c =
     let drafts = map draft_seen c.args.drafts.now in
     record {
       number = omega (arith, length-map c.args.drafts.now draft_seen);
-      rid = c.next_rid-next_rid.ensures ∙ ap (λ (d : Option SidValue). next_rid c.args.schema.now d drafts) c.requires.domain;
+      rid = c.next_rid-next_rid.ensures ∙ ap (λ (d : Option SidValue). next_rid c.args.schema.now d drafts)
+          c.requires.domain;
       suffix = c.in_ok-suffix.ensures;
       shallow = c.are_shallow-shallow.ensures;
     }

@@ -27,7 +27,8 @@ pub returns-in_err-objects : goal.returns-in_err-objects
 returns-in_err-objects g c =
     let p = err_from_is_err_and c.from_residual-in_err-objects.result c.from_residual-in_err-objects.ensures.1 in
     let all = ap (objects_of c.args.schema.now) c.requires.1.1 in
-    rw (p.1, p.2) (λ m. objects_stop c.args.schema.now g.all c.in_err-objects.field-0.0 (all ∙ c.in_err-objects.ensures m))
+    rw (p.1, p.2) (λ m. objects_stop c.args.schema.now g.all c.in_err-objects.field-0.0
+    (all ∙ c.in_err-objects.ensures m))
 
 pub before_of-requires : goal.before_of-requires
 before_of-requires g c =
@@ -42,7 +43,8 @@ before_of-requires g c =
         (
           ap (objects_of schema) same ∙ c.in_ok-objects.ensures,
           subst (λ (ds : List Draft). IsCounted schema ds c.in_ok-counted.counted)
-              (ap (λ (ds : List HeldDraft). map draft_seen ds) c.as_slice-items.ensures.value ∙ sym same) c.in_ok-counted.ensures,
+              (ap (λ (ds : List HeldDraft). map draft_seen ds) c.as_slice-items.ensures.value ∙ sym same)
+              c.in_ok-counted.ensures,
         ),
       ),
     )

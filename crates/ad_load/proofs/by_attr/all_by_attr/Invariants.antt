@@ -9,7 +9,8 @@ use Rattle.ad_load.proofs.by_attr.all_by_attr.Given as goal
 -- the values so far, and those to come
 abbrev pub invariant-loop-one : goal.invariant-loop-one
 invariant-loop-one g l = record {
-  made : through (with_given l.schema g.all) (by_attr l.values.entries) (map given_seen (into_iter_items l.one-iterator))
+  made : through (with_given l.schema g.all) (by_attr l.values.entries)
+      (map given_seen (into_iter_items l.one-iterator))
       ≡ through (with_given l.schema g.all) [] (map given_seen (into_iter_items l.initial.one-iterator));
   len : into_iter_len l.one-iterator ≡ length (into_iter_items l.one-iterator);
 }

@@ -11,10 +11,12 @@ pub returns : goal.returns
 returns c =
     let es = c.args.values.now.entries in
     let attr = c.args.attr.0 in
-    let first = c.in_ok-held.ensures.entries ∙ ap (λ (none : List StoredIn). insert_entry nat_cmp es attr none) c.new.ensures in
+    let first = c.in_ok-held.ensures.entries ∙ ap (λ (none : List StoredIn). insert_entry nat_cmp es attr none)
+    c.new.ensures in
     let all : c.push.new.self ≡ more attr es c.args.value =
     c.in_ok-push.ensures.ok
-    ∙ ap (λ (vs : List StoredIn). vs ++ c.args.value ∷ []) (c.or_none-all.ensures ∙ ap (λ (o : Option (List StoredIn)). unwrap_or o []) c.in_ok-held.ensures.old) in
+    ∙ ap (λ (vs : List StoredIn). vs ++ c.args.value ∷ [])
+    (c.or_none-all.ensures ∙ ap (λ (o : Option (List StoredIn)). unwrap_or o []) c.in_ok-held.ensures.old) in
     ap by_attr (c.in_ok-insert.ensures.entries
     ∙ ap (λ (xs : Entries). insert_entry nat_cmp xs attr c.push.new.self) first
     ∙ ap (λ (vs : List StoredIn). insert_entry nat_cmp (insert_entry nat_cmp es attr []) attr vs) all)

@@ -10,7 +10,8 @@ loop-draft-preserved c = record {
       ap (λ (n : ℕ). above_all c.args.schema.now c.args.domain.now n
       (map draft_seen (drop (c.loop-draft.draft-index + 1) c.args.drafts.now))) (c.above-n.ensures.value
       ∙ ap (above c.loop-draft.n) c.draft_rid.ensures)
-      ∙ sym (above_next c.args.schema.now c.args.domain.now c.loop-draft.n c.args.drafts.now c.loop-draft.draft-index c.draft-item.result c.loop-draft-test.true
+      ∙ sym (above_next c.args.schema.now c.args.domain.now c.loop-draft.n c.args.drafts.now c.loop-draft.draft-index
+      c.draft-item.result c.loop-draft-test.true
       (sym c.draft-item.is))
       ∙ c.loop-draft.invariant.value;
   small = c.above-n.ensures.small;
@@ -18,5 +19,6 @@ loop-draft-preserved c = record {
 
 pub returns-clause-value : goal.returns-clause-value
 returns-clause-value c = sym
-    (above_end c.args.schema.now c.args.domain.now c.loop-draft.n c.args.drafts.now c.loop-draft.draft-index c.loop-draft-test.false)
+    (above_end c.args.schema.now c.args.domain.now c.loop-draft.n c.args.drafts.now c.loop-draft.draft-index
+    c.loop-draft-test.false)
     ∙ c.loop-draft.invariant.value

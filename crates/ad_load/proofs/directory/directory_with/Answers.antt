@@ -11,8 +11,10 @@ returns-in_err-parts-clause-loaded c =
     rw (p.1, p.2) (λ text read m. c.in_err-parts.ensures.loaded text read m)
 
 pub returns-clause-loaded : goal.returns-clause-loaded
-returns-clause-loaded c = λ text read. c.in_ok-parts.ensures.loaded text read ∙ ap (λ (dir : Directory). Ok dir) (sym c.in_ok-into_dir.ensures)
+returns-clause-loaded c = λ text read. c.in_ok-parts.ensures.loaded text read ∙ ap (λ (dir : Directory). Ok dir)
+    (sym c.in_ok-into_dir.ensures)
 
 pub returns-clause-scratch : goal.returns-clause-scratch
-returns-clause-scratch c = λ number live. settled_scratch c.in_ok-into_dir.field-0 (subst IsSound (sym c.in_ok-into_dir.ensures) c.in_ok-parts.ensures.sound)
+returns-clause-scratch c = λ number live. settled_scratch c.in_ok-into_dir.field-0
+    (subst IsSound (sym c.in_ok-into_dir.ensures) c.in_ok-parts.ensures.sound)
     (ap (λ (dir : Directory). dir.pending) c.in_ok-into_dir.ensures ∙ c.in_ok-parts.ensures.empty) number live

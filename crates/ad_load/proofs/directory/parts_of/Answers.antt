@@ -19,21 +19,24 @@ returns-in_err-schema-clause-loaded c =
 
 pub made_of-requires-clause-short : goal.made_of-requires-clause-short
 made_of-requires-clause-short c =
-    let of_records = ap (λ (rs : List Held). schema_of (map seen rs)) (sym c.as_slice-2.ensures.value) ∙ c.in_ok-schema.ensures in
+    let of_records = ap (λ (rs : List Held). schema_of (map seen rs)) (sym c.as_slice-2.ensures.value)
+    ∙ c.in_ok-schema.ensures in
     schema_short (map seen c.args.records.items) c.in_ok-schema.schema
     (text_short c.requires.read.0 (map seen c.args.records.items) c.requires.read.1) of_records
 
 pub returns-in_err-before-clause-loaded : goal.returns-in_err-before-clause-loaded
 returns-in_err-before-clause-loaded c =
     let p = err_from_is_err_and c.from_residual-in_err-before.result c.from_residual-in_err-before.ensures.1 in
-    let of_records = ap (λ (rs : List Held). schema_of (map seen rs)) (sym c.as_slice-2.ensures.value) ∙ c.in_ok-schema.ensures in
+    let of_records = ap (λ (rs : List Held). schema_of (map seen rs)) (sym c.as_slice-2.ensures.value)
+    ∙ c.in_ok-schema.ensures in
     rw (p.1, p.2)
     (λ text read m. loaded_is text (map seen c.args.records.items) c.in_ok-schema.schema read of_records
     ∙ c.in_err-before.ensures.made m)
 
 pub returns-clause-loaded : goal.returns-clause-loaded
 returns-clause-loaded c =
-    let of_records = ap (λ (rs : List Held). schema_of (map seen rs)) (sym c.as_slice-2.ensures.value) ∙ c.in_ok-schema.ensures in
+    let of_records = ap (λ (rs : List Held). schema_of (map seen rs)) (sym c.as_slice-2.ensures.value)
+    ∙ c.in_ok-schema.ensures in
     λ text read. loaded_is text (map seen c.args.records.items) c.in_ok-schema.schema read of_records
     ∙ c.in_ok-before.ensures.made ∙ ap (λ (dir : Directory). Ok dir) (sym c.of.ensures)
 

@@ -11,5 +11,6 @@ use Rattle.ad_load.proofs.limits.are_shallow.Goals as goal
 pub returns : goal.returns
 returns c =
     c.all_shallow.ensures
-    ∙ ap (λ (root : ℕ). list_all (λ (draft : HeldDraft). nat_le (length draft.dn.rdns) (root + max_depth)) c.args.drafts.now) c.root_parts.ensures
+    ∙ ap (λ (root : ℕ). list_all (λ (draft : HeldDraft). nat_le (length draft.dn.rdns) (root + max_depth))
+    c.args.drafts.now) c.root_parts.ensures
     ∙ sym (all_seen (is_shallow (map draft_seen c.args.drafts.now)) draft_seen c.args.drafts.now)

@@ -10,7 +10,8 @@ pub returns-in-Some : goal.returns-in-Some
 returns-in-Some c =
     let at = ap (λ (xs : List Values). position (λ (held : Values). nat_le c.args.attr.0 held.0.0) xs)
     (sym c.as_slice.ensures.value) ∙ sym c.place_of.ensures.place ∙ c.in-Some.is in
-    ok_map c.put_at.result (λ e. e ∙ stored_at c.args.values.now.items c.in-Some.place c.args.attr.0 (stored_seen c.args.value) at) c.put_at.ensures
+    ok_map c.put_at.result (λ e. e ∙ stored_at c.args.values.now.items c.in-Some.place c.args.attr.0
+    (stored_seen c.args.value) at) c.put_at.ensures
 
 pub returns-in_ok-push-in-None : goal.returns-in_ok-push-in-None
 returns-in_ok-push-in-None c =

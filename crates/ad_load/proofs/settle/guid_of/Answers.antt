@@ -9,4 +9,5 @@ returns-in-Some c = guid_is c.args.schema.now c.args.class.0 (Some c.in-Some.inf
     (sym c.info_of.ensures ∙ ap (λ (o : Option (Bor ClassInfo)). option_copied o) c.in-Some.is)
 
 pub returns-in-None : goal.returns-in-None
-returns-in-None c = guid_is c.args.schema.now c.args.class.0 None (sym c.info_of.ensures ∙ ap (λ (o : Option (Bor ClassInfo)). option_copied o) c.in-None.is)
+returns-in-None c = guid_is c.args.schema.now c.args.class.0 None
+    (sym c.info_of.ensures ∙ ap (λ (o : Option (Bor ClassInfo)). option_copied o) c.in-None.is)

@@ -27,7 +27,8 @@ loop-place-preserved c =
           ∙ half_step dir c.requires.read c.requires.order c.loop-place.place own.0 c.in_ok-sd.sd own.1
           (
           c.in_ok-sd.ensures
-          ∙ ap (λ (os : List (ObjectIn × Sd)). settled_of c.args.schema.now (map entry_seen os) c.loop-place.place) c.as_slice.ensures.value
+          ∙ ap (λ (os : List (ObjectIn × Sd)). settled_of c.args.schema.now (map entry_seen os) c.loop-place.place)
+          c.as_slice.ensures.value
           ∙ ap (λ (os : List Object). settled_of c.args.schema.now os c.loop-place.place) c.loop-place.invariant.half
           );
       long = c.put_sd.ensures.len ∙ c.loop-place.invariant.long;

@@ -10,4 +10,5 @@ returns-clause-empty c = nothing_pends
 
 pub returns-clause-scratch : goal.returns-clause-scratch
 returns-clause-scratch c = λ text dir number fits is live.
-    settled_scratch dir (sound_text c.what_is_shown_reads_back.ensures.read text dir fits is) (nothing_pends text dir is) number live
+    settled_scratch dir (sound_text c.what_is_shown_reads_back.ensures.read text dir fits is)
+    (nothing_pends text dir is) number live

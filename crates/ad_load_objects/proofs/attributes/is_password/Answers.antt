@@ -6,4 +6,5 @@ use Rattle.ad_load_objects.proofs.attributes.is_password.Goals as goal
 
 pub returns-then-not-same_name : goal.returns-then-not-same_name
 returns-then-not-same_name c = sym (named_other c.args.schema.now (codes "unicodePwd") c.args.attr.0
-    (ap (λ (name : List ℕ). same_name name (codes "unicodePwd")) (sym c.own_name.ensures) ∙ sym c.same_name.ensures ∙ c.if-not-same_name.true))
+    (ap (λ (name : List ℕ). same_name name (codes "unicodePwd")) (sym c.own_name.ensures) ∙ sym c.same_name.ensures
+    ∙ c.if-not-same_name.true))

@@ -9,6 +9,7 @@ use Rattle.ad_load_objects.proofs.classes.classes_named.Given as goal
 abbrev pub invariant-loop-field : goal.invariant-loop-field
 invariant-loop-field l = record {
   made : through (with_class l.schema l.line) l.classes.items
-      (map held_field (drop l.field-index l.fields)) ≡ through (with_class l.schema l.line) [] (map held_field l.fields);
+      (map held_field (drop l.field-index l.fields)) ≡ through (with_class l.schema l.line) []
+      (map held_field l.fields);
   found : AreFound l.schema l.found.items;
 }

@@ -16,4 +16,5 @@ loop-one-preserved c =
     ∙ c.loop-one.invariant
 
 pub returns : goal.returns
-returns c = sym (given_none c.args.given.now c.loop-one.one-index c.args.attr.0 c.loop-one-test.false) ∙ c.loop-one.invariant
+returns c = sym (given_none c.args.given.now c.loop-one.one-index c.args.attr.0 c.loop-one-test.false)
+    ∙ c.loop-one.invariant

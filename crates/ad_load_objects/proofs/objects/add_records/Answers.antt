@@ -16,22 +16,26 @@ pub returns-in_err-add_record-clause-drafts : goal.returns-in_err-add_record-cla
 returns-in_err-add_record-clause-drafts c =
     let p = err_from_is_err_and c.from_residual.result c.from_residual.ensures.1 in
     let at = c.loop-one in
-    let all = ap (λ (rs : List Held). through (with_record c.args.schema.now) [] (map seen rs)) (sym c.into_iter-one-iterator.ensures.into_iter_gives.0) in
+    let all = ap (λ (rs : List Held). through (with_record c.args.schema.now) [] (map seen rs))
+    (sym c.into_iter-one-iterator.ensures.into_iter_gives.0) in
     rw (p.1, p.2) (λ m. all ∙ sym at.invariant.made ∙ taken_stops
-    (with_record c.args.schema.now) seen (into_iter_items at.one-iterator) (into_iter_items c.next.new.self) c.in-Some.one
+    (with_record c.args.schema.now) seen (into_iter_items at.one-iterator) (into_iter_items c.next.new.self)
+    c.in-Some.one
     (drafts_seen at.drafts) c.in_err-add_record.field-0.0 c.in-Some.ensures.steps.0
     (c.in_err-add_record.ensures.made m))
 
 pub loop-one-preserved : goal.loop-one-preserved
 loop-one-preserved c =
     let at = c.loop-one in
-    let steps : into_iter_items at.one-iterator ≡ c.in-Some.one ∷ into_iter_items c.next.new.self = c.in-Some.ensures.steps.0 in
+    let steps : into_iter_items at.one-iterator ≡ c.in-Some.one ∷ into_iter_items c.next.new.self
+    = c.in-Some.ensures.steps.0 in
     let short = ap length steps in
     let gone = c.in-Some.ensures.steps.1 in
     record {
       made =
           sym (taken_through
-          (with_record c.args.schema.now) seen (into_iter_items at.one-iterator) (into_iter_items c.next.new.self) c.in-Some.one
+          (with_record c.args.schema.now) seen (into_iter_items at.one-iterator) (into_iter_items c.next.new.self)
+          c.in-Some.one
           (drafts_seen at.drafts) (drafts_seen c.add_record.new.drafts) steps c.in_ok-add_record.ensures.made)
           ∙ at.invariant.made;
       len = omega (arith, short, gone, at.invariant.len);
@@ -53,7 +57,9 @@ loop-one-preserved c =
 pub returns-clause-drafts : goal.returns-clause-drafts
 returns-clause-drafts c =
     let at = c.loop-one in
-    let all = ap (λ (rs : List Held). through (with_record c.args.schema.now) [] (map seen rs)) (sym c.into_iter-one-iterator.ensures.into_iter_gives.0) in
+    let all = ap (λ (rs : List Held). through (with_record c.args.schema.now) [] (map seen rs))
+    (sym c.into_iter-one-iterator.ensures.into_iter_gives.0) in
     let none = c.in-None.ensures.steps.0 in
     all ∙ sym at.invariant.made ∙ all_taken
-    (with_record c.args.schema.now) seen (into_iter_items at.one-iterator) (drafts_seen at.drafts) (sym at.invariant.len ∙ none)
+    (with_record c.args.schema.now) seen (into_iter_items at.one-iterator) (drafts_seen at.drafts)
+    (sym at.invariant.len ∙ none)

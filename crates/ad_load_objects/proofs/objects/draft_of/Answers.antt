@@ -15,12 +15,28 @@ pub returns-in_err-kept-clause-made : goal.returns-in_err-kept-clause-made
 returns-in_err-kept-clause-made c =
     let p = err_from_is_err_and c.from_residual-in_err-kept.result c.from_residual-in_err-kept.ensures.1 in
     let at = c.in_ok-at.at in
-    let draft : Kept → Draft = λ (kept : Kept). record { rdns = c.args.one.dn.rdns; parent = at.parent; class = at.class.0; given = kept.given; sd = kept.sd } in
-    rw (p.1, p.2) (λ m. c.in_ok-at.ensures.stands ∙ ap (λ (r : Result Kept LoadFault). r >>= λ kept. Ok (draft kept)) (c.in_err-kept.ensures.made m))
+    let draft : Kept → Draft = λ (kept : Kept). record {
+      rdns = c.args.one.dn.rdns;
+      parent = at.parent;
+      class
+          = at.class.0;
+      given = kept.given;
+      sd = kept.sd;
+    } in
+    rw (p.1, p.2) (λ m. c.in_ok-at.ensures.stands ∙ ap (λ (r : Result Kept LoadFault). r >>= λ kept. Ok (draft kept))
+    (c.in_err-kept.ensures.made m))
 
 pub returns-clause-made : goal.returns-clause-made
 returns-clause-made c =
     let at = c.in_ok-at.at in
-    let draft : Kept → Draft = λ (kept : Kept). record { rdns = c.args.one.dn.rdns; parent = at.parent; class = at.class.0; given = kept.given; sd = kept.sd } in
-    c.in_ok-at.ensures.stands ∙ ap (λ (r : Result Kept LoadFault). r >>= λ kept. Ok (draft kept)) c.in_ok-kept.ensures.made
+    let draft : Kept → Draft = λ (kept : Kept). record {
+      rdns = c.args.one.dn.rdns;
+      parent = at.parent;
+      class
+          = at.class.0;
+      given = kept.given;
+      sd = kept.sd;
+    } in
+    c.in_ok-at.ensures.stands ∙ ap (λ (r : Result Kept LoadFault). r >>= λ kept. Ok (draft kept))
+    c.in_ok-kept.ensures.made
     ∙ ap (λ (d : Draft). Ok d) (sym c.draft_with-draft.ensures)

@@ -9,8 +9,10 @@ use Rattle.ad_load_objects.proofs.order.has_root.Goals as goal
 pub returns-then-is_object : goal.returns-then-is_object
 returns-then-is_object c =
     c.are_no_roots.ensures
-    ∙ ap (λ (rs : List Held). list_all (λ (other : Held). is_no_root (seen c.index-records-i.result) (seen other)) rs) c.behind.ensures
-    ∙ sym (root_here c.args.records.now c.loop-i.i c.index-records-i.result c.loop-i-test.true (sym c.index-records-i.is) c.if-is_object.ensures)
+    ∙ ap (λ (rs : List Held). list_all (λ (other : Held). is_no_root (seen c.index-records-i.result) (seen other)) rs)
+    c.behind.ensures
+    ∙ sym (root_here c.args.records.now c.loop-i.i c.index-records-i.result c.loop-i-test.true
+    (sym c.index-records-i.is) c.if-is_object.ensures)
     ∙ c.loop-i.invariant
 
 pub loop-i-preserved : goal.loop-i-preserved

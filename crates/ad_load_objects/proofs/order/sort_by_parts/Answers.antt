@@ -8,6 +8,7 @@ use Rattle.ad_load_objects.proofs.order.sort_by_parts.Goals as goal
 pub returns-clause-sorted : goal.returns-clause-sorted
 returns-clause-sorted c =
     is_sorted seen c.args.records.now.items c.sort_by_key.new.self.items
-    (c.in_ok-sort_by_key.ensures.stable (λ (r : Held). length (seen r).rdns) (answers_always _ _ _ (λ f a r q k. search rules)))
+    (c.in_ok-sort_by_key.ensures.stable (λ (r : Held). length (seen r).rdns)
+    (answers_always _ _ _ (λ f a r q k. search rules)))
     (IsNonDecreasingBy-from_sort_by_key (λ (r : Held). length
     (seen r).rdns) c.sort_by_key.new.self.items c.in_ok-sort_by_key.ensures.sorted (λ a r q k. search rules))

@@ -9,5 +9,6 @@ pub returns : goal.returns
 unfolding is_one_too_many
 returns c = subst
     (λ (single : Bool). IfOk c.push.result
-    (PutsUnless (list_any (is_same_given single c.args.one.attr.0 c.args.one.value) c.args.given.now) (given_seen c.args.one) c.args.given.now c.push.new.self))
+    (PutsUnless (list_any (is_same_given single c.args.one.attr.0 c.args.one.value) c.args.given.now)
+    (given_seen c.args.one) c.args.given.now c.push.new.self))
     c.is_single-single.ensures c.push.ensures

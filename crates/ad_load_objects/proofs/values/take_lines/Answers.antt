@@ -16,14 +16,17 @@ returns-in_err-take_line-clause-made c =
     let p = err_from_is_err_and c.from_residual-in_err-take_line.result c.from_residual-in_err-take_line.ensures.1 in
     let at = c.loop-field in
     let step = with_line c.args.schema.now (drafts_seen c.args.drafts.now) c.args.class.0 in
-    let all = ap (λ (fs : List HeldLine). through step nothing_kept (map held_field fs)) (sym c.into_iter-field-iterator.ensures.into_iter_gives.0) in
-    rw (p.1, p.2) (λ m. all ∙ sym at.invariant.made ∙ taken_stops step held_field (into_iter_items at.field-iterator) (into_iter_items c.next.new.self) c.in-Some.field
+    let all = ap (λ (fs : List HeldLine). through step nothing_kept (map held_field fs))
+    (sym c.into_iter-field-iterator.ensures.into_iter_gives.0) in
+    rw (p.1, p.2) (λ m. all ∙ sym at.invariant.made ∙ taken_stops step held_field (into_iter_items at.field-iterator)
+    (into_iter_items c.next.new.self) c.in-Some.field
     (kept_seen at.kept) c.in_err-take_line.field-0.0 c.in-Some.ensures.steps.0 (c.in_err-take_line.ensures.made m))
 
 pub loop-field-preserved : goal.loop-field-preserved
 loop-field-preserved c =
     let at = c.loop-field in
-    let steps : into_iter_items at.field-iterator ≡ c.in-Some.field ∷ into_iter_items c.next.new.self = c.in-Some.ensures.steps.0 in
+    let steps : into_iter_items at.field-iterator ≡ c.in-Some.field ∷ into_iter_items c.next.new.self
+    = c.in-Some.ensures.steps.0 in
     record {
       made =
           sym (taken_through (with_line c.args.schema.now (drafts_seen c.args.drafts.now) c.args.class.0) held_field
@@ -39,5 +42,7 @@ unfolding with_lines
 returns-clause-made c =
     let at = c.loop-field in
     let step = with_line c.args.schema.now (drafts_seen c.args.drafts.now) c.args.class.0 in
-    let all = ap (λ (fs : List HeldLine). through step nothing_kept (map held_field fs)) (sym c.into_iter-field-iterator.ensures.into_iter_gives.0) in
-    all ∙ sym at.invariant.made ∙ all_taken step held_field (into_iter_items at.field-iterator) (kept_seen at.kept) (sym at.invariant.len ∙ c.in-None.ensures.steps.0)
+    let all = ap (λ (fs : List HeldLine). through step nothing_kept (map held_field fs))
+    (sym c.into_iter-field-iterator.ensures.into_iter_gives.0) in
+    all ∙ sym at.invariant.made ∙ all_taken step held_field (into_iter_items at.field-iterator) (kept_seen at.kept)
+    (sym at.invariant.len ∙ c.in-None.ensures.steps.0)

@@ -11,8 +11,10 @@ use Rattle.ad_load_objects.proofs.values.take_lines.Given as goal
 -- what is kept so far, and the lines to come
 abbrev pub invariant-loop-field : goal.invariant-loop-field
 invariant-loop-field l = record {
-  made : through (with_line l.schema (drafts_seen l.drafts) l.class.0) (kept_seen l.kept) (map held_field (into_iter_items l.field-iterator))
-      ≡ through (with_line l.schema (drafts_seen l.drafts) l.class.0) nothing_kept (map held_field (into_iter_items l.initial.field-iterator));
+  made : through (with_line l.schema (drafts_seen l.drafts) l.class.0) (kept_seen l.kept)
+      (map held_field (into_iter_items l.field-iterator))
+      ≡ through (with_line l.schema (drafts_seen l.drafts) l.class.0) nothing_kept
+      (map held_field (into_iter_items l.initial.field-iterator));
   found : AreFound l.schema l.found.items;
   len : into_iter_len l.field-iterator ≡ length (into_iter_items l.field-iterator);
 }

@@ -6,4 +6,5 @@ use Rattle.ad_load_records.proofs.form.lines_are_bytes.Given as goal
 
 -- if the others are, all are
 abbrev pub invariant-loop-line : goal.invariant-loop-line
-invariant-loop-line l = AllByRecursion HasBytes (map held_field (drop l.line-index l.lines)) → AllByRecursion HasBytes (map held_field l.lines)
+invariant-loop-line l = AllByRecursion HasBytes (map held_field (drop l.line-index l.lines)) → AllByRecursion HasBytes
+    (map held_field l.lines)

@@ -13,7 +13,8 @@ use Rattle.ad_load_records.proofs.records.read_one.Goals as goal
 pub returns-in-Ok-None-clause-end : goal.returns-in-Ok-None-clause-end
 returns-in-Ok-None-clause-end c =
     let end = rw c.in-Ok-None.field-0-is at c.in-Ok-None.ensures.told in
-    λ e. prefixed_end (map seen c.args.records.now.items) (all_of (untold c.args.reader.now)) (none_told (untold c.args.reader.now) end)
+    λ e. prefixed_end (map seen c.args.records.now.items) (all_of (untold c.args.reader.now))
+    (none_told (untold c.args.reader.now) end)
 
 pub returns-in-Err-clause-fault : goal.returns-in-Err-clause-fault
 returns-in-Err-clause-fault c =
@@ -27,7 +28,8 @@ returns-in_err-record_of-clause-fault c =
     let told = rw c.in-Ok-Some.field-0-is at c.in-Ok-Some.ensures.told in
     let front = map seen c.args.records.now.items in
     rw (p.1, p.2) (λ m.
-    ap (prefixed front) (more_told (untold c.args.reader.now) (untold c.next.new.self) (entry_of c.in-Ok-Some.entry) told)
+    ap (prefixed front) (more_told (untold c.args.reader.now) (untold c.next.new.self) (entry_of c.in-Ok-Some.entry)
+    told)
     ∙ prefixed_fault front (record_of (entry_of c.in-Ok-Some.entry)) c.in_err-record_of.field-0.0
     (all_of (untold c.next.new.self)) (c.in_err-record_of.ensures m))
 
@@ -37,7 +39,8 @@ returns-clause-one c =
     let items = c.args.records.now.items in
     let grown : map seen c.push.new.self.items ≡ map seen items ++ seen c.in_ok-record_of.field-0
     ∷ [] = ap (map seen) c.in_ok-push.ensures.items ∙ map-append seen items (c.in_ok-record_of.field-0 ∷ []) in
-    λ e. ap (prefixed (map seen items)) (more_told (untold c.args.reader.now) (untold c.next.new.self) (entry_of c.in-Ok-Some.entry) told)
+    λ e. ap (prefixed (map seen items)) (more_told (untold c.args.reader.now) (untold c.next.new.self)
+    (entry_of c.in-Ok-Some.entry) told)
     ∙ prefixed_one (map seen items) (record_of (entry_of c.in-Ok-Some.entry)) (seen c.in_ok-record_of.field-0)
     (all_of (untold c.next.new.self)) c.in_ok-record_of.ensures
     ∙ ap (λ xs. prefixed xs (all_of (untold c.next.new.self))) (sym grown)

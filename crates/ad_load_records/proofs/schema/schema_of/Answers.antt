@@ -32,6 +32,7 @@ loop-one-preserved c =
 
 pub returns : goal.returns
 returns c =
-    let added = sym c.loop-one.invariant.added ∙ all_are_added c.args.records.now c.loop-one.one-index c.loop-one.builder (omega arith) in
+    let added = sym c.loop-one.invariant.added ∙ all_are_added c.args.records.now c.loop-one.one-index
+    c.loop-one.builder (omega arith) in
     subst (λ (r : Result (List SchemaRecord) LoadFault). GivesUnless is_memory (λ schema. schema) c.finish.result r)
     (sym (all_done (map seen c.args.records.now) c.loop-one.builder added)) c.finish.ensures

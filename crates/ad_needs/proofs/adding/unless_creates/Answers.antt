@@ -8,12 +8,16 @@ use Rattle.ad_needs.proofs.adding.unless_creates.Goals as goal
 
 pub returns-in-Some : goal.returns-in-Some
 returns-in-Some c =
-    child_not c.args.dir.now c.args.token.now c.args.parent c.args.class.0 (guids_of c.class_path.result) c.args.sd.now c.in-Some.refusal
-    (c.class_path.ensures ∙ ap (λ (s : List SchemaRecord). class_path s c.args.class.0) c.schema.ensures) (rw c.in-Some.is at c.in_ok-refusal.ensures)
+    child_not c.args.dir.now c.args.token.now c.args.parent c.args.class.0 (guids_of c.class_path.result)
+    c.args.sd.now c.in-Some.refusal
+    (c.class_path.ensures ∙ ap (λ (s : List SchemaRecord). class_path s c.args.class.0) c.schema.ensures)
+    (rw c.in-Some.is at c.in_ok-refusal.ensures)
 
 pub returns : goal.returns
 returns c =
     if_ok c.unless_audits.result
-    (λ found is. child_so c.args.dir.now c.args.token.now c.args.parent c.args.class.0 (guids_of c.class_path.result) c.args.sd.now c.brings_sacl.result found
-    (c.class_path.ensures ∙ ap (λ (s : List SchemaRecord). class_path s c.args.class.0) c.schema.ensures) (rw c.in_default.is at c.in_ok-refusal.ensures) c.brings_sacl.ensures is)
+    (λ found is. child_so c.args.dir.now c.args.token.now c.args.parent c.args.class.0 (guids_of c.class_path.result)
+    c.args.sd.now c.brings_sacl.result found
+    (c.class_path.ensures ∙ ap (λ (s : List SchemaRecord). class_path s c.args.class.0) c.schema.ensures)
+    (rw c.in_default.is at c.in_ok-refusal.ensures) c.brings_sacl.ensures is)
     c.unless_audits.ensures

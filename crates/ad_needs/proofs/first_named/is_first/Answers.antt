@@ -7,5 +7,7 @@ pub returns-in-Some-clause-first : goal.returns-in-Some-clause-first
 returns-in-Some-clause-first c =
     let lt : c.in-Some.attr.0 < length c.args.named.now = omega (arith, c.in-Some.ensures.in_range, c.requires.len) in
     c.is_first_mark.ensures.first
-    ∙ ap not (is_named_first (λ (item : Item). item.attr) c.args.schema.now c.args.named.now c.args.earlier.now c.args.item.now.attr c.in-Some.attr.0 c.requires
-    (placed c.args.schema.now c.args.item.now.attr c.as_slice.result.now c.in-Some.attr c.in-Some.ensures.attr c.as_slice.ensures) lt)
+    ∙ ap not (is_named_first (λ (item : Item). item.attr) c.args.schema.now c.args.named.now c.args.earlier.now
+    c.args.item.now.attr c.in-Some.attr.0 c.requires
+    (placed c.args.schema.now c.args.item.now.attr c.as_slice.result.now c.in-Some.attr c.in-Some.ensures.attr
+    c.as_slice.ensures) lt)

@@ -7,4 +7,5 @@ use Rattle.ad_needs.proofs.item_checks.is_naming.Goals as goal
 pub returns : goal.returns
 returns c =
     ap (λ (n : ℕ). nat_eq n c.args.attr.0)
-    (class_naming c.args.dir.now.schema (class_at c.args.dir.now c.args.number) c.class_info.result.now (rw (c.schema.ensures, c.class_of.ensures.class) at c.class_info.ensures.info))
+    (class_naming c.args.dir.now.schema (class_at c.args.dir.now c.args.number) c.class_info.result.now
+    (rw (c.schema.ensures, c.class_of.ensures.class) at c.class_info.ensures.info))

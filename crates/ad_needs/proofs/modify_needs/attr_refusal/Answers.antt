@@ -10,6 +10,9 @@ use Rattle.ad_needs.proofs.modify_needs.attr_refusal.Goals as goal
 
 pub returns-then-is_granted : goal.returns-then-is_granted
 returns-then-is_granted c =
-    first_met c.args.dir.now c.args.token.now c.args.number write_property (attr_path c.args.dir.now.schema (class_at c.args.dir.now c.args.number) c.args.attr.0)
-    (or_validated c.args.number (validated_write c.args.dir.now c.args.token.now c.args.number c.args.attr.0 (items_of c.args.items.now c.args.name.now)))
-    (c.if-is_granted.ensures ∙ ap (λ (a : Alternative). is_granted c.args.dir.now c.args.token.now a.object a.path a.bit) c.to_write.ensures.asked)
+    first_met c.args.dir.now c.args.token.now c.args.number write_property
+    (attr_path c.args.dir.now.schema (class_at c.args.dir.now c.args.number) c.args.attr.0)
+    (or_validated c.args.number (validated_write c.args.dir.now c.args.token.now c.args.number c.args.attr.0
+    (items_of c.args.items.now c.args.name.now)))
+    (c.if-is_granted.ensures ∙ ap (λ (a : Alternative). is_granted c.args.dir.now c.args.token.now a.object a.path
+    a.bit) c.to_write.ensures.asked)

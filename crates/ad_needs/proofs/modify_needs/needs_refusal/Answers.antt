@@ -7,19 +7,26 @@ use Rattle.ad_needs.proofs.modify_needs.needs_refusal.Goals as goal
 
 pub returns-in-Some : goal.returns-in-Some
 returns-in-Some c =
-    needs_stop c.args.dir.now c.args.token.now c.args.number c.args.flags c.args.items.now c.each.i c.index-items-i.result c.is_first-first.result c.in-Some.verdict
-    c.each-test.true c.index-items-i.is c.is_first-first.ensures.first (rw (c.in-Some.is, c.as_slice-name.ensures) at c.in_ok-verdict.ensures) c.each.invariant.said
+    needs_stop c.args.dir.now c.args.token.now c.args.number c.args.flags c.args.items.now c.each.i
+    c.index-items-i.result c.is_first-first.result c.in-Some.verdict
+    c.each-test.true c.index-items-i.is c.is_first-first.ensures.first
+    (rw (c.in-Some.is, c.as_slice-name.ensures) at c.in_ok-verdict.ensures) c.each.invariant.said
 
 pub each-preserved : goal.each-preserved
 each-preserved c =
     record {
-      said = needs_go_on c.args.dir.now c.args.token.now c.args.number c.args.flags c.args.items.now c.each.i c.index-items-i.result c.is_first-first.result
-          c.each-test.true c.index-items-i.is c.is_first-first.ensures.first (rw (c.in_default.is, c.as_slice-name.ensures) at c.in_ok-verdict.ensures) c.each.invariant.said;
-      named = written_back (λ (item : Item). item.attr) c.args.dir.now.schema c.is_first-first.new.named c.each.named.items c.each.named.len (take (c.each.i + 1) c.args.items.now)
+      said = needs_go_on c.args.dir.now c.args.token.now c.args.number c.args.flags c.args.items.now c.each.i
+          c.index-items-i.result c.is_first-first.result
+          c.each-test.true c.index-items-i.is c.is_first-first.ensures.first
+          (rw (c.in_default.is, c.as_slice-name.ensures) at c.in_ok-verdict.ensures) c.each.invariant.said;
+      named = written_back (λ (item : Item). item.attr) c.args.dir.now.schema c.is_first-first.new.named
+          c.each.named.items c.each.named.len (take (c.each.i + 1) c.args.items.now)
           (c.is_first-first.auto.named ∙ c.as_mut_slice.ensures.len)
-          (subst (AreNamed c.args.dir.now.schema c.is_first-first.new.named) (taken_more c.args.items.now c.each.i c.index-items-i.result c.each-test.true c.index-items-i.is)
+          (subst (AreNamed c.args.dir.now.schema c.is_first-first.new.named)
+          (taken_more c.args.items.now c.each.i c.index-items-i.result c.each-test.true c.index-items-i.is)
           (rw c.schema-in-each.ensures at c.is_first-first.ensures.named));
     }
 
 pub returns : goal.returns
-returns c = needs_end c.args.dir.now c.args.token.now c.args.number c.args.flags c.args.items.now c.each.i c.each-test.false c.each.invariant.said
+returns c = needs_end c.args.dir.now c.args.token.now c.args.number c.args.flags c.args.items.now c.each.i
+    c.each-test.false c.each.invariant.said

@@ -5,4 +5,5 @@ use Rattle.ad_needs.proofs.modify_needs.written_sd.Given as goal
 
 -- none so far is of the descriptor
 abbrev pub invariant-each : goal.invariant-each
-invariant-each l = find (λ item. is_descriptor item.attr) (drop l.item-index l.items) ≡ find (λ item. is_descriptor item.attr) l.items
+invariant-each l = find (λ item. is_descriptor item.attr) (drop l.item-index l.items)
+    ≡ find (λ item. is_descriptor item.attr) l.items

@@ -5,4 +5,5 @@ use Rattle.ad_needs.proofs.modifying.act_items.Given as goal
 
 -- those so far and those that are left are all
 abbrev pub invariant-each : goal.invariant-each
-invariant-each l = l.all ++ filter_map (act_item l.schema) (drop l.item-index l.items) ≡ filter_map (act_item l.schema) l.items
+invariant-each l = l.all ++ filter_map (act_item l.schema) (drop l.item-index l.items)
+    ≡ filter_map (act_item l.schema) l.items

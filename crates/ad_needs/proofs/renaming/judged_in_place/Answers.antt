@@ -8,10 +8,12 @@ use Rattle.ad_needs.proofs.renaming.judged_in_place.Goals as goal
 pub returns-in-Some : goal.returns-in-Some
 returns-in-Some c =
     if_ok c.judged.result
-    (λ verdict is. is ∙ in_place_seen c.args.dir.now c.args.token.now c.args.dn.now.rdns c.args.rdn c.in-Some.number (rw c.in-Some.is at c.in_ok-number.ensures.found))
+    (λ verdict is. is ∙ in_place_seen c.args.dir.now c.args.token.now c.args.dn.now.rdns c.args.rdn c.in-Some.number
+    (rw c.in-Some.is at c.in_ok-number.ensures.found))
     c.judged.ensures
 
 pub returns-in_ok-matched-in-None : goal.returns-in_ok-matched-in-None
 returns-in_ok-matched-in-None c =
     ap (λ (d : Dn). Hidden d) c.in_ok-matched-in-None.ensures
-    ∙ in_place_unseen c.args.dir.now c.args.token.now c.args.dn.now.rdns c.args.rdn (rw c.in-None.is at c.in_ok-number.ensures.found)
+    ∙ in_place_unseen c.args.dir.now c.args.token.now c.args.dn.now.rdns c.args.rdn
+    (rw c.in-None.is at c.in_ok-number.ensures.found)

@@ -7,4 +7,6 @@ use Rattle.ad_needs.proofs.renaming.unless_names.Goals as goal
 
 pub returns-in-None : goal.returns-in-None
 returns-in-None c =
-    nameless c.args.dir.now c.args.token.now c.args.number (rw c.in-None.is at c.attr.ensures.attr ∙ ap (λ (s : List SchemaRecord). attr_named s (codes "name")) c.schema.ensures)
+    nameless c.args.dir.now c.args.token.now c.args.number
+    (rw c.in-None.is at c.attr.ensures.attr ∙ ap (λ (s : List SchemaRecord). attr_named s (codes "name"))
+    c.schema.ensures)

@@ -13,7 +13,8 @@ returns-in-Some c =
     let dir = c.args.dir.now in
     let number = c.args.number in
     needs_stop dir c.args.token.now (move_needs dir number c.args.parent)
-    (to_write dir number (naming_of dir.schema (class_at dir number)) ∷ name_needs dir number (attr_place dir.schema (codes "name"))) c.in-Some.refusal
+    (to_write dir number (naming_of dir.schema (class_at dir number))
+    ∷ name_needs dir number (attr_place dir.schema (codes "name"))) c.in-Some.refusal
     (rw c.in-Some.is at c.in_ok-refusal.ensures)
 
 pub returns : goal.returns
@@ -22,6 +23,7 @@ returns c =
     let number = c.args.number in
     if_ok c.unless_named.result
     (λ found is. needs_go_on dir c.args.token.now (move_needs dir number c.args.parent)
-    (to_write dir number (naming_of dir.schema (class_at dir number)) ∷ name_needs dir number (attr_place dir.schema (codes "name"))) found
+    (to_write dir number (naming_of dir.schema (class_at dir number))
+    ∷ name_needs dir number (attr_place dir.schema (codes "name"))) found
     (rw c.in_default.is at c.in_ok-refusal.ensures) is)
     c.unless_named.ensures

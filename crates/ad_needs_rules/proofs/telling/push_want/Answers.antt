@@ -7,4 +7,5 @@ use Rattle.ad_needs_rules.proofs.telling.push_want.Goals as goal
 pub returns : goal.returns
 returns c = on_ok_weaker c.push_name.result (λ last. (subst (Puts c.args.into.now.items c.push_name.new.into.items)
     (want_pieces c.args.dir.now c.args.want.now c.code_of.result.now _ c.code_of.ensures c.as_ref.ensures.value)
-    (then c.in_ok-push.ensures (then c.in_ok-push-2.ensures (then c.in_ok-push_guid.ensures (then c.in_ok-push-3.ensures last))))).is) c.push_name.ensures
+    (then c.in_ok-push.ensures (then c.in_ok-push-2.ensures
+    (then c.in_ok-push_guid.ensures (then c.in_ok-push-3.ensures last))))).is) c.push_name.ensures

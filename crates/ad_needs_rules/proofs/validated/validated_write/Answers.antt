@@ -9,10 +9,12 @@ pub returns-in-Some : goal.returns-in-Some
 returns-in-Some c =
     let items = map (λ (item : Bor Item). item.now) c.args.items.now in
     if_ok c.guid_if.result
-    (λ guid is. is ∙ ap (guid_if c.args.dir.now c.args.token.now c.args.number items) c.in-Some.ensures ∙ by_write c.args.dir.now c.args.token.now c.args.number c.args.attr.0 items)
+    (λ guid is. is ∙ ap (guid_if c.args.dir.now c.args.token.now c.args.number items) c.in-Some.ensures
+    ∙ by_write c.args.dir.now c.args.token.now c.args.number c.args.attr.0 items)
     c.guid_if.ensures
 
 pub returns-in-None : goal.returns-in-None
 returns-in-None c =
     let items = map (λ (item : Bor Item). item.now) c.args.items.now in
-    ap (guid_if c.args.dir.now c.args.token.now c.args.number items) c.in-None.ensures ∙ by_write c.args.dir.now c.args.token.now c.args.number c.args.attr.0 items
+    ap (guid_if c.args.dir.now c.args.token.now c.args.number items) c.in-None.ensures ∙ by_write c.args.dir.now
+    c.args.token.now c.args.number c.args.attr.0 items

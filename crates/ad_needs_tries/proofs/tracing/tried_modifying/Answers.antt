@@ -3,12 +3,16 @@ use Rattle.ad_needs_tries.proofs.NameLaws.{modifying_tried}
 use Rattle.ad_needs_tries.proofs.tracing.tried_modifying.Goals as goal
 
 pub found-requires-clause-name : goal.found-requires-clause-name
-found-requires-clause-name c = rw c.as_slice.ensures (modify_reaches c.args.dir.now c.args.token.now c.args.modify.now c.args.settings.now c.requires).name
+found-requires-clause-name c = rw c.as_slice.ensures
+    (modify_reaches c.args.dir.now c.args.token.now c.args.modify.now c.args.settings.now c.requires).name
 
 pub found-requires-clause-seen : goal.found-requires-clause-seen
-found-requires-clause-seen c = rw c.as_slice.ensures (modify_reaches c.args.dir.now c.args.token.now c.args.modify.now c.args.settings.now c.requires).seen
+found-requires-clause-seen c = rw c.as_slice.ensures
+    (modify_reaches c.args.dir.now c.args.token.now c.args.modify.now c.args.settings.now c.requires).seen
 
 pub returns : goal.returns
 returns c =
-    modifying_tried c.args.dir.now c.args.token.now c.args.modify.now c.args.settings.now c.in_ok-number.number c.new-tried.result.items c.try_modify.new.into.items c.in_ok-met.met
-    (rw c.as_slice.ensures at c.in_ok-number.ensures.number) c.new-tried.ensures.items (rw c.as_slice-items.ensures at c.in_ok-met.ensures)
+    modifying_tried c.args.dir.now c.args.token.now c.args.modify.now c.args.settings.now c.in_ok-number.number
+    c.new-tried.result.items c.try_modify.new.into.items c.in_ok-met.met
+    (rw c.as_slice.ensures at c.in_ok-number.ensures.number) c.new-tried.ensures.items
+    (rw c.as_slice-items.ensures at c.in_ok-met.ensures)

@@ -6,9 +6,11 @@ use Rattle.ad_principals.proofs.groups.rising.Goals as goal
 
 pub returns-clause-rise : goal.returns-clause-rise
 returns-clause-rise c =
-    sorted_rise c.args.sids.items c.sort_unstable_by.new.self.items c.sort_unstable_by.ensures.sorted (λ a r f k. search rules)
+    sorted_rise c.args.sids.items c.sort_unstable_by.new.self.items c.sort_unstable_by.ensures.sorted
+    (λ a r f k. search rules)
     c.sort_unstable_by.ensures.permutation c.requires
 
 pub returns-clause-same : goal.returns-clause-same
 returns-clause-same c = λ sid.
-    sym (list_any-IsPermutation (λ s. same_sid s sid) c.args.sids.items c.sort_unstable_by.new.self.items c.sort_unstable_by.ensures.permutation)
+    sym (list_any-IsPermutation (λ s. same_sid s sid) c.args.sids.items c.sort_unstable_by.new.self.items
+    c.sort_unstable_by.ensures.permutation)

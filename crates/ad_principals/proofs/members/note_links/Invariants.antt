@@ -8,4 +8,5 @@ use Rattle.ad_principals.proofs.members.note_links.Given as goal
 -- those that the values so far name
 abbrev pub invariant-loop-value : goal.invariant-loop-value
 invariant-loop-value l =
-    Gains (λ m g. names m (map stored_seen (take l.value-index l.values)) && l.group == g) (listed l.initial.table) (listed l.table)
+    Gains (λ m g. names m (map stored_seen (take l.value-index l.values)) && l.group == g) (listed l.initial.table)
+    (listed l.table)

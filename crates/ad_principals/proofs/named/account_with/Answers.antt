@@ -33,20 +33,26 @@ not_empty ns items b is no' same none = both_ways b no' (is ∙ eq-eqb (length n
 pub returns-then-is_empty : goal.returns-then-is_empty
 returns-then-is_empty c =
     let first : numbers_with c.args.dir.now (codes "sAMAccountName") c.args.text.now ≡ [] =
-    sym c.in_ok-by_account.ensures ∙ empty c.as_slice.result.now c.in_ok-by_account.by_account.items c.is_empty.result c.is_empty.ensures c.if-is_empty.true c.as_slice.ensures.value in
+    sym c.in_ok-by_account.ensures ∙ empty c.as_slice.result.now c.in_ok-by_account.by_account.items c.is_empty.result
+    c.is_empty.ensures c.if-is_empty.true c.as_slice.ensures.value in
     gives c.only_one.result
     (only_one (numbers_with c.args.dir.now (codes "sAMAccountName") c.args.text.now)
     (only_one (numbers_with c.args.dir.now (codes "userPrincipalName") c.args.text.now) (Err name_fault.NoObject)))
-    (c.only_one.ensures ∙ ap (λ (ns : List ℕ). only_one ns (Err name_fault.NoObject)) (c.as_slice-then-is_empty.ensures.value ∙ c.in_ok-by_user.ensures)
-    ∙ ap (λ (ns : List ℕ). only_one ns (only_one (numbers_with c.args.dir.now (codes "userPrincipalName") c.args.text.now) (Err name_fault.NoObject))) (sym first))
+    (c.only_one.ensures ∙ ap (λ (ns : List ℕ). only_one ns (Err name_fault.NoObject))
+    (c.as_slice-then-is_empty.ensures.value ∙ c.in_ok-by_user.ensures)
+    ∙ ap (λ (ns : List ℕ). only_one ns (only_one
+    (numbers_with c.args.dir.now (codes "userPrincipalName") c.args.text.now) (Err name_fault.NoObject)))
+    (sym first))
 
 pub returns : goal.returns
 returns c =
     let some : numbers_with c.args.dir.now (codes "sAMAccountName") c.args.text.now ≡ [] → ⊥ = λ none.
-    not_empty c.as_slice.result.now c.in_ok-by_account.by_account.items c.is_empty.result c.is_empty.ensures c.if-is_empty.false c.as_slice.ensures.value (c.in_ok-by_account.ensures ∙ none) in
+    not_empty c.as_slice.result.now c.in_ok-by_account.by_account.items c.is_empty.result c.is_empty.ensures
+    c.if-is_empty.false c.as_slice.ensures.value (c.in_ok-by_account.ensures ∙ none) in
     gives c.only_one-2.result
     (only_one (numbers_with c.args.dir.now (codes "sAMAccountName") c.args.text.now)
     (only_one (numbers_with c.args.dir.now (codes "userPrincipalName") c.args.text.now) (Err name_fault.NoObject)))
-    (c.only_one-2.ensures ∙ ap (λ (ns : List ℕ). only_one ns (Err name_fault.NoObject)) (c.as_slice-2.ensures.value ∙ c.in_ok-by_account.ensures)
+    (c.only_one-2.ensures ∙ ap (λ (ns : List ℕ). only_one ns (Err name_fault.NoObject))
+    (c.as_slice-2.ensures.value ∙ c.in_ok-by_account.ensures)
     ∙ some_first (numbers_with c.args.dir.now (codes "sAMAccountName") c.args.text.now) (Err name_fault.NoObject)
     (only_one (numbers_with c.args.dir.now (codes "userPrincipalName") c.args.text.now) (Err name_fault.NoObject)) some)

@@ -9,4 +9,5 @@ none_from (Some x) no_value = absurd (no_value x refl)
 pub returns-in-Err : goal.returns-in-Err
 returns-in-Err c =
     none_from (sid_of_text c.args.text.now)
-    (λ sid e. let read = c.in-Err.ensures.only sid ((c.what_a_sid_s_text_spells.ensures sid c.args.text.now).0 e) in absurd cc)
+    (λ sid e. let read = c.in-Err.ensures.only sid ((c.what_a_sid_s_text_spells.ensures sid c.args.text.now).0 e)
+    in absurd cc)

@@ -9,22 +9,27 @@ use Rattle.ad_principals.proofs.reaching.reached.Goals as goal
 
 pub groups-init : goal.groups-init
 groups-init c =
-    reaching_starts c.args.dir.now c.args.user.now (first_with c.args.primary.now c.args.extra.now) c.in_ok-set.set.keys c.take_groups_of.new.taken.keys
+    reaching_starts c.args.dir.now c.args.user.now (first_with c.args.primary.now c.args.extra.now)
+    c.in_ok-set.set.keys c.take_groups_of.new.taken.keys
     c.in_ok-set.ensures c.in_ok-take_groups_of.ensures
 
 pub groups-preserved : goal.groups-preserved
 groups-preserved c =
     let less : c.groups.done < length c.groups.set.keys = omega (arith, c.groups-test.true, c.len.ensures.len) in
-    reaching_goes c.args.dir.now c.args.user.now (first_with c.args.primary.now c.args.extra.now) c.groups.done c.index-as_slice-done.result
+    reaching_goes c.args.dir.now c.args.user.now (first_with c.args.primary.now c.args.extra.now) c.groups.done
+    c.index-as_slice-done.result
     c.groups.set.keys c.take_groups_of-in-groups.new.taken.keys c.groups.invariant less
     (get_or_default c.groups.set.keys c.groups.done no_sid c.index-as_slice-done.result less
-    ∙ ap (λ (keys : List SidValue). get_or keys c.groups.done c.index-as_slice-done.result) (sym c.as_slice.ensures.keys) ∙ sym c.index-as_slice-done.is)
+    ∙ ap (λ (keys : List SidValue). get_or keys c.groups.done c.index-as_slice-done.result)
+    (sym c.as_slice.ensures.keys) ∙ sym c.index-as_slice-done.is)
     c.in_ok-take_groups_of-2.ensures
 
 pub returns-clause-least : goal.returns-clause-least
 returns-clause-least c = λ few.
-    reaching_ends c.args.dir.now c.args.user.now (first_with c.args.primary.now c.args.extra.now) c.groups.done c.groups.set.keys c.groups.invariant
+    reaching_ends c.args.dir.now c.args.user.now (first_with c.args.primary.now c.args.extra.now) c.groups.done
+    c.groups.set.keys c.groups.invariant
     (elim c.groups-test.branch [
-      | then-groups-test+else-len-le1025 w ↦ absurd (omega (arith, few, w.if-len-le1025.false, w.len-in-groups.ensures.len))
+      | then-groups-test+else-len-le1025 w
+          ↦ absurd (omega (arith, few, w.if-len-le1025.false, w.len-in-groups.ensures.len))
       | else-groups-test w ↦ omega (arith, w.groups-test.false, c.len.ensures.len)
     ])

@@ -13,17 +13,23 @@ pub returns-then-len-gt1024-clause-fault : goal.returns-then-len-gt1024-clause-f
 returns-then-len-gt1024-clause-fault c =
     let set = c.in_ok-set.set.keys in
     let user = c.args.user.now in
-    let left : c.in_ok-others.field-0.items ≡ filter (is_other user) set = c.in_ok-others.ensures.are ∙ ap (filter (is_other user)) c.as_slice.ensures.keys in
-    let distinct : IsDistinct same_sid c.in_ok-others.field-0.items = subst (IsDistinct same_sid) (sym left) (distinct_left (is_other user) set c.as_slice.ensures.unique) in
-    let parts : (sid : SidValue) → contains_sid c.rising-groups.result.items sid ≡ true → (contains_sid set sid ≡ true) × (is_other user sid ≡ true) = λ sid is.
+    let left : c.in_ok-others.field-0.items ≡ filter (is_other user) set = c.in_ok-others.ensures.are
+    ∙ ap (filter (is_other user)) c.as_slice.ensures.keys in
+    let distinct : IsDistinct same_sid c.in_ok-others.field-0.items = subst (IsDistinct same_sid) (sym left)
+    (distinct_left (is_other user) set c.as_slice.ensures.unique) in
+    let parts : (sid : SidValue) → contains_sid c.rising-groups.result.items sid ≡ true
+    → (contains_sid set sid ≡ true) × (is_other user sid ≡ true) = λ sid is.
     and_parts (contains_sid set sid) (is_other user sid)
-    (sym (c.rising-groups.ensures.same sid ∙ ap (λ (xs : List SidValue). contains_sid xs sid) left ∙ contains_left user set sid) ∙ is) in
+    (sym (c.rising-groups.ensures.same sid ∙ ap (λ (xs : List SidValue). contains_sid xs sid) left
+    ∙ contains_left user set sid) ∙ is) in
     record {
       user = c.args.user.now;
       is_user = c.requires.user;
       groups = c.rising-groups.result.items;
       rise = c.rising-groups.ensures.rise distinct;
-      reached = λ sid is. subst (λ (p : SidValue). IsReached c.args.dir.now c.args.user.now (first_with p c.args.extra.now) sid) c.primary_of-primary.ensures (c.in_ok-set.ensures.each sid (parts sid is).0);
+      reached = λ sid is. subst (λ (p : SidValue). IsReached c.args.dir.now c.args.user.now
+          (first_with p c.args.extra.now) sid) c.primary_of-primary.ensures
+          (c.in_ok-set.ensures.each sid (parts sid is).0);
       others = λ sid is. not-true (same_sid sid user) (parts sid is).1;
       many = omega arith;
     }
@@ -32,17 +38,22 @@ pub returns-clause-token : goal.returns-clause-token
 returns-clause-token c =
     let set = c.in_ok-set.set.keys in
     let user = c.args.user.now in
-    let left : c.in_ok-others.field-0.items ≡ filter (is_other user) set = c.in_ok-others.ensures.are ∙ ap (filter (is_other user)) c.as_slice.ensures.keys in
-    let distinct : IsDistinct same_sid c.in_ok-others.field-0.items = subst (IsDistinct same_sid) (sym left) (distinct_left (is_other user) set c.as_slice.ensures.unique) in
+    let left : c.in_ok-others.field-0.items ≡ filter (is_other user) set = c.in_ok-others.ensures.are
+    ∙ ap (filter (is_other user)) c.as_slice.ensures.keys in
+    let distinct : IsDistinct same_sid c.in_ok-others.field-0.items = subst (IsDistinct same_sid) (sym left)
+    (distinct_left (is_other user) set c.as_slice.ensures.unique) in
     let small : length c.rising-groups.result.items ≤ 1024 = omega arith in
     let one : length set ≤ length (filter (is_other user) set) + 1 = one_goes user set c.as_slice.ensures.unique in
-    let long : length c.rising-groups.result.items ≡ length (filter (is_other user) set) = c.rising-groups.ensures.len ∙ ap length left in
+    let long : length c.rising-groups.result.items ≡ length (filter (is_other user) set) = c.rising-groups.ensures.len
+    ∙ ap length left in
     record {
       set = c.in_ok-set.set.keys;
       user = c.requires.user;
-      least = subst (λ (p : SidValue). IsLeast c.args.dir.now c.args.user.now (first_with p c.args.extra.now) set) c.primary_of-primary.ensures
+      least = subst (λ (p : SidValue). IsLeast c.args.dir.now c.args.user.now (first_with p c.args.extra.now) set)
+          c.primary_of-primary.ensures
           (c.in_ok-set.ensures.least (omega (arith, small, one, long)));
-      groups = λ sid. ap (λ (xs : List SidValue). contains_sid xs sid) c.from_vec.ensures ∙ c.rising-groups.ensures.same sid
+      groups = λ sid. ap (λ (xs : List SidValue). contains_sid xs sid) c.from_vec.ensures
+          ∙ c.rising-groups.ensures.same sid
           ∙ ap (λ (xs : List SidValue). contains_sid xs sid) left ∙ contains_left user set sid;
       rise = subst SidsRise (sym c.from_vec.ensures) (c.rising-groups.ensures.rise distinct);
       few = subst (λ (xs : List SidValue). length xs ≤ 1024) (sym c.from_vec.ensures) small;

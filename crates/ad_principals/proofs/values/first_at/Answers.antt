@@ -11,7 +11,8 @@ unfolding first_of_attr
 returns-in-Some c =
     c.first_of.ensures
     ∙ ap (λ (vs : List Held). first_plain (stored_in vs c.args.attr.0))
-    (ap (map held_seen) c.as_slice.ensures ∙ ap (λ (o : Object). o.values) (sym (at-of c.args.dir.now.objects c.args.number _ (sym c.in-Some.ensures))))
+    (ap (map held_seen) c.as_slice.ensures ∙ ap (λ (o : Object). o.values)
+    (sym (at-of c.args.dir.now.objects c.args.number _ (sym c.in-Some.ensures))))
 
 pub returns-in-None : goal.returns-in-None
 unfolding first_of_attr stored_in

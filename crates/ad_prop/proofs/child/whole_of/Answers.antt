@@ -18,10 +18,12 @@ returns c =
     let parent = ap (λ (x : Object). x.parent) c.live_object-object.ensures in
     let class = ap (λ (x : Object). x.class) c.live_object-object.ensures in
     let from_parent = c.live_sd.ensures ∙ ap (sd_at objects) parent in
-    let guid = c.guid_of-class.ensures ∙ ap (λ (k : ℕ). guid_at c.schema.result.now k) class ∙ ap (λ (schema : _). guid_at schema o.class) c.schema.ensures in
+    let guid = c.guid_of-class.ensures ∙ ap (λ (k : ℕ). guid_at c.schema.result.now k) class
+    ∙ ap (λ (schema : _). guid_at schema o.class) c.schema.ensures in
     let is : c.in_ok-sd.sd ≡ whole_at c.args.dir.now o =
     c.in_ok-sd.ensures
     ∙ same_whole (seen c.live_sd.result) (sd_at objects o.parent) (seen c.live_sd-2.result) o.sd c.guid_of-class.result
     (guid_at c.args.dir.now.schema o.class) from_parent c.live_sd-2.ensures guid
-    ∙ sym (whole_below c.args.dir.now o (λ e. c.requires.below (sym (at_number objects c.args.child c.requires.live) ∙ e))) in
+    ∙ sym (whole_below c.args.dir.now o (λ e.
+    c.requires.below (sym (at_number objects c.args.child c.requires.live) ∙ e))) in
     subst (λ (sd : Sd). IfOk c.normal.result (λ bytes. SpellsNormal sd bytes.items)) is c.normal.ensures

@@ -17,7 +17,8 @@ returns-clause-edits c =
     let dir = c.args.dir.now in
     let child = c.args.child in
     child_made dir child c.push.new.self.items c.in_ok-object.object c.in_ok-bytes.bytes
-    (c.in_ok-push.ensures.items ∙ ap (λ (es : List Edit). es ++ edit.PutObject c.in_ok-object.object c.in_ok-bytes.bytes ∷ []) c.new-edits.ensures.items)
+    (c.in_ok-push.ensures.items ∙ ap (λ (es : List Edit). es ++ edit.PutObject c.in_ok-object.object
+    c.in_ok-bytes.bytes ∷ []) c.new-edits.ensures.items)
     (ap (λ (o : Object). object_seen o (sd_at dir.objects child)) c.in_ok-object.ensures ∙ c.live_object.ensures)
     c.in_ok-bytes.ensures
 
@@ -27,6 +28,8 @@ returns-clause-queue c =
     let child = c.args.child in
     c.in_ok-mark_if.ensures
     ∙ ap (λ (ps : List Pending). if c.is_another.result then marked child ps else ps) c.advance.ensures
-    ∙ marked_as (sd_at dir.objects child) (settled dir (object_at dir.objects child)) child c.is_another.result (advanced child c.args.queue.now)
+    ∙ marked_as (sd_at dir.objects child) (settled dir (object_at dir.objects child)) child c.is_another.result
+    (advanced child c.args.queue.now)
     (at_number dir.objects child c.requires.child.live)
-    (c.is_another.ensures (whole_at dir (object_at dir.objects child)) (c.in_ok-bytes.ensures.0, c.as_slice.ensures.value ∙ c.in_ok-bytes.ensures.1))
+    (c.is_another.ensures (whole_at dir (object_at dir.objects child))
+    (c.in_ok-bytes.ensures.0, c.as_slice.ensures.value ∙ c.in_ok-bytes.ensures.1))

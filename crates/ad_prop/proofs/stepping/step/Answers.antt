@@ -12,5 +12,7 @@ step_beside-requires c =
 
 pub returns-in_ok-with_queue-in-Some-clause-made : goal.returns-in_ok-with_queue-in-Some-clause-made
 returns-in_ok-with_queue-in-Some-clause-made c =
-    step_whole c.args.dir.now c.in_ok-queue.queue c.step_beside.new.queue c.in-Some.edits.items c.in_ok-with_queue-in-Some.field-0.items
-    c.requires (c.in_ok-queue.ensures ∙ c.queue-2.ensures) (rw c.in-Some.is at c.in_ok-edits.ensures.made) c.in_ok-with_queue-in-Some.ensures
+    step_whole c.args.dir.now c.in_ok-queue.queue c.step_beside.new.queue c.in-Some.edits.items
+    c.in_ok-with_queue-in-Some.field-0.items
+    c.requires (c.in_ok-queue.ensures ∙ c.queue-2.ensures) (rw c.in-Some.is at c.in_ok-edits.ensures.made)
+    c.in_ok-with_queue-in-Some.ensures

@@ -9,9 +9,11 @@ use Rattle.ad_protect.proofs.given.given_by.Goals as goal
 pub returns-clause-is : goal.returns-clause-is
 returns-clause-is c = record {
   normal = subst (λ (sd : Sd). SpellsNormal sd c.in_ok-sd.sd.items)
-      (sym (spelled_in c.in_ok-sd.sd.items (frozen (sd_at c.args.dir.now.objects c.args.holder)) c.in_ok-sd.ensures)) c.in_ok-sd.ensures;
+      (sym (spelled_in c.in_ok-sd.sd.items (frozen (sd_at c.args.dir.now.objects c.args.holder)) c.in_ok-sd.ensures))
+      c.in_ok-sd.ensures;
   mark = c.in_ok-mark.ensures ∙ ap admin_count c.schema.ensures;
 }
 
 pub returns-clause-sd : goal.returns-clause-sd
-returns-clause-sd c = spelled_in c.in_ok-sd.sd.items (frozen (sd_at c.args.dir.now.objects c.args.holder)) c.in_ok-sd.ensures
+returns-clause-sd c = spelled_in c.in_ok-sd.sd.items (frozen (sd_at c.args.dir.now.objects c.args.holder))
+    c.in_ok-sd.ensures

@@ -4,7 +4,8 @@ use Rattle.ad_protect.proofs.Values.{mark_read}
 use Rattle.ad_protect.proofs.mark.one_of.Goals as goal
 
 pub returns-in-Ok : goal.returns-in-Ok
-returns-in-Ok c = mark_read c.args.schema.now c.args.attr.0 c.attr_info.result.now (Ok c.in-Ok.value) c.attr_info.ensures c.in-Ok.ensures.value
+returns-in-Ok c = mark_read c.args.schema.now c.args.attr.0 c.attr_info.result.now (Ok c.in-Ok.value)
+    c.attr_info.ensures c.in-Ok.ensures.value
 
 pub returns-in-Err-TooLong : goal.returns-in-Err-TooLong
 returns-in-Err-TooLong c =

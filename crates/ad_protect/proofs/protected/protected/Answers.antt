@@ -9,7 +9,9 @@ use Rattle.ad_protect.proofs.protected.protected.Goals as goal
 
 pub returns : goal.returns
 returns c =
-    let whole = ap (filter (is_protected c.args.dir.now c.in_ok-taken.taken.keys)) (c.as_slice-2.ensures.value ∙ c.in_ok-numbers.ensures)
+    let whole = ap (filter (is_protected c.args.dir.now c.in_ok-taken.taken.keys))
+    (c.as_slice-2.ensures.value ∙ c.in_ok-numbers.ensures)
     ∙ those_protected c.args.dir.now c.in_ok-taken.taken.keys c.requires.rise c.in_ok-taken.ensures in
-    IfOk-weaker c.those_protected.result (λ (v : Vec ℕ). v.items ≡ filter (is_protected c.args.dir.now c.in_ok-taken.taken.keys) c.as_slice-2.result.now)
+    IfOk-weaker c.those_protected.result (λ (v : Vec ℕ). v.items
+    ≡ filter (is_protected c.args.dir.now c.in_ok-taken.taken.keys) c.as_slice-2.result.now)
     (λ (v : Vec ℕ). v.items ≡ protected c.args.dir.now) (λ v is. is ∙ whole) c.those_protected.ensures

@@ -4,4 +4,5 @@ use Rattle.ad_protect.specs.Spreading.{is_protected}
 use Rattle.ad_protect.proofs.protected.those_protected.Goals as goal
 
 pub returns : goal.returns
-returns c = c.loop-number.invariant ∙ ap (filter (is_protected c.args.dir.now c.args.taken.now.keys)) (take_all c.loop-number.number-index c.args.numbers.now c.loop-number-test.false)
+returns c = c.loop-number.invariant ∙ ap (filter (is_protected c.args.dir.now c.args.taken.now.keys))
+    (take_all c.loop-number.number-index c.args.numbers.now c.loop-number-test.false)

@@ -9,14 +9,17 @@ use Rattle.ad_protect.proofs.spread.begun.Goals as goal
 
 pub loop-number-init : goal.loop-number-init
 loop-number-init c =
-    subst (λ (set : List ℕ). Takes (λ n. has [] n && begins_protection c.args.dir.now (self_sid c.args.dir.now n)) [] set)
+    subst (λ (set : List ℕ). Takes (λ n. has [] n && begins_protection c.args.dir.now (self_sid c.args.dir.now n)) []
+    set)
     (sym c.new-taken.ensures.empty) (takes_none (λ n. false) [] (λ n. refl))
 
 pub loop-number-preserved : goal.loop-number-preserved
 loop-number-preserved c =
-    take_begun c.args.dir.now c.args.numbers.now c.loop-number.number-index c.begins.result c.loop-number.taken.keys c.take_if.new.taken.keys
+    take_begun c.args.dir.now c.args.numbers.now c.loop-number.number-index c.begins.result c.loop-number.taken.keys
+    c.take_if.new.taken.keys
     c.loop-number-test.true c.begins.ensures c.loop-number.invariant c.in_ok-take_if.ensures
 
 pub returns : goal.returns
 returns c =
-    take_begun_end c.args.dir.now c.args.numbers.now c.loop-number.number-index c.loop-number.taken.keys c.loop-number-test.false c.loop-number.invariant
+    take_begun_end c.args.dir.now c.args.numbers.now c.loop-number.number-index c.loop-number.taken.keys
+    c.loop-number-test.false c.loop-number.invariant

@@ -7,4 +7,5 @@ use Rattle.ad_protect.proofs.spread.begun.Given as goal
 
 -- those so far are taken at which protection begins
 abbrev pub invariant-loop-number : goal.invariant-loop-number
-invariant-loop-number l = Takes (λ n. has (take l.number-index l.numbers) n && begins_protection l.dir (self_sid l.dir n)) [] l.taken.keys
+invariant-loop-number l = Takes (λ n. has (take l.number-index l.numbers) n && begins_protection l.dir
+    (self_sid l.dir n)) [] l.taken.keys

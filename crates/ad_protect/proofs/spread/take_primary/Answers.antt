@@ -12,7 +12,8 @@ pub returns-in-Some : goal.returns-in-Some
 returns-in-Some c =
     on_ok_weaker c.take_all.result
     (takes_same (has c.listed.result.now)
-    (λ n. is_live c.args.dir.now.objects n && has_as_primary c.args.dir.now (object_at c.args.dir.now.objects n) (object_at c.args.dir.now.objects c.args.group))
+    (λ n. is_live c.args.dir.now.objects n && has_as_primary c.args.dir.now (object_at c.args.dir.now.objects n)
+    (object_at c.args.dir.now.objects c.args.group))
     c.args.taken.now.keys c.take_all.new.taken.keys
     (λ n. ap (λ (ns : List ℕ). has ns n) (c.listed.ensures ∙ ap (listed c.args.table.now) c.from.ensures)
     ∙ listed_are c.args.dir.now c.args.group c.in-Some.rid n (listed c.args.table.now) c.requires c.in-Some.ensures))
@@ -20,5 +21,6 @@ returns-in-Some c =
 
 pub returns-in-None : goal.returns-in-None
 returns-in-None c =
-    takes_none (λ n. is_live c.args.dir.now.objects n && has_as_primary c.args.dir.now (object_at c.args.dir.now.objects n) (object_at c.args.dir.now.objects c.args.group))
+    takes_none (λ n. is_live c.args.dir.now.objects n && has_as_primary c.args.dir.now
+    (object_at c.args.dir.now.objects n) (object_at c.args.dir.now.objects c.args.group))
     c.args.taken.now.keys (λ n. none_listed c.args.dir.now c.args.group n c.in-None.ensures)

@@ -9,7 +9,8 @@ loop-number-init c = takes_none (has []) c.args.taken.now.keys (λ n. refl)
 
 pub loop-number-preserved : goal.loop-number-preserved
 loop-number-preserved c =
-    take_numbers c.args.numbers.now c.loop-number.number-index c.args.taken.now.keys c.loop-number.taken.keys c.take.new.taken.keys
+    take_numbers c.args.numbers.now c.loop-number.number-index c.args.taken.now.keys c.loop-number.taken.keys
+    c.take.new.taken.keys
     c.loop-number-test.true c.loop-number.invariant c.in_ok-take.ensures
 
 pub returns : goal.returns

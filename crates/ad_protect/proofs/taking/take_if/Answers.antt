@@ -7,7 +7,8 @@ use Rattle.ad_protect.proofs.taking.take_if.Goals as goal
 pub returns-then-wanted : goal.returns-then-wanted
 returns-then-wanted c =
     on_ok_weaker c.take.result
-    (takes_same (nat_eq c.args.number) (λ n. c.args.wanted && nat_eq c.args.number n) c.args.taken.now.keys c.take.new.taken.keys
+    (takes_same (nat_eq c.args.number) (λ n. c.args.wanted && nat_eq c.args.number n) c.args.taken.now.keys
+    c.take.new.taken.keys
     (λ n. sym (ap (λ (b : Bool). b && nat_eq c.args.number n) c.if-wanted.true)))
     c.take.ensures
 

@@ -8,7 +8,8 @@ loop-value-init c = takes_none (λ n. false) c.args.taken.now.keys (λ n. refl)
 
 pub loop-value-preserved : goal.loop-value-preserved
 loop-value-preserved c =
-    take_named c.args.values.now c.loop-value.value-index c.value-item.result c.args.taken.now.keys c.loop-value.taken.keys c.take_linked.new.taken.keys
+    take_named c.args.values.now c.loop-value.value-index c.value-item.result c.args.taken.now.keys
+    c.loop-value.taken.keys c.take_linked.new.taken.keys
     c.loop-value-test.true c.value-item.is c.loop-value.invariant c.in_ok-take_linked.ensures
 
 pub returns : goal.returns

@@ -11,5 +11,8 @@ use Rattle.ad_rows.proofs.attributes.each_attribute.Given as goal
 
 -- the attributes so far and those still to be read are the whole
 abbrev pub invariant-loop : goal.invariant-loop
-invariant-loop l = IfSome (option_copied l.schema) (λ s. IsTrue l.good ↔ AllByRecursion (IsHeld s) (map held_seen l.all.items))
-    × (with_front (map held_seen l.all.items) (many_at (held_at (option_copied l.schema)) (l.count - l.counter) l.input) ≡ many_at (held_at (option_copied l.schema)) l.count l.fn.input)
+invariant-loop l = IfSome (option_copied l.schema)
+    (λ s. IsTrue l.good ↔ AllByRecursion (IsHeld s) (map held_seen l.all.items))
+    × (with_front (map held_seen l.all.items)
+    (many_at (held_at (option_copied l.schema)) (l.count - l.counter) l.input)
+    ≡ many_at (held_at (option_copied l.schema)) l.count l.fn.input)

@@ -13,5 +13,8 @@ use Rattle.ad_rows.proofs.attributes.each_value.Given as goal
 -- the values so far and those still to be read are the whole
 abbrev pub invariant-loop : goal.invariant-loop
 invariant-loop l = (length l.values ≡ l.counter)
-    × IfSome (option_copied l.schema) (λ s. l.attr.0 < length (attrs_of s) → IsTrue l.good ↔ AllByRecursion (IsStored s l.attr.0) (map stored_seen l.values))
-    × (with_front (map stored_seen l.values) (many_at (stored_at (option_copied l.schema) l.attr.0) (l.count - l.counter) l.input) ≡ many_at (stored_at (option_copied l.schema) l.attr.0) l.count l.fn.input)
+    × IfSome (option_copied l.schema) (λ s. l.attr.0 < length (attrs_of s) → IsTrue l.good
+    ↔ AllByRecursion (IsStored s l.attr.0) (map stored_seen l.values))
+    × (with_front (map stored_seen l.values)
+    (many_at (stored_at (option_copied l.schema) l.attr.0) (l.count - l.counter) l.input)
+    ≡ many_at (stored_at (option_copied l.schema) l.attr.0) l.count l.fn.input)

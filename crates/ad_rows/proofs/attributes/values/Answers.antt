@@ -9,5 +9,7 @@ pub returns-clause-good : goal.returns-clause-good
 returns-clause-good c =
     let read = c.in_ok-values.values in
     let long = length-map read stored_seen ∙ c.in_ok-values.ensures.count in
-    held_if (option_copied c.args.schema) c.args.attr.0 (map stored_seen read) c.in_ok-values.good c.is_attribute.result c.both-fits.result
-    (some_values c.in_ok-count.count (map stored_seen read) c.if-count-eq0.false long) c.both-fits.ensures c.is_attribute.ensures c.in_ok-values.ensures.each
+    held_if (option_copied c.args.schema) c.args.attr.0 (map stored_seen read) c.in_ok-values.good
+    c.is_attribute.result c.both-fits.result
+    (some_values c.in_ok-count.count (map stored_seen read) c.if-count-eq0.false long) c.both-fits.ensures
+    c.is_attribute.ensures c.in_ok-values.ensures.each

@@ -7,11 +7,16 @@ use Rattle.ad_rows.proofs.parsing.pending_entries.Goals as goal
 pub returns-in_err-entry : goal.returns-in_err-entry
 returns-in_err-entry c =
     let p = err_from_is_err_and c.from_residual.result c.from_residual.ensures.1 in
-    rw (p.1, p.2) (λ not_memory. ends pending_at c.in_err-entry.field-0.0 c.loop.entries.items c.args.count c.loop.counter c.loop.input (many_at pending_at c.args.count c.args.input.now) c.loop-test.true (c.in_err-entry.ensures not_memory) c.loop.invariant)
+    rw (p.1, p.2) (λ not_memory. ends pending_at c.in_err-entry.field-0.0 c.loop.entries.items c.args.count
+    c.loop.counter c.loop.input (many_at pending_at c.args.count c.args.input.now) c.loop-test.true
+    (c.in_err-entry.ensures not_memory) c.loop.invariant)
 
 pub loop-preserved : goal.loop-preserved
 loop-preserved c =
-    rw c.in_ok-push.ensures.items (goes_on pending_at c.loop.entries.items c.args.count c.loop.counter c.loop.input c.in_ok-entry.entry c.pending_entry.new.input (many_at pending_at c.args.count c.args.input.now) c.loop-test.true c.in_ok-entry.ensures c.loop.invariant)
+    rw c.in_ok-push.ensures.items (goes_on pending_at c.loop.entries.items c.args.count c.loop.counter c.loop.input
+    c.in_ok-entry.entry c.pending_entry.new.input (many_at pending_at c.args.count c.args.input.now)
+    c.loop-test.true c.in_ok-entry.ensures c.loop.invariant)
 
 pub returns : goal.returns
-returns c = is_done pending_at c.loop.entries.items c.args.count c.loop.counter c.loop.input (many_at pending_at c.args.count c.args.input.now) c.loop-test.false c.loop.invariant
+returns c = is_done pending_at c.loop.entries.items c.args.count c.loop.counter c.loop.input
+    (many_at pending_at c.args.count c.args.input.now) c.loop-test.false c.loop.invariant

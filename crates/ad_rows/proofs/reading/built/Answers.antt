@@ -5,6 +5,7 @@ use Rattle.ad_rows.proofs.reading.built.Goals as goal
 
 pub of-requires : goal.of-requires
 of-requires c = record {
-  standing = sound_stand (dir_of c.args.schema (objects_of c.args.objects.items) c.args.pending.items (meta_seen c.args.meta)) c.requires;
+  standing = sound_stand (dir_of c.args.schema (objects_of c.args.objects.items) c.args.pending.items
+      (meta_seen c.args.meta)) c.requires;
   distinct = c.requires.distinct;
 }

@@ -15,7 +15,8 @@ use Rattle.ad_rows.proofs.reading.judged.Goals as goal
 pub judge-requires : goal.judge-requires
 judge-requires c =
     let taken = c.args.taken.now in
-    subst (λ (l : List (Object × Sd)). AreObjects c.args.schema.now taken.bad (objects_of l)) (sym c.as_slice.ensures.value)
+    subst (λ (l : List (Object × Sd)). AreObjects c.args.schema.now taken.bad (objects_of l))
+    (sym c.as_slice.ensures.value)
     (are_objects c.args.schema.now taken.bad taken.last (objects_of taken.objects.items) c.requires)
 
 pub returns-in-Err-clause-told : goal.returns-in-Err-clause-told
@@ -24,7 +25,10 @@ returns-in-Err-clause-told c =
     let taken = c.args.taken.now in
     let pending = c.args.pending.now in
     let meta = meta_seen c.args.meta.now in
-    let bad = subst (λ (l : List (Object × Sd)). IsLeastObject (IsContent schema) (objects_of l) taken.bad) (sym c.as_slice.ensures.value) (bad_is_least schema taken.bad taken.last (objects_of taken.objects.items) c.requires) in
-    let told = subst (λ (l : List (Object × Sd)). IsToldBy (dir_of schema (objects_of l) pending meta) c.in-Err.fault) c.as_slice.ensures.value (c.in-Err.ensures.told bad) in
+    let bad = subst (λ (l : List (Object × Sd)). IsLeastObject (IsContent schema) (objects_of l) taken.bad)
+    (sym c.as_slice.ensures.value) (bad_is_least schema taken.bad taken.last (objects_of taken.objects.items)
+    c.requires) in
+    let told = subst (λ (l : List (Object × Sd)). IsToldBy (dir_of schema (objects_of l) pending meta) c.in-Err.fault)
+    c.as_slice.ensures.value (c.in-Err.ensures.told bad) in
     let dir = dir_of schema (objects_of taken.objects.items) pending meta in
     subst (IsFaultOf dir) (sym c.of_soundness.ensures) (fault_of dir c.in-Err.fault told)

@@ -14,7 +14,8 @@ pub returns-in_err-schema : goal.returns-in_err-schema
 returns-in_err-schema g c =
     let rows = g.R.RowSource.rows c.args.rows in
     let p = err_from_is_err_and c.from_residual.result c.from_residual.ensures.1 in
-    refused_so (table_of rows) c.in_err-schema.field-0.0 p.0 c.from_residual.result p.1 p.2 (subst (λ (e : RowFault). IsRefusal (table_of rows) (of_row e)) (sym c.in_err-schema.ensures.fault) tt)
+    refused_so (table_of rows) c.in_err-schema.field-0.0 p.0 c.from_residual.result p.1 p.2
+    (subst (λ (e : RowFault). IsRefusal (table_of rows) (of_row e)) (sym c.in_err-schema.ensures.fault) tt)
 
 pub returns-in_err-taken : goal.returns-in_err-taken
 returns-in_err-taken g c =
@@ -23,7 +24,8 @@ returns-in_err-taken g c =
     let bytes = subst (AllByRecursion HasBytes) c.all-all.ensures c.are_bytes.ensures in
     let schema = c.as_ref.ensures.value ∙ c.in_ok-schema.ensures.schema ∙ ap schema_among c.all-all.ensures in
     refused_so (table_of rows) c.in_err-taken.field-0.0 p.0 c.from_residual-in_err-taken.result p.1 p.2
-    (row_answered rows (option_copied c.as_ref.result) c.in_err-taken.field-0.0 c.requires bytes schema c.in_err-taken.ensures.parts)
+    (row_answered rows (option_copied c.as_ref.result) c.in_err-taken.field-0.0 c.requires bytes schema
+    c.in_err-taken.ensures.parts)
 
 pub returns : goal.returns
 returns g c =
@@ -32,5 +34,6 @@ returns g c =
     let schema = c.in_ok-schema.ensures.schema ∙ ap schema_among c.all-all.ensures in
     let taken = c.in_ok-taken.taken in
     read_so (table_of rows) c.of_taken.result
-    (all_answered rows (parts_of taken) c.in_ok-schema.schema (option_copied c.as_ref.result) taken.bad taken.last c.of_taken.result c.requires bytes
+    (all_answered rows (parts_of taken) c.in_ok-schema.schema (option_copied c.as_ref.result) taken.bad taken.last
+    c.of_taken.result c.requires bytes
     schema (c.as_ref.ensures.value ∙ schema) c.in_ok-taken.ensures.parts c.in_ok-taken.ensures.taken c.of_taken.ensures)

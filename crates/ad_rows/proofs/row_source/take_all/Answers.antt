@@ -12,5 +12,6 @@ pub returns-clause-taken : goal.returns-clause-taken
 returns-clause-taken g c =
     let schema = option_copied c.args.schema in
     if_on _ (λ (s : List SchemaRecord). HasTaken s c.take_in.new.taken) schema
-    (if_all _ schema (λ s. subst (λ (os : List (Object × Sd)). AreTaken s None 0 (objects_of os)) (sym c.new.ensures.items) (record { rise = omega arith; small = tt; content = tt })))
+    (if_all _ schema (λ s. subst (λ (os : List (Object × Sd)). AreTaken s None 0 (objects_of os))
+    (sym c.new.ensures.items) (record { rise = omega arith; small = tt; content = tt })))
     c.in_ok-take_in.ensures.taken

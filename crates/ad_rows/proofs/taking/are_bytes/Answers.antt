@@ -6,7 +6,10 @@ use Rattle.ad_rows.specs.Taking.{HasBytes}
 use Rattle.ad_rows.proofs.taking.are_bytes.Goals as goal
 
 pub loop-row-preserved : goal.loop-row-preserved
-loop-row-preserved c = All-more HasBytes c.args.rows.now c.loop-row.row-index c.row-item.result c.loop-row-test.true c.loop-row.invariant (subst HasBytes c.row-item.is c.has_bytes.ensures)
+loop-row-preserved c = All-more HasBytes c.args.rows.now c.loop-row.row-index c.row-item.result c.loop-row-test.true
+    c.loop-row.invariant (subst HasBytes c.row-item.is c.has_bytes.ensures)
 
 pub returns : goal.returns
-returns c = recursion_from_All HasBytes c.args.rows.now (subst (λ (xs : List Row). All HasBytes xs) (take_all c.loop-row.row-index c.args.rows.now c.loop-row-test.false) c.loop-row.invariant)
+returns c = recursion_from_All HasBytes c.args.rows.now
+    (subst (λ (xs : List Row). All HasBytes xs) (take_all c.loop-row.row-index c.args.rows.now c.loop-row-test.false)
+    c.loop-row.invariant)

@@ -9,5 +9,6 @@ pub returns-then-not-is_live_link : goal.returns-then-not-is_live_link
 returns-then-not-is_live_link c = (
   λ t. absurd (false≢true t),
   λ all. absurd (false≢true (sym c.if-not-is_live_link.true
-      ∙ c.is_live_link.ensures.1 (one_of (IsLiveLink (objects_of c.args.objects.now)) stored_seen c.args.values.now c.loop-stored.stored-index c.stored-item.result c.loop-stored-test.true c.stored-item.is all))),
+      ∙ c.is_live_link.ensures.1 (one_of (IsLiveLink (objects_of c.args.objects.now)) stored_seen c.args.values.now
+      c.loop-stored.stored-index c.stored-item.result c.loop-stored-test.true c.stored-item.is all))),
 )

@@ -12,4 +12,5 @@ returns-in-Ok c =
     let seen : Object = object_seen item.0 item.1 in
     let at = got objects c.in-Ok.place item c.in-Ok.ensures.within c.index-objects-place.is in
     let number : seen.number ≡ c.args.number = c.in-Ok.ensures.found seen at in
-    subst (λ (n : ℕ). Some seen ≡ object_of (objects_of objects) n) number (sym (found_at 0 (objects_of objects) c.requires c.in-Ok.place seen at))
+    subst (λ (n : ℕ). Some seen ≡ object_of (objects_of objects) n) number
+    (sym (found_at 0 (objects_of objects) c.requires c.in-Ok.place seen at))

@@ -11,7 +11,10 @@ pub returns-then-not-are_live_links : goal.returns-then-not-are_live_links
 returns-then-not-are_live_links c = (
   λ t. absurd (false≢true t),
   λ all.
-      let one = one_of (AreLiveLinks (objects_of c.args.objects.now)) held_seen c.args.values.now c.loop-held.held-index c.held-item.result c.loop-held-test.true c.held-item.is all in
+      let one = one_of (AreLiveLinks (objects_of c.args.objects.now)) held_seen c.args.values.now
+      c.loop-held.held-index c.held-item.result c.loop-held-test.true c.held-item.is all in
       absurd (false≢true (sym c.if-not-are_live_links.true
-      ∙ c.are_live_links.ensures.1 (subst (λ (values : List Stored). AllByRecursion (IsLiveLink (objects_of c.args.objects.now)) (map stored_seen values)) (sym c.as_slice.ensures) one))),
+      ∙ c.are_live_links.ensures.1 (subst
+      (λ (values : List Stored). AllByRecursion (IsLiveLink (objects_of c.args.objects.now))
+      (map stored_seen values)) (sym c.as_slice.ensures) one))),
 )

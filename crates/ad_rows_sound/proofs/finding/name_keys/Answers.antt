@@ -10,6 +10,8 @@ loop-entry-preserved c =
     let i = c.loop-entry.entry-index in
     let x = c.entry-item.result in
     let so_far = c.loop-entry.invariant in (
-      keys_more name_key objects i x c.loop-entry.keys.items c.push.new.self.items c.in_ok-key.key c.loop-entry-test.true c.entry-item.is so_far.0 (c.in_ok-key.ensures.key x.1) c.in_ok-push.ensures.items,
-      all_more HasSmallParent (λ e. object_seen e.0 e.1) objects i x c.loop-entry-test.true c.entry-item.is so_far.1 c.in_ok-key.ensures.small,
+      keys_more name_key objects i x c.loop-entry.keys.items c.push.new.self.items c.in_ok-key.key
+          c.loop-entry-test.true c.entry-item.is so_far.0 (c.in_ok-key.ensures.key x.1) c.in_ok-push.ensures.items,
+      all_more HasSmallParent (λ e. object_seen e.0 e.1) objects i x c.loop-entry-test.true c.entry-item.is so_far.1
+          c.in_ok-key.ensures.small,
     )

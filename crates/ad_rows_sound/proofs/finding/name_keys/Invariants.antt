@@ -5,4 +5,5 @@ use Rattle.ad_rows_sound.specs.Parts.{HasSmallParent, name_key}
 use Rattle.ad_rows_sound.proofs.finding.name_keys.Given as goal
 
 abbrev pub invariant-loop-entry : goal.invariant-loop-entry
-invariant-loop-entry l = (l.keys.items ≡ map name_key (objects_of (take l.entry-index l.objects))) × AllByRecursion HasSmallParent (objects_of (take l.entry-index l.objects))
+invariant-loop-entry l = (l.keys.items ≡ map name_key (objects_of (take l.entry-index l.objects)))
+    × AllByRecursion HasSmallParent (objects_of (take l.entry-index l.objects))

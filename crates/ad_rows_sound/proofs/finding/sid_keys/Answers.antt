@@ -11,6 +11,8 @@ loop-entry-preserved c =
     let i = c.loop-entry.entry-index in
     let x = c.entry-item.result in
     let so_far = c.loop-entry.invariant in (
-      keys_more (sid_key schema) objects i x c.loop-entry.keys.items c.push.new.self.items c.in_ok-key.key c.loop-entry-test.true c.entry-item.is so_far.0 (c.in_ok-key.ensures.key x.1) c.in_ok-push.ensures.items,
-      all_more (HasSid schema) (λ e. object_seen e.0 e.1) objects i x c.loop-entry-test.true c.entry-item.is so_far.1 (c.in_ok-key.ensures.is x.1),
+      keys_more (sid_key schema) objects i x c.loop-entry.keys.items c.push.new.self.items c.in_ok-key.key
+          c.loop-entry-test.true c.entry-item.is so_far.0 (c.in_ok-key.ensures.key x.1) c.in_ok-push.ensures.items,
+      all_more (HasSid schema) (λ e. object_seen e.0 e.1) objects i x c.loop-entry-test.true c.entry-item.is so_far.1
+          (c.in_ok-key.ensures.is x.1),
     )

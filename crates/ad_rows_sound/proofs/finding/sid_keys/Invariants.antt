@@ -5,4 +5,5 @@ use Rattle.ad_rows_sound.specs.Parts.{HasSid, sid_key}
 use Rattle.ad_rows_sound.proofs.finding.sid_keys.Given as goal
 
 abbrev pub invariant-loop-entry : goal.invariant-loop-entry
-invariant-loop-entry l = (l.keys.items ≡ map (sid_key l.schema) (objects_of (take l.entry-index l.objects))) × AllByRecursion (HasSid l.schema) (objects_of (take l.entry-index l.objects))
+invariant-loop-entry l = (l.keys.items ≡ map (sid_key l.schema) (objects_of (take l.entry-index l.objects)))
+    × AllByRecursion (HasSid l.schema) (objects_of (take l.entry-index l.objects))

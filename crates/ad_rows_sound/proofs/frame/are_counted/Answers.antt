@@ -9,12 +9,16 @@ use Rattle.ad_rows_sound.proofs.frame.are_counted.Goals as goal
 pub loop-entry-preserved : goal.loop-entry-preserved
 loop-entry-preserved c =
     let x = c.entry-item.result in
-    all_more (IsCounted c.args.schema.now (option_copied c.args.domain) (meta_seen c.args.meta.now)) (λ e. object_seen e.0 e.1) c.args.objects.now c.loop-entry.entry-index x c.loop-entry-test.true c.entry-item.is c.loop-entry.invariant ((c.is_counted_in.ensures x.1).0 c.if-not-is_counted_in.false)
+    all_more (IsCounted c.args.schema.now (option_copied c.args.domain) (meta_seen c.args.meta.now))
+    (λ e. object_seen e.0 e.1) c.args.objects.now c.loop-entry.entry-index x c.loop-entry-test.true
+    c.entry-item.is c.loop-entry.invariant ((c.is_counted_in.ensures x.1).0 c.if-not-is_counted_in.false)
 
 pub returns-then-not-is_counted_in : goal.returns-then-not-is_counted_in
 returns-then-not-is_counted_in c =
     let x = c.entry-item.result in (
       λ t. absurd (false≢true t),
       λ all. absurd (false≢true (sym c.if-not-is_counted_in.true ∙ (c.is_counted_in.ensures x.1).1
-          (one_of (IsCounted c.args.schema.now (option_copied c.args.domain) (meta_seen c.args.meta.now)) (λ e. object_seen e.0 e.1) c.args.objects.now c.loop-entry.entry-index x c.loop-entry-test.true c.entry-item.is all))),
+          (one_of (IsCounted c.args.schema.now (option_copied c.args.domain) (meta_seen c.args.meta.now))
+          (λ e. object_seen e.0 e.1) c.args.objects.now c.loop-entry.entry-index x c.loop-entry-test.true
+          c.entry-item.is all))),
     )

@@ -6,4 +6,5 @@ use Rattle.ad_rows_sound.specs.Parts.{IsCounted}
 use Rattle.ad_rows_sound.proofs.frame.are_counted.Given as goal
 
 abbrev pub invariant-loop-entry : goal.invariant-loop-entry
-invariant-loop-entry l = AllByRecursion (IsCounted l.schema (option_copied l.domain) (meta_seen l.meta)) (objects_of (take l.entry-index l.objects))
+invariant-loop-entry l = AllByRecursion (IsCounted l.schema (option_copied l.domain) (meta_seen l.meta))
+    (objects_of (take l.entry-index l.objects))

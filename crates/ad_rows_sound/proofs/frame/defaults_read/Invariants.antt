@@ -6,4 +6,5 @@ use Rattle.ad_dir_model.specs.Soundness.{default_reads}
 use Rattle.ad_rows_sound.proofs.frame.defaults_read.Given as goal
 
 abbrev pub invariant-loop-info : goal.invariant-loop-info
-invariant-loop-info l = list_all (default_reads (option_copied l.domain)) (take l.info-index (classes_of l.schema)) ≡ true
+invariant-loop-info l = list_all (default_reads (option_copied l.domain)) (take l.info-index (classes_of l.schema))
+    ≡ true

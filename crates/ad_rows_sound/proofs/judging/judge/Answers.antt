@@ -22,14 +22,17 @@ returns-then-objects-gt-MAX_OBJECTS-clause-told c = λ _.
     frame_fails refl (too_many c.args.schema.now objects c.args.pending.now (meta_seen c.args.meta.now) many)
 
 pub returns-then-not-branch-clause-told : goal.returns-then-not-branch-clause-told
-returns-then-not-branch-clause-told c = λ _. frame_fails refl (λ sound. false≢true (sym c.if-not-branch.true ∙ (c.in_ok-is_frame.ensures c.args.pending.now).1 sound))
+returns-then-not-branch-clause-told c = λ _.
+    frame_fails refl (λ sound. false≢true (sym c.if-not-branch.true ∙ (c.in_ok-is_frame.ensures c.args.pending.now).1
+    sound))
 
 pub returns-in-Some-clause-told : goal.returns-in-Some-clause-told
 returns-in-Some-clause-told c = λ is_bad.
     let objects = objects_of c.args.objects.now in
     let meta = meta_seen c.args.meta.now in
     object_fails ((c.in_ok-is_frame.ensures c.args.pending.now).0 c.if-not-branch.false)
-    (subst (IsLeastObject (IsSoundAmong (dir_of c.args.schema.now objects c.args.pending.now meta)) objects) c.in-Some.is (c.in_ok-number.ensures.least is_bad meta))
+    (subst (IsLeastObject (IsSoundAmong (dir_of c.args.schema.now objects c.args.pending.now meta)) objects)
+    c.in-Some.is (c.in_ok-number.ensures.least is_bad meta))
 
 pub returns-in-Some-2-clause-told : goal.returns-in-Some-2-clause-told
 returns-in-Some-2-clause-told c = λ is_bad.
@@ -38,8 +41,10 @@ returns-in-Some-2-clause-told c = λ is_bad.
     let pending = c.args.pending.now in
     let meta = meta_seen c.args.meta.now in
     entry_fails ((c.in_ok-is_frame.ensures pending).0 c.if-not-branch.false)
-    (subst (IsLeastObject (IsSoundAmong (dir_of schema objects pending meta)) objects) c.in_default.is (c.in_ok-number.ensures.least is_bad meta))
-    (subst (λ (found : Option ℕ). MatchOption found (ArePending objects pending) (IsFirstBadPending (dir_of schema objects pending meta))) c.in-Some-2.is (c.in_ok-parent.ensures schema meta))
+    (subst (IsLeastObject (IsSoundAmong (dir_of schema objects pending meta)) objects) c.in_default.is
+    (c.in_ok-number.ensures.least is_bad meta))
+    (subst (λ (found : Option ℕ). MatchOption found (ArePending objects pending)
+    (IsFirstBadPending (dir_of schema objects pending meta))) c.in-Some-2.is (c.in_ok-parent.ensures schema meta))
 
 pub returns-clause-sound : goal.returns-clause-sound
 returns-clause-sound c =
@@ -48,7 +53,11 @@ returns-clause-sound c =
     let pending = c.args.pending.now in
     let meta = meta_seen c.args.meta.now in
     let good = c.in_ok-number.ensures.bad c.in_default.is in
-    let is_bad = subst (IsLeastObject (IsContent schema) objects) (sym good) (every (IsContent schema) objects (c.requires.content good)) in
+    let is_bad = subst (IsLeastObject (IsContent schema) objects) (sym good)
+    (every (IsContent schema) objects (c.requires.content good)) in
     all_sound schema objects pending meta c.requires.rise ((c.in_ok-is_frame.ensures pending).0 c.if-not-branch.false)
-    (subst (IsLeastObject (IsSoundAmong (dir_of schema objects pending meta)) objects) c.in_default.is (c.in_ok-number.ensures.least is_bad meta))
-    (subst (λ (found : Option ℕ). MatchOption found (ArePending objects pending) (IsFirstBadPending (dir_of schema objects pending meta))) c.in_default-2.is (c.in_ok-parent.ensures schema meta))
+    (subst (IsLeastObject (IsSoundAmong (dir_of schema objects pending meta)) objects) c.in_default.is
+    (c.in_ok-number.ensures.least is_bad meta))
+    (subst (λ (found : Option ℕ). MatchOption found (ArePending objects pending)
+    (IsFirstBadPending (dir_of schema objects pending meta))) c.in_default-2.is
+    (c.in_ok-parent.ensures schema meta))

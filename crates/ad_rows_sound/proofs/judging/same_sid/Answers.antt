@@ -10,5 +10,8 @@ pub returns : goal.returns
 returns c =
     let schema = c.args.schema.now in
     let objects = objects_of c.args.objects.now in
-    let clash = subst (λ (keys : List (List ℕ)). IsLeast (IsLast keys) c.in_ok-place.place) c.in_ok-keys.ensures.keys c.in_ok-place.ensures in
-    least_sid schema objects c.number_at.result c.in_ok-keys.ensures.are c.requires.small (least_own (sid_key schema) objects c.requires.rise c.in_ok-place.place c.number_at.result clash c.number_at.ensures)
+    let clash = subst (λ (keys : List (List ℕ)). IsLeast (IsLast keys) c.in_ok-place.place) c.in_ok-keys.ensures.keys
+    c.in_ok-place.ensures in
+    least_sid schema objects c.number_at.result c.in_ok-keys.ensures.are c.requires.small
+    (least_own (sid_key schema) objects c.requires.rise c.in_ok-place.place c.number_at.result clash
+    c.number_at.ensures)

@@ -8,8 +8,14 @@ use Rattle.ad_rows_sound.proofs.settled.guid_of.Goals as goal
 
 pub returns-in-Some : goal.returns-in-Some
 returns-in-Some c =
-    sym (guid_is c.args.schema.now c.args.class.0 ∙ ap (λ (found : Option ClassInfo). unwrap_or (option_map (λ (info : ClassInfo). info.guid) found) no_guid) (ap (λ (l : List ClassInfo). slice_get l c.args.class.0) (sym c.classes.ensures) ∙ sym c.class_at.ensures ∙ ap option_copied c.in-Some.is))
+    sym (guid_is c.args.schema.now c.args.class.0
+    ∙ ap (λ (found : Option ClassInfo). unwrap_or (option_map (λ (info : ClassInfo). info.guid) found) no_guid)
+    (ap (λ (l : List ClassInfo). slice_get l c.args.class.0) (sym c.classes.ensures) ∙ sym c.class_at.ensures
+    ∙ ap option_copied c.in-Some.is))
 
 pub returns-in-None : goal.returns-in-None
 returns-in-None c =
-    sym (guid_is c.args.schema.now c.args.class.0 ∙ ap (λ (found : Option ClassInfo). unwrap_or (option_map (λ (info : ClassInfo). info.guid) found) no_guid) (ap (λ (l : List ClassInfo). slice_get l c.args.class.0) (sym c.classes.ensures) ∙ sym c.class_at.ensures ∙ ap option_copied c.in-None.is))
+    sym (guid_is c.args.schema.now c.args.class.0
+    ∙ ap (λ (found : Option ClassInfo). unwrap_or (option_map (λ (info : ClassInfo). info.guid) found) no_guid)
+    (ap (λ (l : List ClassInfo). slice_get l c.args.class.0) (sym c.classes.ensures) ∙ sym c.class_at.ensures
+    ∙ ap option_copied c.in-None.is))

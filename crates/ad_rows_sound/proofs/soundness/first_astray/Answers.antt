@@ -10,10 +10,15 @@ use Rattle.ad_rows_sound.proofs.soundness.first_astray.Goals as goal
 
 pub returns-then-not-branch : goal.returns-then-not-branch
 returns-then-not-branch c =
-    least_here (IsStanding c.args.schema.now (objects_of c.args.objects.now) c.args.pending.now) c.args.objects.now c.loop-entry.entry-index c.entry-item.result c.requires c.loop-entry-test.true c.entry-item.is c.loop-entry.invariant
+    least_here (IsStanding c.args.schema.now (objects_of c.args.objects.now) c.args.pending.now) c.args.objects.now
+    c.loop-entry.entry-index c.entry-item.result c.requires c.loop-entry-test.true c.entry-item.is
+    c.loop-entry.invariant
     (λ standing. false≢true (sym c.if-not-branch.true ∙ c.in_ok-stands.ensures.1 standing))
 
 pub returns : goal.returns
 returns c =
-    every (IsStanding c.args.schema.now (objects_of c.args.objects.now) c.args.pending.now) (objects_of c.args.objects.now)
-    (subst (λ (l : List Entry). AllByRecursion (IsStanding c.args.schema.now (objects_of c.args.objects.now) c.args.pending.now) (objects_of l)) (take_all c.loop-entry.entry-index c.args.objects.now c.loop-entry-test.false) c.loop-entry.invariant)
+    every (IsStanding c.args.schema.now (objects_of c.args.objects.now) c.args.pending.now)
+    (objects_of c.args.objects.now)
+    (subst (λ (l : List Entry). AllByRecursion
+    (IsStanding c.args.schema.now (objects_of c.args.objects.now) c.args.pending.now) (objects_of l))
+    (take_all c.loop-entry.entry-index c.args.objects.now c.loop-entry-test.false) c.loop-entry.invariant)

@@ -5,4 +5,5 @@ use Rattle.ad_rows_sound.specs.Parts.{IsStanding}
 use Rattle.ad_rows_sound.proofs.soundness.first_astray.Given as goal
 
 abbrev pub invariant-loop-entry : goal.invariant-loop-entry
-invariant-loop-entry l = AllByRecursion (IsStanding l.schema (objects_of l.objects) l.pending) (objects_of (take l.entry-index l.objects))
+invariant-loop-entry l = AllByRecursion (IsStanding l.schema (objects_of l.objects) l.pending)
+    (objects_of (take l.entry-index l.objects))

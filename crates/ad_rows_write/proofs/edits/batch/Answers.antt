@@ -9,5 +9,8 @@ loop-edit-preserved c =
     let xs = c.args.edits.now in
     let i = c.loop-edit.edit-index in
     let x = c.edit-item.result in
-    let longer = sym (map-append edit_seen (take i xs) (x ∷ [])) ∙ ap (map edit_seen) (ap (λ y. take i xs ++ y ∷ []) c.edit-item.is ∙ sym (take_more xs i x c.loop-edit-test.true)) in
-    subst (λ l. AreRowsOfEdits l c.note.new.self) longer (c.in_ok-note.ensures.noted (map edit_seen (take i xs)) c.loop-edit.invariant)
+    let longer = sym (map-append edit_seen (take i xs) (x ∷ []))
+    ∙ ap (map edit_seen) (ap (λ y. take i xs ++ y ∷ []) c.edit-item.is
+    ∙ sym (take_more xs i x c.loop-edit-test.true)) in
+    subst (λ l. AreRowsOfEdits l c.note.new.self) longer
+    (c.in_ok-note.ensures.noted (map edit_seen (take i xs)) c.loop-edit.invariant)

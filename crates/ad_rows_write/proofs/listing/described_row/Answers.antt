@@ -10,5 +10,13 @@ returns c =
     let body = c.in_ok-body-in-Some.body.items in
     let own = ap (option_map seen) (sym c.in-Some.is) ∙ c.sd.ensures in
     let spelled = c.in_ok-body-in-Some.ensures (seen c.in-Some.sd) c.as_bytes.ensures in
-    let row = c.row.ensures in
-    (row.0, row.1 ∙ c.from.ensures, (body, row.2, described objects c.args.number c.args.object.now (seen c.in-Some.sd) body c.requires own spelled))
+    let row = c.row.ensures in (
+      row.0,
+      row.1 ∙ c.from.ensures,
+      (
+        body,
+        row.2,
+        described objects c.args.number c.args.object.now
+            (seen c.in-Some.sd) body c.requires own spelled,
+      ),
+    )

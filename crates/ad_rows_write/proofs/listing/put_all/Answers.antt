@@ -13,11 +13,15 @@ pub returns : goal.returns
 returns g c =
     let dir = c.args.dir.now in
     let rows = g.R.RowList.rows in
-    let objects = adds_all (AreRowsAt 1 SpellsObject (objects_at dir.objects (numbers dir.objects))) (rows c.args.none) (rows c.in_ok-objects.objects) c.requires c.in_ok-objects.ensures in
+    let objects = adds_all (AreRowsAt 1 SpellsObject (objects_at dir.objects (numbers dir.objects)))
+    (rows c.args.none) (rows c.in_ok-objects.objects) c.requires c.in_ok-objects.ensures in
     let pending = c.as_slice.ensures.value ∙ c.in_ok-pending.ensures ∙ c.queue.ensures in
     let records = c.records.ensures ∙ c.schema.ensures in
-    let same : dir_of c.records.result.now dir.objects c.as_slice.result.now (meta_seen c.meta.result.now) ≡ dir = λ i. dir_of (records i) dir.objects (pending i) (c.meta.ensures i) in
-    let all = IfOk-weaker c.put_rest.result _ (λ put. AreAllOf dir (rows put)) (λ put stand. subst (λ (d : Directory). AreAllOf d (rows put)) same (stand dir.objects c.stands.ensures.rise objects)) c.put_rest.ensures in
+    let same : dir_of c.records.result.now dir.objects c.as_slice.result.now (meta_seen c.meta.result.now) ≡ dir
+    = λ i. dir_of (records i) dir.objects (pending i) (c.meta.ensures i) in
+    let all = IfOk-weaker c.put_rest.result _ (λ put. AreAllOf dir (rows put))
+    (λ put stand. subst (λ (d : Directory). AreAllOf d (rows put)) same
+    (stand dir.objects c.stands.ensures.rise objects)) c.put_rest.ensures in
     record {
       rows = IfOk-weaker c.put_rest.result _ _ (λ put are. are.0) all;
       listed = IfOk-weaker c.put_rest.result _ _ (λ put are. are.1) all;

@@ -11,5 +11,7 @@ loop-i-preserved g c =
     let i = c.loop-i.i in
     let x = c.index-records-i.result in
     let row = c.row.ensures in
-    adds_push 4 SpellsRecord (counted 0 (take i rs)) (counted 0 (take (i + 1) rs)) (i, x) (rows c.args.into) (rows c.loop-i.rows) (rows c.in_ok-rows.rows) c.row.result
-    (counted_longer rs i x c.loop-i-test.true c.index-records-i.is) c.loop-i.invariant (row.0, row.1, (c.in_ok-body.body.items, row.2, c.in_ok-body.ensures)) c.in_ok-rows.ensures
+    adds_push 4 SpellsRecord (counted 0 (take i rs)) (counted 0 (take (i + 1) rs)) (i, x) (rows c.args.into)
+    (rows c.loop-i.rows) (rows c.in_ok-rows.rows) c.row.result
+    (counted_longer rs i x c.loop-i-test.true c.index-records-i.is) c.loop-i.invariant
+    (row.0, row.1, (c.in_ok-body.body.items, row.2, c.in_ok-body.ensures)) c.in_ok-rows.ensures

@@ -15,7 +15,8 @@ returns c =
     let b1 = c.put4.new.into.items in
     let b2 = c.put4-2.new.into.items in
     let b3 = c.put_text.new.into.items in
-    let p3 : Puts (SpellsText above) b2 b3 = subst (λ (text : List ℕ). Puts (SpellsText text) b2 b3) (c.deref.ensures.value ∙ c.in_ok-suffix.ensures.written) c.in_ok-put_text.ensures in
+    let p3 : Puts (SpellsText above) b2 b3 = subst (λ (text : List ℕ). Puts (SpellsText text) b2 b3)
+    (c.deref.ensures.value ∙ c.in_ok-suffix.ensures.written) c.in_ok-put_text.ensures in
     let name : Puts (SpellsName meta.suffix.rdns) b2 b3 = (p3.0, (c.has_form.ensures, p3.1), p3.2) in
     let Behind : List ℕ → Type 0 = StartsWith (SpellsBe 4) meta.next_rid (SpellsName meta.suffix.rdns) in
     let p2 = puts_then (SpellsBe 4) meta.next_rid (SpellsName meta.suffix.rdns) b1 b2 b3 c.in_ok-put4-2.ensures name in

@@ -20,10 +20,24 @@ returns c = λ of normal.
     let b4 = c.put_list.new.into.items in
     let b5 = c.put_bytes.new.into.items in
     let Normal : List ℕ → Type 0 = SpellsNormal of in
-    let p5 : Puts Normal b4 b5 = puts_weaker (λ (text : List ℕ). text ≡ sd) Normal b4 b5 (λ text is. subst Normal (sym is) normal) c.in_ok-put_bytes.ensures in
-    let p4 = puts_then (SpellsList SpellsHeld) values Normal b3 b4 b5 (puts_mapped SpellsHeld held_seen c.as_slice-2.result.now o.values b3 b4 c.as_slice-2.ensures c.in_ok-put_list.ensures) p5 in
-    let p3 = puts_then SpellsText o.name (StartsWith (SpellsList SpellsHeld) values Normal) b2 b3 b5 (subst (λ (name : List ℕ). Puts (SpellsText name) b2 b3) c.as_slice.ensures c.in_ok-put_text.ensures) p4 in
-    let p2 = puts_then (SpellsBe 4) o.class.0 (StartsWith SpellsText o.name (StartsWith (SpellsList SpellsHeld) values Normal)) b1 b2 b5 c.in_ok-put4-2.ensures p3 in
-    let p1 = puts_then (SpellsBe 4) o.parent (StartsWith (SpellsBe 4) o.class.0 (StartsWith SpellsText o.name (StartsWith (SpellsList SpellsHeld) values Normal))) b0 b1 b5 c.in_ok-put4.ensures p2 in
-    puts_all (StartsWith (SpellsBe 4) o.parent (StartsWith (SpellsBe 4) o.class.0 (StartsWith SpellsText o.name (StartsWith (SpellsList SpellsHeld) values Normal)))) b5
-    (subst (λ (l : List ℕ). Puts (StartsWith (SpellsBe 4) o.parent (StartsWith (SpellsBe 4) o.class.0 (StartsWith SpellsText o.name (StartsWith (SpellsList SpellsHeld) values Normal)))) l b5) c.in_ok-body.ensures.items p1)
+    let p5 : Puts Normal b4 b5 = puts_weaker (λ (text : List ℕ). text ≡ sd) Normal b4 b5
+    (λ text is. subst Normal (sym is) normal) c.in_ok-put_bytes.ensures in
+    let p4 = puts_then (SpellsList SpellsHeld) values Normal b3 b4 b5
+    (puts_mapped SpellsHeld held_seen c.as_slice-2.result.now o.values b3 b4 c.as_slice-2.ensures
+    c.in_ok-put_list.ensures) p5 in
+    let p3 = puts_then SpellsText o.name (StartsWith (SpellsList SpellsHeld) values Normal) b2 b3 b5
+    (subst (λ (name : List ℕ). Puts (SpellsText name) b2 b3) c.as_slice.ensures c.in_ok-put_text.ensures) p4 in
+    let p2 = puts_then (SpellsBe 4) o.class.0
+    (StartsWith SpellsText o.name (StartsWith (SpellsList SpellsHeld) values Normal)) b1 b2 b5
+    c.in_ok-put4-2.ensures p3 in
+    let p1 = puts_then (SpellsBe 4) o.parent
+    (StartsWith (SpellsBe 4) o.class.0
+    (StartsWith SpellsText o.name (StartsWith (SpellsList SpellsHeld) values Normal))) b0 b1 b5
+    c.in_ok-put4.ensures p2 in
+    puts_all (StartsWith (SpellsBe 4) o.parent
+    (StartsWith (SpellsBe 4) o.class.0
+    (StartsWith SpellsText o.name (StartsWith (SpellsList SpellsHeld) values Normal)))) b5
+    (subst (λ (l : List ℕ). Puts (StartsWith (SpellsBe 4) o.parent
+    (StartsWith (SpellsBe 4) o.class.0
+    (StartsWith SpellsText o.name (StartsWith (SpellsList SpellsHeld) values Normal)))) l b5)
+    c.in_ok-body.ensures.items p1)

@@ -12,7 +12,8 @@ unfolding has_name
 returns-then-is_some-clause-fault c = λ _.
     let same : c.in_ok-name.name ≡ text_of DisplayName c.args.lines.now = c.in_ok-name.ensures ∙ c.text_of.ensures in
     let found : is_some (place_of c.args.names.now (text_of DisplayName c.args.lines.now)) ≡ true =
-    ap (λ (n : List ℕ). is_some (place_of c.args.names.now n)) (sym (c.as_slice.ensures ∙ same)) ∙ ap is_some (sym c.find.ensures) ∙ sym c.is_some.ensures ∙ c.if-is_some.true in
+    ap (λ (n : List ℕ). is_some (place_of c.args.names.now n)) (sym (c.as_slice.ensures ∙ same))
+    ∙ ap is_some (sym c.find.ensures) ∙ sym c.is_some.ensures ∙ c.if-is_some.true in
     taken _ _ _ same found
 
 pub returns-clause-fault : goal.returns-clause-fault
@@ -20,5 +21,6 @@ unfolding has_name
 returns-clause-fault c =
     let same : c.in_ok-name.name ≡ text_of DisplayName c.args.lines.now = c.in_ok-name.ensures ∙ c.text_of.ensures in
     let found : is_some (place_of c.args.names.now (text_of DisplayName c.args.lines.now)) ≡ false =
-    ap (λ (n : List ℕ). is_some (place_of c.args.names.now n)) (sym (c.as_slice.ensures ∙ same)) ∙ ap is_some (sym c.find.ensures) ∙ sym c.is_some.ensures ∙ c.if-is_some.false in
+    ap (λ (n : List ℕ). is_some (place_of c.args.names.now n)) (sym (c.as_slice.ensures ∙ same))
+    ∙ ap is_some (sym c.find.ensures) ∙ sym c.is_some.ensures ∙ c.if-is_some.false in
     free _ _ found

@@ -4,4 +4,5 @@ use Rattle.ad_schema.specs.Attributes.{lines_of}
 use Rattle.ad_schema.proofs.classes.class_lines.Given as goal
 
 abbrev pub invariant-loop-record : goal.invariant-loop-record
-invariant-loop-record l = map (λ lines. lines.now) l.all.items ++ lines_of Class (drop l.record-index l.records) ≡ lines_of Class l.records
+invariant-loop-record l = map (λ lines. lines.now) l.all.items ++ lines_of Class (drop l.record-index l.records)
+    ≡ lines_of Class l.records

@@ -24,7 +24,11 @@ pub over-requires-clause-few : goal.over-requires-clause-few
 over-requires-clause-few c = c.in_ok-found.ensures.few
 
 pub over-requires-clause-schema : goal.over-requires-clause-schema
-over-requires-clause-schema c = record { added = c.requires.added; finished = ap is_ok (rw c.as_slice.ensures.value at c.in_ok-found.ensures.made) }
+over-requires-clause-schema c = record {
+  added = c.requires.added;
+  finished
+      = ap is_ok (rw c.as_slice.ensures.value at c.in_ok-found.ensures.made);
+}
 
 pub returns : goal.returns
 returns c = (rw c.as_slice.ensures.value at c.in_ok-found.ensures.made) ∙ ap Ok (sym c.in_ok-over.ensures)

@@ -5,13 +5,17 @@ use Rattle.ad_schema.proofs.links.places_of.Goals as goal
 
 pub loop-line-preserved-in_default : goal.loop-line-preserved-in_default
 loop-line-preserved-in_default c =
-    let step = values_at (place_of c.args.names.now) c.args.field c.args.system c.args.lines.now c.loop-line.line-index c.line-item.result c.loop-line-test.true c.line-item.is in
+    let step = values_at (place_of c.args.names.now) c.args.field c.args.system c.args.lines.now
+    c.loop-line.line-index c.line-item.result c.loop-line-test.true c.line-item.is in
     passed _ _ _ _ _ c.loop-line.invariant step (sym c.place_in.ensures ∙ c.in_default.is)
 
 pub loop-line-preserved : goal.loop-line-preserved
 loop-line-preserved c =
-    let step = values_at (place_of c.args.names.now) c.args.field c.args.system c.args.lines.now c.loop-line.line-index c.line-item.result c.loop-line-test.true c.line-item.is in
+    let step = values_at (place_of c.args.names.now) c.args.field c.args.system c.args.lines.now
+    c.loop-line.line-index c.line-item.result c.loop-line-test.true c.line-item.is in
     rw c.in_ok-push.ensures.ok (pushed _ _ _ _ _ _ c.loop-line.invariant step (sym c.place_in.ensures ∙ c.in-Some.is))
 
 pub returns : goal.returns
-returns c = ended _ _ _ c.loop-line.invariant (values_end (place_of c.args.names.now) c.args.field c.args.system c.args.lines.now c.loop-line.line-index c.loop-line-test.false)
+returns c = ended _ _ _ c.loop-line.invariant
+    (values_end (place_of c.args.names.now) c.args.field c.args.system c.args.lines.now c.loop-line.line-index
+    c.loop-line-test.false)

@@ -5,6 +5,7 @@ use Rattle.ad_schema.proofs.number.digits_below.Given as goal
 
 abbrev pub invariant-loop-byte : goal.invariant-loop-byte
 invariant-loop-byte l = record {
-  same : option_and_then (if_below l.limit) (digits_behind l.number (drop l.byte-index l.text)) ≡ option_and_then (if_below l.limit) (digits_behind 0 l.text);
+  same : option_and_then (if_below l.limit) (digits_behind l.number (drop l.byte-index l.text))
+      ≡ option_and_then (if_below l.limit) (digits_behind 0 l.text);
   below : l.number < l.limit;
 }

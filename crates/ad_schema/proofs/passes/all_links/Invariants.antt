@@ -5,4 +5,5 @@ use Rattle.ad_schema.specs.Links.{links_in}
 use Rattle.ad_schema.proofs.passes.all_links.Given as goal
 
 abbrev pub invariant-loop-record : goal.invariant-loop-record
-invariant-loop-record l = l.links.items ++ map (links_in l.attrs l.classes) (lines_of Class (drop l.record-index l.records)) ≡ map (links_in l.attrs l.classes) (lines_of Class l.records)
+invariant-loop-record l = l.links.items ++ map (links_in l.attrs l.classes)
+    (lines_of Class (drop l.record-index l.records)) ≡ map (links_in l.attrs l.classes) (lines_of Class l.records)

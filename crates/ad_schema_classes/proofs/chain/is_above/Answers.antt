@@ -11,17 +11,21 @@ loop-left-init c = chain_starts (λ classes. contains classes c.args.superior) c
 pub returns-then-at-superior : goal.returns-then-at-superior
 returns-then-at-superior c =
     let is : (c.loop-left.at == c.args.superior) ≡ true = grind (arith, nat_tests) in
-    sym (any_first (λ x. x == c.args.superior) (aboves c.args.links.now) c.loop-left.left c.loop-left.at c.loop-left-test.true is) ∙ c.loop-left.invariant
+    sym (any_first (λ x. x == c.args.superior) (aboves c.args.links.now) c.loop-left.left c.loop-left.at
+    c.loop-left-test.true is) ∙ c.loop-left.invariant
 
 pub loop-left-preserved : goal.loop-left-preserved
 loop-left-preserved c =
     let not : (c.loop-left.at == c.args.superior) ≡ false = grind (arith, nat_tests) in
-    sym (any_more (λ x. x == c.args.superior) (aboves c.args.links.now) c.loop-left.left c.loop-left.at c.in-Some.above c.loop-left-test.true not (sym c.above_of.ensures ∙ c.in-Some.is)) ∙ c.loop-left.invariant
+    sym (any_more (λ x. x == c.args.superior) (aboves c.args.links.now) c.loop-left.left c.loop-left.at
+    c.in-Some.above c.loop-left-test.true not (sym c.above_of.ensures ∙ c.in-Some.is)) ∙ c.loop-left.invariant
 
 pub returns-in-None : goal.returns-in-None
 returns-in-None c =
     let not : (c.loop-left.at == c.args.superior) ≡ false = grind (arith, nat_tests) in
-    sym (any_last (λ x. x == c.args.superior) (aboves c.args.links.now) c.loop-left.left c.loop-left.at c.loop-left-test.true not (sym c.above_of.ensures ∙ c.in-None.is)) ∙ c.loop-left.invariant
+    sym (any_last (λ x. x == c.args.superior) (aboves c.args.links.now) c.loop-left.left c.loop-left.at
+    c.loop-left-test.true not (sym c.above_of.ensures ∙ c.in-None.is)) ∙ c.loop-left.invariant
 
 pub returns : goal.returns
-returns c = sym (any_done (λ x. x == c.args.superior) (aboves c.args.links.now) c.loop-left.left c.loop-left.at (omega arith)) ∙ c.loop-left.invariant
+returns c = sym (any_done (λ x. x == c.args.superior) (aboves c.args.links.now) c.loop-left.left c.loop-left.at
+    (omega arith)) ∙ c.loop-left.invariant

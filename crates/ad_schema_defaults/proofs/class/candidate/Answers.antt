@@ -12,9 +12,11 @@ loop-one-preserved c =
     let schema = c.args.schema.now in
     let classes = c.args.classes.now in
     ap (λ (n : ℕ). found schema (ids classes) (n ∷ ids (drop (c.loop-one.one-index + 1) classes))) c.lower-class.ensures
-    ∙ sym (gone_on schema (c.chains_end.ensures schema c.make_schema.ensures) classes c.loop-one.one-index c.loop-one.class.0 _ c.loop-one-test.true)
+    ∙ sym (gone_on schema (c.chains_end.ensures schema c.make_schema.ensures) classes c.loop-one.one-index
+    c.loop-one.class.0 _ c.loop-one-test.true)
     ∙ c.loop-one.invariant
 
 pub returns : goal.returns
 unfolding lowest_of
-returns c = sym c.loop-one.invariant ∙ ended c.args.schema.now c.args.classes.now c.loop-one.one-index c.loop-one.class.0 (omega (arith, c.loop-one-test.false))
+returns c = sym c.loop-one.invariant ∙ ended c.args.schema.now c.args.classes.now c.loop-one.one-index
+    c.loop-one.class.0 (omega (arith, c.loop-one-test.false))

@@ -7,4 +7,5 @@ use Rattle.ad_sd.proofs.exact.after_entries.Given as goal
 
 -- the entries so far and those that are still to be read are the whole
 abbrev pub invariant-loop : goal.invariant-loop
-invariant-loop l = (front : List Entry) × (with_front front (many_at entry_exactly_at (l.count - l.counter) l.rest) ≡ many_at entry_exactly_at l.count l.bytes)
+invariant-loop l = (front : List Entry) × (with_front front (many_at entry_exactly_at (l.count - l.counter) l.rest)
+    ≡ many_at entry_exactly_at l.count l.bytes)

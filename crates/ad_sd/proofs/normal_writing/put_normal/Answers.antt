@@ -21,5 +21,6 @@ returns c =
         dacl = subst AreEntries c.as_slice-dacl.ensures c.in_ok-put_entries.ensures.are;
         sacl = subst AreEntries c.as_slice-sacl.ensures c.in_ok-put_entries-2.ensures.are;
       },
-      normal_put sd c.put_entries-2.new.into.items c.args.into.now.items c.marks_of.result c.requires.empty c.marks_of.ensures put,
+      normal_put sd c.put_entries-2.new.into.items c.args.into.now.items c.marks_of.result c.requires.empty
+          c.marks_of.ensures put,
     )

@@ -8,7 +8,9 @@ pub tail-entries-requires : goal.tail-entries-requires
 tail-entries-requires c = (list_there c.args.bytes.now c.requires).eight
 
 pub after_entries-requires : goal.after_entries-requires
-after_entries-requires c = list_readable c.args.bytes.now c.tail-entries.result.now c.read_u64-count.result c.requires c.read_u64-count.ensures c.tail-entries.ensures
+after_entries-requires c = list_readable c.args.bytes.now c.tail-entries.result.now c.read_u64-count.result c.requires
+    c.read_u64-count.ensures c.tail-entries.ensures
 
 pub returns : goal.returns
-returns c = list_after c.args.bytes.now c.tail-entries.result.now c.after_entries.result.now c.read_u64-count.result c.requires c.read_u64-count.ensures c.tail-entries.ensures c.after_entries.ensures
+returns c = list_after c.args.bytes.now c.tail-entries.result.now c.after_entries.result.now c.read_u64-count.result
+    c.requires c.read_u64-count.ensures c.tail-entries.ensures c.after_entries.ensures

@@ -9,11 +9,18 @@ push_codes-requires c = rights_ascii c.right_table.result.now c.right_table.ensu
 
 pub returns-then-mask-eq-ALL_RIGHTS : goal.returns-then-mask-eq-ALL_RIGHTS
 returns-then-mask-eq-ALL_RIGHTS c =
-    let text : codes_text c.right_table.result.now c.args.mask ≡ rights_text c.args.mask = ap (λ t. codes_text t c.args.mask) c.right_table.ensures ∙ sym (as_codes c.args.mask c.if-mask-eq-ALL_RIGHTS.true) in
-    subst (λ (t : List ℕ). OnOk c.push_codes.result (string_bytes c.push_codes.new.text ≡ string_bytes c.args.text.now ++ t)) text c.push_codes.ensures
+    let text : codes_text c.right_table.result.now c.args.mask ≡ rights_text c.args.mask
+    = ap (λ t. codes_text t c.args.mask) c.right_table.ensures
+    ∙ sym (as_codes c.args.mask c.if-mask-eq-ALL_RIGHTS.true) in
+    subst (λ (t : List ℕ). OnOk c.push_codes.result (string_bytes c.push_codes.new.text ≡ string_bytes c.args.text.now
+    ++ t)) text c.push_codes.ensures
 
 pub returns : goal.returns
 returns c =
-    let text : string_bytes c.push_str.new.self ++ hex_text 8 c.args.mask ≡ string_bytes c.args.text.now ++ rights_text c.args.mask =
-    ap (λ (t : List ℕ). t ++ hex_text 8 c.args.mask) c.in_ok-push_str.ensures.bytes ∙ append_assoc (string_bytes c.args.text.now) (codes "0x") (hex_text 8 c.args.mask) ∙ ap (λ (t : List ℕ). string_bytes c.args.text.now ++ t) (sym (as_hex c.args.mask c.if-mask-eq-ALL_RIGHTS.false)) in
+    let text : string_bytes c.push_str.new.self ++ hex_text 8 c.args.mask ≡ string_bytes c.args.text.now
+    ++ rights_text c.args.mask =
+    ap (λ (t : List ℕ). t ++ hex_text 8 c.args.mask) c.in_ok-push_str.ensures.bytes
+    ∙ append_assoc (string_bytes c.args.text.now) (codes "0x") (hex_text 8 c.args.mask)
+    ∙ ap (λ (t : List ℕ). string_bytes c.args.text.now ++ t)
+    (sym (as_hex c.args.mask c.if-mask-eq-ALL_RIGHTS.false)) in
     subst (λ (t : List ℕ). OnOk c.push_hex.result (string_bytes c.push_hex.new.text ≡ t)) text c.push_hex.ensures

@@ -12,5 +12,7 @@ each-preserved c =
     let lt : c.each.held-index < length all = omega (arith, c.each-test.true, length-map c.args.values.now held_seen) in
     so_far_more c.args.flags.now.items c.each.flags.items c.set.new.flags.items all c.each.held-index one
     (drop_more all c.each.held-index one lt
-    ∙ ap (λ (h : Held). h ∷ drop (c.each.held-index + 1) all) (get_or-map held_seen c.args.values.now c.each.held-index c.held-item.result one c.each-test.true ∙ ap held_seen (sym c.held-item.is)))
+    ∙ ap (λ (h : Held). h ∷ drop (c.each.held-index + 1) all)
+    (get_or-map held_seen c.args.values.now c.each.held-index c.held-item.result one c.each-test.true
+    ∙ ap held_seen (sym c.held-item.is)))
     c.each.invariant c.set.ensures

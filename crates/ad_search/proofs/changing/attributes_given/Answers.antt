@@ -11,7 +11,9 @@ use Rattle.ad_search.proofs.changing.attributes_given.Goals as goal
 pub returns-then-not-is_sent : goal.returns-then-not-is_sent
 unfolding attributes_name
 returns-then-not-is_sent c =
-    not_sent (search_seen c.args.search.now) attributes_name (changing_of c.args.dir.now c.args.token.now c.args.number).attributes (rw c.as_slice.ensures at c.if-not-is_sent.ensures)
+    not_sent (search_seen c.args.search.now) attributes_name
+    (changing_of c.args.dir.now c.args.token.now c.args.number).attributes
+    (rw c.as_slice.ensures at c.if-not-is_sent.ensures)
 
 pub returns : goal.returns
 unfolding attributes_name
@@ -19,6 +21,7 @@ returns c =
     let search = search_seen c.args.search.now in
     if_ok c.given_values.result
     (λ given so. ap (λ (g : Option Given). option_to_list g) so
-    ∙ given_sent search attributes_name (all_items c.in_ok-names.names.items) (rw c.as_slice.ensures at c.if-not-is_sent.ensures)
+    ∙ given_sent search attributes_name (all_items c.in_ok-names.names.items)
+    (rw c.as_slice.ensures at c.if-not-is_sent.ensures)
     ∙ ap (changing_attr search attributes_name) c.in_ok-names.ensures)
     c.given_values.ensures

@@ -11,15 +11,19 @@ use Rattle.ad_search.proofs.changing.parts_given.Goals as goal
 pub returns-then-not-is_sent : goal.returns-then-not-is_sent
 unfolding parts_name
 returns-then-not-is_sent c =
-    not_sent (search_seen c.args.search.now) parts_name (changing_of c.args.dir.now c.args.token.now c.args.number).parts (rw c.as_slice.ensures at c.if-not-is_sent.ensures)
+    not_sent (search_seen c.args.search.now) parts_name
+    (changing_of c.args.dir.now c.args.token.now c.args.number).parts
+    (rw c.as_slice.ensures at c.if-not-is_sent.ensures)
 
 pub returns : goal.returns
 unfolding parts_name changing_of
 returns c =
     let search = search_seen c.args.search.now in
-    let is : all_items c.in_ok-values.values.items ≡ (changing_of c.args.dir.now c.args.token.now c.args.number).parts = c.in_ok-values.ensures ∙ ap (λ (n : ℕ). decimal n ∷ []) c.parts_written.ensures in
+    let is : all_items c.in_ok-values.values.items ≡ (changing_of c.args.dir.now c.args.token.now c.args.number).parts
+    = c.in_ok-values.ensures ∙ ap (λ (n : ℕ). decimal n ∷ []) c.parts_written.ensures in
     if_ok c.given_values.result
     (λ given so. ap (λ (g : Option Given). option_to_list g) so
-    ∙ given_sent search parts_name (all_items c.in_ok-values.values.items) (rw c.as_slice.ensures at c.if-not-is_sent.ensures)
+    ∙ given_sent search parts_name (all_items c.in_ok-values.values.items)
+    (rw c.as_slice.ensures at c.if-not-is_sent.ensures)
     ∙ ap (changing_attr search parts_name) is)
     c.given_values.ensures

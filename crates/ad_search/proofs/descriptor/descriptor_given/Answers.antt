@@ -8,5 +8,6 @@ use Rattle.ad_search.proofs.descriptor.descriptor_given.Goals as goal
 pub returns : goal.returns
 returns c =
     subst (λ (given : Option (Result (List ℕ) AclWriteFault)). IfOk c.written.result (λ d. descriptor_seen d ≡ given))
-    (descriptor_is c.args.dir.now c.args.token.now c.args.number (search_seen c.args.search.now) c.args.flags (rw c.as_slice.ensures at c.if-not-is_descriptor_asked.ensures) c.if-not-are_read.ensures)
+    (descriptor_is c.args.dir.now c.args.token.now c.args.number (search_seen c.args.search.now) c.args.flags
+    (rw c.as_slice.ensures at c.if-not-is_descriptor_asked.ensures) c.if-not-are_read.ensures)
     c.written.ensures

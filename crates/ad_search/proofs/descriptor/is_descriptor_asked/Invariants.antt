@@ -6,4 +6,5 @@ use Rattle.ad_search.proofs.descriptor.is_descriptor_asked.Given as goal
 
 -- none so far asks for it
 abbrev pub invariant-loop-name : goal.invariant-loop-name
-invariant-loop-name l = list_any (same_name descriptor_name) (drop l.name-index l.sent) ≡ list_any (same_name descriptor_name) l.sent
+invariant-loop-name l = list_any (same_name descriptor_name) (drop l.name-index l.sent)
+    ≡ list_any (same_name descriptor_name) l.sent

@@ -9,5 +9,7 @@ use Rattle.ad_search.proofs.descriptor.reads_list.Goals as goal
 pub returns : goal.returns
 unfolding has_bit
 returns c =
-    asked_alone c.granted.result (2 ^ 17) 17 (is_granted c.args.dir.now c.args.token.now c.args.number (guids_of c.empty.result)) refl (omega arith) refl c.granted.ensures
+    asked_alone c.granted.result (2 ^ 17) 17
+    (is_granted c.args.dir.now c.args.token.now c.args.number (guids_of c.empty.result)) refl (omega arith) refl
+    c.granted.ensures
     ∙ ap (λ (path : List Guid). is_granted c.args.dir.now c.args.token.now c.args.number path 17) c.empty.ensures

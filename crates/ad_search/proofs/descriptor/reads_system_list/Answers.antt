@@ -9,5 +9,7 @@ use Rattle.ad_search.proofs.descriptor.reads_system_list.Goals as goal
 pub returns : goal.returns
 unfolding has_bit
 returns c =
-    asked_alone c.granted.result (2 ^ 24) 24 (is_granted c.args.dir.now c.args.token.now c.args.number (guids_of c.empty.result)) refl (omega arith) refl c.granted.ensures
+    asked_alone c.granted.result (2 ^ 24) 24
+    (is_granted c.args.dir.now c.args.token.now c.args.number (guids_of c.empty.result)) refl (omega arith) refl
+    c.granted.ensures
     ∙ ap (λ (path : List Guid). is_granted c.args.dir.now c.args.token.now c.args.number path 24) c.empty.ensures

@@ -12,4 +12,5 @@ returns-then-not-is_live c =
     (λ live. absurd (both_ways (is_live c.args.dir.now.objects c.args.number) (sym c.if-not-is_live.ensures) live)))
 
 pub returns : goal.returns
-returns c = rw (← there_by c.args.dir.now c.args.token.now c.args.rdns.now c.args.number c.stands.ensures c.requires.found (sym c.if-not-is_live.ensures)) c.is_seen_as.ensures
+returns c = rw (← there_by c.args.dir.now c.args.token.now c.args.rdns.now c.args.number c.stands.ensures
+    c.requires.found (sym c.if-not-is_live.ensures)) c.is_seen_as.ensures

@@ -4,4 +4,5 @@ use Rattle.ad_search.proofs.finding.matched.Goals as goal
 
 pub returns : goal.returns
 returns c =
-    subst (λ (x : List ℕ). IfOk c.text.result (λ text. text.items ≡ x)) (ap dn_text c.in_ok-above.ensures ∙ c.in_ok-levels.ensures.nearest) c.text.ensures.written
+    subst (λ (x : List ℕ). IfOk c.text.result (λ text. text.items ≡ x))
+    (ap dn_text c.in_ok-above.ensures ∙ c.in_ok-levels.ensures.nearest) c.text.ensures.written

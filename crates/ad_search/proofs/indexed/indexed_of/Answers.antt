@@ -11,4 +11,5 @@ found_by-requires-clause-soughts c =
     let filter = filter_seen c.args.search.now.filter in
     subst (AreSought schema filter) (sym c.as_slice-3.ensures.value)
     (c.in_ok-soughts.ensures filter (subst (AreNeedles schema filter) (sym c.as_slice.ensures.value)
-    (subst (λ (records : List SchemaRecord). AreNeedles records filter c.in_ok-needles.needles.items) c.schema.ensures c.in_ok-needles.ensures)))
+    (subst (λ (records : List SchemaRecord). AreNeedles records filter c.in_ok-needles.needles.items) c.schema.ensures
+    c.in_ok-needles.ensures)))

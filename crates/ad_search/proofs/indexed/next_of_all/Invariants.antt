@@ -7,5 +7,6 @@ use Rattle.ad_search.proofs.indexed.next_of_all.Given as goal
 -- before the greatest number so far the filter is never true
 abbrev pub invariant-each : goal.invariant-each
 invariant-each l =
-    ((filter : FilterValue) → AreSought l.dir.schema filter l.soughts → (n : ℕ) → is_live l.dir.objects n ≡ true → l.above < n → n < l.next → IsNever l.dir filter n)
+    ((filter : FilterValue) → AreSought l.dir.schema filter l.soughts → (n : ℕ) → is_live l.dir.objects n ≡ true
+    → l.above < n → n < l.next → IsNever l.dir filter n)
     × (0 < l.sought-index → l.above < l.next)

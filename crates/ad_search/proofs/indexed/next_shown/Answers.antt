@@ -10,8 +10,10 @@ returns-then-sought c =
     record {
       is_above = c.lesser.ensures.above c.args.above c.next_with-stores.ensures.is_above c.next_named.ensures.is_above;
       none = λ n live more before ordinary named.
-          named_shown dir sought.attr.0 sought.key c.args.above c.stands.ensures c.next_with-stores.result c.next_named.result n c.next_with-stores.ensures c.next_named.ensures ordinary
-          (subst (IsNamedBy dir.schema sought.attr.0) c.if-sought.true named) live more (c.lesser.ensures.first n before) (c.lesser.ensures.second n before);
+          named_shown dir sought.attr.0 sought.key c.args.above c.stands.ensures c.next_with-stores.result
+          c.next_named.result n c.next_with-stores.ensures c.next_named.ensures ordinary
+          (subst (IsNamedBy dir.schema sought.attr.0) c.if-sought.true named) live more
+          (c.lesser.ensures.first n before) (c.lesser.ensures.second n before);
     }
 
 pub returns : goal.returns
@@ -21,6 +23,7 @@ returns c =
     record {
       is_above = c.next_with-stores.ensures.is_above;
       none = λ n live more before ordinary named.
-          stored_shown dir sought.attr.0 sought.key c.args.above c.stands.ensures c.next_with-stores.result n c.next_with-stores.ensures ordinary
+          stored_shown dir sought.attr.0 sought.key c.args.above c.stands.ensures c.next_with-stores.result n
+          c.next_with-stores.ensures ordinary
           (subst (IsNamedBy dir.schema sought.attr.0) c.if-sought.false named) live more before;
     }

@@ -5,4 +5,5 @@ use Rattle.ad_search.proofs.indexed.soughts_of.Given as goal
 
 -- what is sought so far is needed
 abbrev pub invariant-each : goal.invariant-each
-invariant-each l = (filter : FilterValue) → AreNeedles l.dir.schema filter l.needles → AreSought l.dir.schema filter l.soughts.items
+invariant-each l = (filter : FilterValue) → AreNeedles l.dir.schema filter l.needles → AreSought l.dir.schema filter
+    l.soughts.items

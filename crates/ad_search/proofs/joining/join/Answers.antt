@@ -5,9 +5,20 @@ use Rattle.ad_search.proofs.joining.join.Goals as goal
 
 pub returns-in-Some : goal.returns-in-Some
 returns-in-Some c = λ id.
-    stops id c.args.size c.args.joined.now (made_seen c.args.made.now) c.in-Some.code (length c.as_slice.result.now) (length c.as_slice-2.result.now) (ap length c.as_slice.ensures.value) (ap length c.as_slice-2.ensures.value) c.in-Some.ensures
+    stops id c.args.size c.args.joined.now (made_seen c.args.made.now) c.in-Some.code (length c.as_slice.result.now)
+    (length c.as_slice-2.result.now) (ap length c.as_slice.ensures.value) (ap length c.as_slice-2.ensures.value)
+    c.in-Some.ensures
 
 pub returns : goal.returns
 returns c = λ id.
-    joins id c.args.size c.args.joined.now (record { bytes = c.extend_from_slice.new.self; given = c.in_ok-given.given; is_short = c.either-joined.result }) (made_seen c.args.made.now)
-    (length c.as_slice.result.now) (length c.as_slice-2.result.now) (ap length c.as_slice.ensures.value) (ap length c.as_slice-2.ensures.value) c.in_default.ensures (rw c.as_slice-3.ensures.value at c.in_ok-extend_from_slice.ensures.items) c.in_ok-given.ensures c.either-joined.ensures
+    joins id c.args.size c.args.joined.now
+    (record {
+      bytes = c.extend_from_slice.new.self;
+      given = c.in_ok-given.given;
+      is_short
+          = c.either-joined.result;
+    }) (made_seen c.args.made.now)
+    (length c.as_slice.result.now) (length c.as_slice-2.result.now) (ap length c.as_slice.ensures.value)
+    (ap length c.as_slice-2.ensures.value) c.in_default.ensures
+    (rw c.as_slice-3.ensures.value at c.in_ok-extend_from_slice.ensures.items) c.in_ok-given.ensures
+    c.either-joined.ensures

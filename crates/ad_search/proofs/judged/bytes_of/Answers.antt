@@ -6,4 +6,5 @@ use Rattle.ad_access_dir.proofs.OwnView.{view_shown}
 use Rattle.ad_search.proofs.judged.bytes_of.Goals as goal
 
 pub returns : goal.returns
-returns c = subst (λ (sd : Sd). SpellsNormal sd c.as_bytes.result.now) (view_shown c.args.dir.now.objects c.args.number (seen c.in-Some.view) c.in-Some.ensures) c.as_bytes.ensures
+returns c = subst (λ (sd : Sd). SpellsNormal sd c.as_bytes.result.now)
+    (view_shown c.args.dir.now.objects c.args.number (seen c.in-Some.view) c.in-Some.ensures) c.as_bytes.ensures

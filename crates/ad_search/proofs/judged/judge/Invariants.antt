@@ -7,4 +7,5 @@ use Rattle.ad_search.proofs.judged.judge.Given as goal
 -- those so far and those that are left are all
 abbrev pub invariant-each : goal.invariant-each
 invariant-each l =
-    l.places.items ++ places_from l.dir l.token l.number (search_seen l.search) l.i (drop l.i (attrs_of l.dir.schema)) ≡ places_given l.dir l.token l.number (search_seen l.search)
+    l.places.items ++ places_from l.dir l.token l.number (search_seen l.search) l.i (drop l.i (attrs_of l.dir.schema))
+    ≡ places_given l.dir l.token l.number (search_seen l.search)

@@ -10,8 +10,17 @@ returns c =
     let dir = c.args.dir.now in
     let token = c.args.token.now in
     let search = search_seen c.args.search.now in
-    let one : Judged = record { bytes = c.in_ok-kept.kept; class = c.args.class; own = c.args.own; places = c.args.places; changing = c.args.changing } in
-    let kind = subst (λ (bytes : List ℕ). IsOf dir token bytes c.args.class c.args.own c.args.number) (sym c.in_ok-kept.ensures.items) c.requires.kind in
+    let one : Judged = record {
+      bytes = c.in_ok-kept.kept;
+      class = c.args.class;
+      own = c.args.own;
+      places
+          = c.args.places;
+      changing = c.args.changing;
+    } in
+    let kind = subst (λ (bytes : List ℕ). IsOf dir token bytes c.args.class c.args.own c.args.number)
+    (sym c.in_ok-kept.ensures.items) c.requires.kind in
     subst (AreJudged dir token search) (sym c.in_ok-push.ensures.items)
     (all_with (IsJudged dir token search) c.args.judged.now.items one c.requires.judged
-    (judged_of dir token search one c.args.number kind (record { places = c.requires.places; changing = c.requires.changing })))
+    (judged_of dir token search one c.args.number kind
+    (record { places = c.requires.places; changing = c.requires.changing })))

@@ -11,5 +11,6 @@ returns-then-name-base c = sym (too_short c.args.base.now c.args.name.now c.if-n
 pub returns : goal.returns
 returns c =
     c.same_rdns.ensures
-    ∙ ap (λ (rdns : List Rdn). same_rdns rdns c.args.base.now) (take_rest c.args.name.now (length c.args.name.now - length c.args.base.now))
+    ∙ ap (λ (rdns : List Rdn). same_rdns rdns c.args.base.now)
+    (take_rest c.args.name.now (length c.args.name.now - length c.args.base.now))
     ∙ sym (long_enough c.args.base.now c.args.name.now (omega (arith, c.if-name-base.false)))

@@ -17,16 +17,22 @@ use Rattle.ad_search.proofs.NeedleLaws.{shows_no_key, any_map}
 use Rattle.ad_search.proofs.needles.may_show.Goals as goal
 
 pub class_info-requires : goal.class_info-requires
-class_info-requires c = class_within c.args.dir.now c.schema.result.now c.args.number c.live_object-object.result.now c.stands.ensures c.requires.live c.schema.ensures c.live_object-object.ensures
+class_info-requires c = class_within c.args.dir.now c.schema.result.now c.args.number c.live_object-object.result.now
+    c.stands.ensures c.requires.live c.schema.ensures c.live_object-object.ensures
 
 pub returns : goal.returns
 returns c = λ never ordinary.
     let attr = c.args.needle.now.attr.0 in
     let key = c.args.needle.now.value.key in
     let o = c.live_object-object.result.now in
-    shows_no_key c.args.dir.now c.args.number attr key (object_seen o (sd_at c.args.dir.now.objects c.args.number)) (sym c.live_object-object.ensures) ordinary
-    (or_false (is_named c.args.dir.now.schema (codes "name") attr) (naming_of c.args.dir.now.schema o.class.0 == attr) ordinary.no_name
+    shows_no_key c.args.dir.now c.args.number attr key (object_seen o (sd_at c.args.dir.now.objects c.args.number))
+    (sym c.live_object-object.ensures) ordinary
+    (or_false (is_named c.args.dir.now.schema (codes "name") attr) (naming_of c.args.dir.now.schema o.class.0 == attr)
+    ordinary.no_name
     (subst (λ (s : List SchemaRecord). (naming_of s o.class.0 == attr) ≡ false) c.schema.ensures
-    (subst (λ (n : ℕ). (n == attr) ≡ false) (class_naming c.schema.result.now o.class.0 c.class_info.result.now c.class_info.ensures.info) (apart c.class_info.result.now.naming.0 attr c.if-class_info-needle.false))))
-    (ap (list_any (may_have key)) (sym (c.stored_of.ensures ∙ ap (λ (values : List (AttrId × List StoredIn)). stored_in (map held_seen values) attr) c.as_slice.ensures))
+    (subst (λ (n : ℕ). (n == attr) ≡ false)
+    (class_naming c.schema.result.now o.class.0 c.class_info.result.now c.class_info.ensures.info)
+    (apart c.class_info.result.now.naming.0 attr c.if-class_info-needle.false))))
+    (ap (list_any (may_have key)) (sym (c.stored_of.ensures
+    ∙ ap (λ (values : List (AttrId × List StoredIn)). stored_in (map held_seen values) attr) c.as_slice.ensures))
     ∙ sym (any_map stored_seen (may_have key) c.stored_of.result.now) ∙ sym c.any_may.ensures ∙ never)

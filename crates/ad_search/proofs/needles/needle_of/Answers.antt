@@ -7,6 +7,8 @@ use Rattle.ad_search.proofs.needles.needle_of.Goals as goal
 
 pub returns-in-Some : goal.returns-in-Some
 returns-in-Some c =
-    lifted c.needle_at.result (IsAskedAs c.args.schema.now c.in-Some.attr c.args.sent.now) (IsNeedle c.args.schema.now (filter.Equal c.args.name.now c.args.sent.now))
-    (λ (needle : Needle) asked. equal_needs c.args.schema.now c.args.name.now c.args.sent.now c.in-Some.attr needle (sym c.is_descriptor.ensures ∙ c.if-is_descriptor.false) (sym c.attr.ensures.attr ∙ c.in-Some.is) asked)
+    lifted c.needle_at.result (IsAskedAs c.args.schema.now c.in-Some.attr c.args.sent.now)
+    (IsNeedle c.args.schema.now (filter.Equal c.args.name.now c.args.sent.now))
+    (λ (needle : Needle) asked. equal_needs c.args.schema.now c.args.name.now c.args.sent.now c.in-Some.attr needle
+    (sym c.is_descriptor.ensures ∙ c.if-is_descriptor.false) (sym c.attr.ensures.attr ∙ c.in-Some.is) asked)
     c.needle_at.ensures

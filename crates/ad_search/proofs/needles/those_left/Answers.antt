@@ -16,10 +16,13 @@ each-preserved c =
     let i = c.each.number-index in
     let number = get_or all i 0 in
     let may = c.may_be_found-may.result in (
-      subst (λ (left : List ℕ). HaveSameEntries dir search (left ++ drop (i + 1) all) all) (sym c.in_ok-push_number.ensures)
+      subst (λ (left : List ℕ). HaveSameEntries dir search (left ++ drop (i + 1) all) all)
+          (sym c.in_ok-push_number.ensures)
           (left_more dir search c.each.left.items all i number may (drop_more all i 0 c.each-test.true)
-          (λ never (token : Token). c.may_be_found-may.ensures never search.filter token c.requires.needles) c.each.invariant.0),
+          (λ never (token : Token). c.may_be_found-may.ensures never search.filter token c.requires.needles)
+          c.each.invariant.0),
       subst (AllByRecursion (λ (n : ℕ). is_live dir.objects n ≡ true)) (sym c.in_ok-push_number.ensures)
           (live_more (λ (n : ℕ). is_live dir.objects n ≡ true) c.each.left.items number may
-          (at_get (λ (n : ℕ). is_live dir.objects n ≡ true) all i 0 c.requires.live c.each-test.true) c.each.invariant.1),
+          (at_get (λ (n : ℕ). is_live dir.objects n ≡ true) all i 0 c.requires.live c.each-test.true)
+          c.each.invariant.1),
     )

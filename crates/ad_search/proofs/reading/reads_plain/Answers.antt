@@ -7,4 +7,6 @@ use Rattle.ad_search.proofs.reading.reads_plain.Goals as goal
 
 pub returns : goal.returns
 unfolding has_bit
-returns c = asked_alone c.granted.result (2 ^ 4) 4 (is_granted c.args.dir.now c.args.token.now c.args.number (guids_of c.args.path.now)) refl (omega arith) refl c.granted.ensures
+returns c = asked_alone c.granted.result (2 ^ 4) 4
+    (is_granted c.args.dir.now c.args.token.now c.args.number (guids_of c.args.path.now)) refl (omega arith) refl
+    c.granted.ensures

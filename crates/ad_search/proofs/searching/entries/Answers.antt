@@ -11,8 +11,10 @@ returns-in-Some c =
     let entries = entries_among c.args.dir.now c.args.token.now c.args.id search c.args.flags c.args.base.now in
     let whole = entries_from c.args.id search.size 0 0 false (entries c.args.numbers.now) in
     subst (λ (x : List ℕ). IfOk c.ended.result (λ bytes. bytes.items ≡ x))
-    (subst (λ (code : Option ℕ). goes_on c.args.id search.size c.step.new.joined code (entries (drop (c.each.number-index + 1) c.args.numbers.now)) ≡ whole) c.in-Some.is
-    (goes_to c.args.dir.now c.args.token.now c.args.id search c.args.flags c.args.base.now c.args.numbers.now c.each.number-index search.size c.each.joined c.step.new.joined c.in_ok-stop.stop whole
+    (subst (λ (code : Option ℕ). goes_on c.args.id search.size c.step.new.joined code
+    (entries (drop (c.each.number-index + 1) c.args.numbers.now)) ≡ whole) c.in-Some.is
+    (goes_to c.args.dir.now c.args.token.now c.args.id search c.args.flags c.args.base.now c.args.numbers.now
+    c.each.number-index search.size c.each.joined c.step.new.joined c.in_ok-stop.stop whole
     c.each-test.true c.in_ok-stop.ensures.steps c.each.invariant.1))
     c.ended.ensures
 
@@ -22,8 +24,10 @@ each-preserved c =
     let entries = entries_among c.args.dir.now c.args.token.now c.args.id search c.args.flags c.args.base.now in
     let whole = entries_from c.args.id search.size 0 0 false (entries c.args.numbers.now) in (
       c.each.invariant.0,
-      subst (λ (code : Option ℕ). goes_on c.args.id search.size c.step.new.joined code (entries (drop (c.each.number-index + 1) c.args.numbers.now)) ≡ whole) c.in_default.is
-          (goes_to c.args.dir.now c.args.token.now c.args.id search c.args.flags c.args.base.now c.args.numbers.now c.each.number-index search.size c.each.joined c.step.new.joined c.in_ok-stop.stop whole
+      subst (λ (code : Option ℕ). goes_on c.args.id search.size c.step.new.joined code
+          (entries (drop (c.each.number-index + 1) c.args.numbers.now)) ≡ whole) c.in_default.is
+          (goes_to c.args.dir.now c.args.token.now c.args.id search c.args.flags c.args.base.now c.args.numbers.now
+          c.each.number-index search.size c.each.joined c.step.new.joined c.in_ok-stop.stop whole
           c.each-test.true c.in_ok-stop.ensures.steps c.each.invariant.1),
       c.in_ok-stop.ensures.judged,
       c.step.ensures.kept,
@@ -36,6 +40,7 @@ returns c =
     let whole = entries_from c.args.id search.size 0 0 false (entries c.args.numbers.now) in
     subst (λ (x : List ℕ). IfOk c.ended-2.result (λ bytes. bytes.items ≡ x))
     (ap (λ (code : ℕ). c.each.joined.bytes.items ++ done c.args.id code []) c.end_code-code.ensures
-    ∙ comes_to_end c.args.dir.now c.args.token.now c.args.id search c.args.flags c.args.base.now c.args.numbers.now c.each.number-index search.size c.each.joined whole
+    ∙ comes_to_end c.args.dir.now c.args.token.now c.args.id search c.args.flags c.args.base.now c.args.numbers.now
+    c.each.number-index search.size c.each.joined whole
     (omega (arith, c.each-test.false)) c.each.invariant.1)
     c.ended-2.ensures

@@ -11,7 +11,9 @@ use Rattle.ad_search.proofs.searching.entries.Given as goal
 abbrev pub invariant-each : goal.invariant-each
 invariant-each l =
     (l.list_mode ≡ list_object_mode l.dir)
-    × (with_rest l.id l.search.size l.joined (entries_among l.dir l.token l.id (search_seen l.search) l.flags l.base (drop l.number-index l.numbers))
-    ≡ entries_from l.id l.search.size 0 0 false (entries_among l.dir l.token l.id (search_seen l.search) l.flags l.base l.numbers))
+    × (with_rest l.id l.search.size l.joined (entries_among l.dir l.token l.id (search_seen l.search) l.flags l.base
+    (drop l.number-index l.numbers))
+    ≡ entries_from l.id l.search.size 0 0 false
+    (entries_among l.dir l.token l.id (search_seen l.search) l.flags l.base l.numbers))
     × AreJudged l.dir l.token (search_seen l.search) l.judged.items
     × IsKept l.dir l.token l.last

@@ -6,4 +6,5 @@ returns-clause-live c = subtree_live c.whole_asked.result c.args.dir.now c.args.
 
 pub returns-then-scope-eq1-clause-live : goal.returns-then-scope-eq1-clause-live
 returns-then-scope-eq1-clause-live c =
-    children_live c.copied.result c.args.dir.now.objects c.args.base c.children.result.now c.children.ensures c.copied.ensures
+    children_live c.copied.result c.args.dir.now.objects c.args.base c.children.result.now c.children.ensures
+    c.copied.ensures

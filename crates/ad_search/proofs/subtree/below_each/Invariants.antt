@@ -4,4 +4,5 @@ use Rattle.ad_search.proofs.subtree.below_each.Given as goal
 
 -- those so far and those that are left
 abbrev pub invariant-each : goal.invariant-each
-invariant-each l = l.below.items ++ below_each l.dir.objects (drop l.number-index l.level) ≡ below_each l.dir.objects l.level
+invariant-each l = l.below.items ++ below_each l.dir.objects (drop l.number-index l.level) ≡ below_each l.dir.objects
+    l.level

@@ -5,12 +5,15 @@ use Rattle.ad_search.proofs.subtree.by_levels.Goals as goal
 
 pub down-preserved : goal.down-preserved
 down-preserved c =
-    level_more c.args.dir.now.objects c.down.left c.down.level.items c.in_ok-below.below.items c.down.found.items c.extend_from_slice.new.self.items
+    level_more c.args.dir.now.objects c.down.left c.down.level.items c.in_ok-below.below.items c.down.found.items
+    c.extend_from_slice.new.self.items
     (levels_from c.args.dir.now.objects 65 (c.args.base ∷ []))
     c.down-test.true (c.in_ok-below.ensures ∙ ap (below_each c.args.dir.now.objects) c.as_slice.ensures.value)
-    (c.in_ok-extend_from_slice.ensures.items ∙ ap (λ (ns : List ℕ). c.down.found.items ++ ns) c.as_slice-in-down.ensures.value) c.down.invariant
+    (c.in_ok-extend_from_slice.ensures.items ∙ ap (λ (ns : List ℕ). c.down.found.items ++ ns)
+    c.as_slice-in-down.ensures.value) c.down.invariant
 
 pub returns : goal.returns
 returns c =
-    levels_end c.args.dir.now.objects c.down.left c.down.level.items c.down.found.items (levels_from c.args.dir.now.objects 65 (c.args.base ∷ []))
+    levels_end c.args.dir.now.objects c.down.left c.down.level.items c.down.found.items
+    (levels_from c.args.dir.now.objects 65 (c.args.base ∷ []))
     c.down-test.false c.down.invariant

@@ -5,4 +5,5 @@ use Rattle.ad_search.proofs.subtree.push_others.Given as goal
 
 -- those so far and those that are left
 abbrev pub invariant-each : goal.invariant-each
-invariant-each l = l.below.items ++ filter is_other (drop l.number-index l.numbers) ≡ l.initial.below.items ++ filter is_other l.numbers
+invariant-each l = l.below.items ++ filter is_other (drop l.number-index l.numbers) ≡ l.initial.below.items
+    ++ filter is_other l.numbers

@@ -10,7 +10,8 @@ use Rattle.ad_search.proofs.tried_reads.reads_among.Given as goal
 abbrev pub invariant-each : goal.invariant-each
 invariant-each l = record {
   mode : l.list_mode ≡ list_object_mode l.dir;
-  so_far : SoFar l.dir l.token l.id (search_seen l.search) l.flags l.base l.numbers l.number-index l.count l.tried.items;
+  so_far : SoFar l.dir l.token l.id (search_seen l.search) l.flags l.base l.numbers l.number-index l.count
+      l.tried.items;
   judged : AreJudged l.dir l.token (search_seen l.search) l.judged.items;
   kept : IsKept l.dir l.token l.last;
 }

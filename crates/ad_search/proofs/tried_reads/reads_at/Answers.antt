@@ -11,12 +11,16 @@ pub returns-in_ok-numbers-in-Some : goal.returns-in_ok-numbers-in-Some
 returns-in_ok-numbers-in-Some c =
     let search = search_seen c.args.search.now in
     subst (λ (x : List TriedValue). IfOk c.reads_among.result (λ tried. tried_values tried.items ≡ x))
-    (ap (λ (ns : List ℕ). reads_behind c.args.dir.now c.args.token.now c.args.id search c.args.flags None' (found_among c.args.dir.now c.args.token.now search c.args.base.now ns))
+    (ap (λ (ns : List ℕ). reads_behind c.args.dir.now c.args.token.now c.args.id search c.args.flags None'
+    (found_among c.args.dir.now c.args.token.now search c.args.base.now ns))
     (c.as_slice.ensures.value ∙ c.in_ok-numbers-in-Some.ensures.asked)
-    ∙ read_of_base c.args.dir.now c.args.token.now c.args.id search c.args.flags c.args.base.now c.in-Some.number c.stands.ensures (rw c.in-Some.is at c.in_ok-number.ensures.live) (rw c.in-Some.is at c.in_ok-number.ensures.found))
+    ∙ read_of_base c.args.dir.now c.args.token.now c.args.id search c.args.flags c.args.base.now c.in-Some.number
+    c.stands.ensures (rw c.in-Some.is at c.in_ok-number.ensures.live)
+    (rw c.in-Some.is at c.in_ok-number.ensures.found))
     c.reads_among.ensures
 
 pub returns-in-None : goal.returns-in-None
 returns-in-None c =
     ap tried_values c.new.ensures.items
-    ∙ not_there c.args.dir.now c.args.token.now c.args.id (search_seen c.args.search.now) c.args.flags c.args.base.now (rw c.in-None.is at c.in_ok-number.ensures.found)
+    ∙ not_there c.args.dir.now c.args.token.now c.args.id (search_seen c.args.search.now) c.args.flags c.args.base.now
+    (rw c.in-None.is at c.in_ok-number.ensures.found)

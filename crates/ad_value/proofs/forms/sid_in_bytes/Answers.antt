@@ -11,4 +11,5 @@ returns-in-Err c = λ sid spelled.
 pub returns-else-found-bytes : goal.returns-else-found-bytes
 returns-else-found-bytes c = λ sid spelled.
     let read = c.in-Ok.ensures.only sid c.args.bytes.now [] spelled (sym (append-nil c.args.bytes.now)) in
-    c.if-found-bytes.false (same_second c.from_bytes.result c.in-Ok.found (sid, length c.args.bytes.now) c.in-Ok.is (c.in-Ok.is ∙ read))
+    c.if-found-bytes.false (same_second c.from_bytes.result c.in-Ok.found (sid, length c.args.bytes.now) c.in-Ok.is
+    (c.in-Ok.is ∙ read))

@@ -15,10 +15,12 @@ returns-in-Err c = λ n fits e.
 
 pub returns-in-Err-parse : goal.returns-in-Err-parse
 returns-in-Err-parse c = λ n fits e.
-    parsed_none n c.in-Err-parse.field-0 c.in-Ok.text.now c.parse.result c.in-Err-parse.is fits (c.in-Ok.ensures.cases.0 ∙ e) c.parse.ensures.value.0
+    parsed_none n c.in-Err-parse.field-0 c.in-Ok.text.now c.parse.result c.in-Err-parse.is fits
+    (c.in-Ok.ensures.cases.0 ∙ e) c.parse.ensures.value.0
 
 pub returns-else-is_written : goal.returns-else-is_written
 returns-else-is_written c = λ n fits e.
-    let same = parsed_same n c.in-Ok-parse.number c.in-Ok.text.now c.parse.result c.in-Ok-parse.is fits (c.in-Ok.ensures.cases.0 ∙ e) c.parse.ensures.value.0 in
+    let same = parsed_same n c.in-Ok-parse.number c.in-Ok.text.now c.parse.result c.in-Ok-parse.is fits
+    (c.in-Ok.ensures.cases.0 ∙ e) c.parse.ensures.value.0 in
     let own : FitsSigned w64 c.in-Ok-parse.number = search rules in
     c.if-is_written.ensures (e ∙ ap signed_decimal (same ∙ sym (to_z-of_z w64 c.in-Ok-parse.number own)))

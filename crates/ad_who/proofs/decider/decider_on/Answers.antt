@@ -5,4 +5,5 @@ use Rattle.ad_who.proofs.Deciding.{decided_granted}
 use Rattle.ad_who.proofs.decider.decider_on.Goals as goal
 
 pub returns-clause-granted : goal.returns-clause-granted
-returns-clause-granted c = λ none. ap grants c.decider_at.ensures ∙ decided_granted c.args.dir.now c.args.token.now c.args.number (guids_of c.args.path.now) c.args.bit none
+returns-clause-granted c = λ none. ap grants c.decider_at.ensures ∙ decided_granted c.args.dir.now c.args.token.now
+    c.args.number (guids_of c.args.path.now) c.args.bit none

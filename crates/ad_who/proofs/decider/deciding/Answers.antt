@@ -15,11 +15,13 @@ returns-then-decides c =
     let l = c.loop-ace in
     let holder = first_holder c.args.token.now in
     let self = option_copied c.args.self_sid in
-    let P : List Entry → Type 0 = λ entries. deciding_from 1 (seen c.args.view.now).dacl.entries holder self c.args.owner.now c.args.path.now c.args.bit
+    let P : List Entry → Type 0 = λ entries. deciding_from 1 (seen c.args.view.now).dacl.entries holder self
+    c.args.owner.now c.args.path.now c.args.bit
     ≡ deciding_from (l.place + 1) entries holder self c.args.owner.now c.args.path.now c.args.bit in
     let here = subst P c.in-Some.ensures.steps l.invariant.0 in
     c.by_kind.ensures ∙ ap (λ (kind : AceKind). by_kind kind (l.place + 1)) c.kind.ensures
-    ∙ sym (here ∙ decided_here (l.place + 1) (entry_seen c.in-Some.ace) (to_come c.next.new.self) holder self c.args.owner.now c.args.path.now c.args.bit
+    ∙ sym (here ∙ decided_here (l.place + 1) (entry_seen c.in-Some.ace) (to_come c.next.new.self) holder self
+    c.args.owner.now c.args.path.now c.args.bit
     (sym c.decides.ensures ∙ c.if-decides.true))
 
 pub loop-ace-preserved : goal.loop-ace-preserved
@@ -27,12 +29,15 @@ loop-ace-preserved c =
     let l = c.loop-ace in
     let holder = first_holder c.args.token.now in
     let self = option_copied c.args.self_sid in
-    let P : List Entry → Type 0 = λ entries. deciding_from 1 (seen c.args.view.now).dacl.entries holder self c.args.owner.now c.args.path.now c.args.bit
+    let P : List Entry → Type 0 = λ entries. deciding_from 1 (seen c.args.view.now).dacl.entries holder self
+    c.args.owner.now c.args.path.now c.args.bit
     ≡ deciding_from (l.place + 1) entries holder self c.args.owner.now c.args.path.now c.args.bit in
     let Q : List Entry → Type 0 = λ entries. l.place + length entries ≡ length (seen c.args.view.now).dacl.entries in
     let here = subst P c.in-Some.ensures.steps l.invariant.0 in
-    let many : l.place + length (entry_seen c.in-Some.ace ∷ to_come c.next.new.self) ≡ length (seen c.args.view.now).dacl.entries = subst Q c.in-Some.ensures.steps l.invariant.1 in (
-      here ∙ decided_later (l.place + 1) (entry_seen c.in-Some.ace) (to_come c.next.new.self) holder self c.args.owner.now c.args.path.now c.args.bit
+    let many : l.place + length (entry_seen c.in-Some.ace ∷ to_come c.next.new.self)
+    ≡ length (seen c.args.view.now).dacl.entries = subst Q c.in-Some.ensures.steps l.invariant.1 in (
+      here ∙ decided_later (l.place + 1) (entry_seen c.in-Some.ace) (to_come c.next.new.self) holder self
+          c.args.owner.now c.args.path.now c.args.bit
           (sym c.decides.ensures ∙ c.if-decides.false),
       omega (arith, many),
     )
@@ -43,4 +48,5 @@ returns c =
     let l = c.loop-ace in
     let holder = first_holder c.args.token.now in
     let self = option_copied c.args.self_sid in
-    sym (l.invariant.0 ∙ ap (λ (entries : List Entry). deciding_from (l.place + 1) entries holder self c.args.owner.now c.args.path.now c.args.bit) c.in-None.ensures.steps.0)
+    sym (l.invariant.0 ∙ ap (λ (entries : List Entry). deciding_from (l.place + 1) entries holder self
+    c.args.owner.now c.args.path.now c.args.bit) c.in-None.ensures.steps.0)

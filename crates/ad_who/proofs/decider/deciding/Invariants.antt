@@ -10,5 +10,6 @@ use Rattle.ad_who.proofs.decider.deciding.Given as goal
 abbrev pub invariant-loop-ace : goal.invariant-loop-ace
 invariant-loop-ace l =
     (deciding_from 1 (seen l.view).dacl.entries (first_holder l.token) (option_copied l.self_sid) l.owner l.path l.bit
-    ≡ deciding_from (l.place + 1) (to_come l.ace-iterator) (first_holder l.token) (option_copied l.self_sid) l.owner l.path l.bit)
+    ≡ deciding_from (l.place + 1) (to_come l.ace-iterator) (first_holder l.token) (option_copied l.self_sid) l.owner
+    l.path l.bit)
     × (l.place + length (to_come l.ace-iterator) ≡ length (seen l.view).dacl.entries)

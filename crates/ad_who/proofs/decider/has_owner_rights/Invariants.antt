@@ -7,4 +7,5 @@ use Rattle.ad_who.proofs.decider.has_owner_rights.Given as goal
 
 -- none so far sets them
 abbrev pub invariant-loop-ace : goal.invariant-loop-ace
-invariant-loop-ace l = list_any sets_owner_rights (seen l.view).dacl.entries ≡ list_any sets_owner_rights (to_come l.ace-iterator)
+invariant-loop-ace l = list_any sets_owner_rights (seen l.view).dacl.entries ≡ list_any sets_owner_rights
+    (to_come l.ace-iterator)

@@ -21,8 +21,12 @@ returns c =
     let decider = c.decider_on-decider.result in
     let rest = spaced (sid_text token.user) ++ ended (name_text dir c.args.principal) in
     where_ok c.put_name.result
-    (λ last. three_put c.args.into.now.items c.put_decider.new.into.items c.put_sid.new.into.items c.put_name.new.into.items (spaced (decider_text decider))
-    (spaced (sid_text token.user)) (ended (name_text dir c.args.principal)) c.in_ok-put_decider.ensures c.in_ok-put_sid.ensures last
-    ∙ ap (λ (line : List ℕ). c.args.into.now.items ++ line) (line_some dir token c.args.number (guids_of c.args.path.now) c.args.bit rest decider
-    (sym (c.decider_on-decider.ensures.granted c.requires.alone) ∙ (sym c.grants.ensures ∙ c.if-not-grants.false)) c.decider_on-decider.ensures.decider))
+    (λ last. three_put c.args.into.now.items c.put_decider.new.into.items c.put_sid.new.into.items
+    c.put_name.new.into.items (spaced (decider_text decider))
+    (spaced (sid_text token.user)) (ended (name_text dir c.args.principal)) c.in_ok-put_decider.ensures
+    c.in_ok-put_sid.ensures last
+    ∙ ap (λ (line : List ℕ). c.args.into.now.items ++ line)
+    (line_some dir token c.args.number (guids_of c.args.path.now) c.args.bit rest decider
+    (sym (c.decider_on-decider.ensures.granted c.requires.alone) ∙ (sym c.grants.ensures ∙ c.if-not-grants.false))
+    c.decider_on-decider.ensures.decider))
     c.put_name.ensures

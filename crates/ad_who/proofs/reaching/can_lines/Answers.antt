@@ -11,9 +11,11 @@ use Rattle.ad_who.proofs.reaching.can_lines.Goals as goal
 pub returns-clause-text : goal.returns-clause-text
 returns-clause-text c =
     let dir = c.args.dir.now in
-    let asked = sym (c.in-Some.ensures.asked ∙ ap (λ (schema : List SchemaRecord). asked_of schema c.args.right.now) c.schema.ensures) in
+    let asked = sym (c.in-Some.ensures.asked ∙ ap (λ (schema : List SchemaRecord). asked_of schema c.args.right.now)
+    c.schema.ensures) in
     if_ok c.can_from.result
-    (λ text told. can_told dir c.args.name.now c.args.right.now c.args.base.now c.in_ok-number.number c.in_ok-from.from c.in-Some.asked text.items
+    (λ text told. can_told dir c.args.name.now c.args.right.now c.args.base.now c.in_ok-number.number
+    c.in_ok-from.from c.in-Some.asked text.items
     c.in_ok-number.ensures.number asked c.in_ok-from.ensures.number told)
     c.can_from.ensures.text
 
@@ -21,7 +23,14 @@ pub returns-clause-refusal : goal.returns-clause-refusal
 returns-clause-refusal c =
     let dir = c.args.dir.now in
     let number = c.in_ok-number.number in
-    let asked = sym (c.in-Some.ensures.asked ∙ ap (λ (schema : List SchemaRecord). asked_of schema c.args.right.now) c.schema.ensures) in
-    IfErr-weaker c.can_from.result (IsNoToken dir number []) (IsCanRefusal dir c.args.name.now c.args.right.now c.args.base.now)
-    (λ fault none. inr (number, c.in_ok-number.ensures.number, inr (c.in-Some.asked, asked, inr (c.in_ok-from.from, c.in_ok-from.ensures.number, none))))
+    let asked = sym (c.in-Some.ensures.asked ∙ ap (λ (schema : List SchemaRecord). asked_of schema c.args.right.now)
+    c.schema.ensures) in
+    IfErr-weaker c.can_from.result (IsNoToken dir number [])
+    (IsCanRefusal dir c.args.name.now c.args.right.now c.args.base.now)
+    (λ fault none. inr (
+      number,
+      c.in_ok-number.ensures.number,
+      inr
+          (c.in-Some.asked, asked, inr (c.in_ok-from.from, c.in_ok-from.ensures.number, none)),
+    ))
     c.can_from.ensures.fault

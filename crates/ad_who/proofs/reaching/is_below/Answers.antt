@@ -7,18 +7,24 @@ use Rattle.ad_who.proofs.reaching.is_below.Goals as goal
 
 pub returns-then-at-eq-ROOT : goal.returns-then-at-eq-ROOT
 unfolding is_below max_depth
-returns-then-at-eq-ROOT c = sym (up_ends (parents c.args.dir.now) c.up.left c.args.other c.up.at c.up-test.true c.if-at-eq-ROOT.true) ∙ c.up.invariant.0
+returns-then-at-eq-ROOT c = sym (up_ends (parents c.args.dir.now) c.up.left c.args.other c.up.at c.up-test.true
+    c.if-at-eq-ROOT.true) ∙ c.up.invariant.0
 
 pub returns-then-at-other : goal.returns-then-at-other
 unfolding is_below max_depth
 returns-then-at-other c =
-    sym (up_found (parents c.args.dir.now) c.up.left c.args.other c.up.at c.up-test.true c.if-at-eq-ROOT.false (sym c.parent_of-at.ensures.parent ∙ c.if-at-other.true))
+    sym (up_found (parents c.args.dir.now) c.up.left c.args.other c.up.at c.up-test.true c.if-at-eq-ROOT.false
+    (sym c.parent_of-at.ensures.parent ∙ c.if-at-other.true))
     ∙ c.up.invariant.0
 
 pub up-preserved : goal.up-preserved
 up-preserved c =
-    let more = up_more (parents c.args.dir.now) c.up.left c.args.other c.up.at c.up-test.true c.if-at-eq-ROOT.false (λ e. c.if-at-other.false (c.parent_of-at.ensures.parent ∙ e)) in
-    (ap (λ (n : ℕ). is_below_within (parents c.args.dir.now) (c.up.left - 1) c.args.other n) c.parent_of-at.ensures.parent ∙ sym more ∙ c.up.invariant.0, c.parent_of-at.ensures.live)
+    let more = up_more (parents c.args.dir.now) c.up.left c.args.other c.up.at c.up-test.true c.if-at-eq-ROOT.false
+    (λ e. c.if-at-other.false (c.parent_of-at.ensures.parent ∙ e)) in (
+      ap (λ (n : ℕ). is_below_within (parents c.args.dir.now) (c.up.left - 1) c.args.other n)
+          c.parent_of-at.ensures.parent ∙ sym more ∙ c.up.invariant.0,
+      c.parent_of-at.ensures.live,
+    )
 
 pub returns : goal.returns
 unfolding is_below max_depth

@@ -11,8 +11,10 @@ returns-then-not-grants c =
     let dir = c.args.dir.now in
     let token = c.args.token.now in
     let path = guids_of c.path_at-path.result in
-    let P : List Guid → Type 0 = λ guids. c.args.into.now.items ≡ c.args.into.now.items ++ granted_line dir token c.args.number guids c.args.asked.bit (ended (name_text dir c.args.number)) in
-    subst P c.path_at-path.ensures (line_none c.args.into.now.items dir token c.args.number path c.args.asked.bit (ended (name_text dir c.args.number))
+    let P : List Guid → Type 0 = λ guids. c.args.into.now.items ≡ c.args.into.now.items ++ granted_line dir token
+    c.args.number guids c.args.asked.bit (ended (name_text dir c.args.number)) in
+    subst P c.path_at-path.ensures (line_none c.args.into.now.items dir token c.args.number path c.args.asked.bit
+    (ended (name_text dir c.args.number))
     (sym (c.decider_on-decider.ensures.granted c.requires.alone) ∙ (sym c.grants.ensures ∙ c.if-not-grants.true)))
 
 pub returns : goal.returns
@@ -22,9 +24,13 @@ returns c =
     let decider = c.decider_on-decider.result in
     let path = guids_of c.path_at-path.result in
     let name = ended (name_text dir c.args.number) in
-    let P : List Guid → Type 0 = λ guids. OnOk c.put_name.result (c.put_name.new.into.items ≡ c.args.into.now.items ++ granted_line dir token c.args.number guids c.args.asked.bit name) in
+    let P : List Guid → Type 0 = λ guids. OnOk c.put_name.result (c.put_name.new.into.items ≡ c.args.into.now.items
+    ++ granted_line dir token c.args.number guids c.args.asked.bit name) in
     subst P c.path_at-path.ensures (where_ok c.put_name.result
-    (λ last. two_put c.args.into.now.items c.put_decider.new.into.items c.put_name.new.into.items (spaced (decider_text decider)) name c.in_ok-put_decider.ensures last
-    ∙ ap (λ (line : List ℕ). c.args.into.now.items ++ line) (line_some dir token c.args.number path c.args.asked.bit name decider
-    (sym (c.decider_on-decider.ensures.granted c.requires.alone) ∙ (sym c.grants.ensures ∙ c.if-not-grants.false)) c.decider_on-decider.ensures.decider))
+    (λ last. two_put c.args.into.now.items c.put_decider.new.into.items c.put_name.new.into.items
+    (spaced (decider_text decider)) name c.in_ok-put_decider.ensures last
+    ∙ ap (λ (line : List ℕ). c.args.into.now.items ++ line)
+    (line_some dir token c.args.number path c.args.asked.bit name decider
+    (sym (c.decider_on-decider.ensures.granted c.requires.alone) ∙ (sym c.grants.ensures ∙ c.if-not-grants.false))
+    c.decider_on-decider.ensures.decider))
     c.put_name.ensures)

@@ -11,7 +11,11 @@ returns-in-Err c =
     let right = c.args.right.now in
     let base = c.args.base.now in
     let fault = c.in-Err.fault in
-    let on_name = subst (λ (text : List ℕ). IsCanRefusal dir text c.as_bytes-2.result.now c.as_bytes-3.result.now fault) c.as_bytes.ensures.value c.in-Err.ensures.refusal in
-    let on_right = subst (λ (text : List ℕ). IsCanRefusal dir name text c.as_bytes-3.result.now fault) c.as_bytes-2.ensures.value on_name in
-    let refused = subst (λ (text : List ℕ). IsCanRefusal dir name right text fault) c.as_bytes-3.ensures.value on_right in
-    if_ok c.refusal.result (λ told said. told_refused dir (IsCanText dir name right base) (IsCanRefusal dir name right base) fault told refused said) c.refusal.ensures
+    let on_name = subst (λ (text : List ℕ). IsCanRefusal dir text c.as_bytes-2.result.now c.as_bytes-3.result.now
+    fault) c.as_bytes.ensures.value c.in-Err.ensures.refusal in
+    let on_right = subst (λ (text : List ℕ). IsCanRefusal dir name text c.as_bytes-3.result.now fault)
+    c.as_bytes-2.ensures.value on_name in
+    let refused = subst (λ (text : List ℕ). IsCanRefusal dir name right text fault) c.as_bytes-3.ensures.value
+    on_right in
+    if_ok c.refusal.result (λ told said. told_refused dir (IsCanText dir name right base)
+    (IsCanRefusal dir name right base) fault told refused said) c.refusal.ensures

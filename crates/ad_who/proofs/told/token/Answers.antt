@@ -11,5 +11,7 @@ returns-in-Err c =
     let name = c.args.name.now in
     let texts = map string_bytes c.args.sids.now in
     let fault = c.in-Err.fault in
-    let refused = subst (λ (text : List ℕ). IsTokenRefusal dir text texts fault) c.as_bytes.ensures.value c.in-Err.ensures.refusal in
-    if_ok c.refusal.result (λ told said. told_refused dir (IsTokenText dir name texts) (IsTokenRefusal dir name texts) fault told refused said) c.refusal.ensures
+    let refused = subst (λ (text : List ℕ). IsTokenRefusal dir text texts fault) c.as_bytes.ensures.value
+    c.in-Err.ensures.refusal in
+    if_ok c.refusal.result (λ told said. told_refused dir (IsTokenText dir name texts) (IsTokenRefusal dir name texts)
+    fault told refused said) c.refusal.ensures

@@ -10,6 +10,8 @@ returns-in-Err c =
     let right = c.args.right.now in
     let name = c.args.name.now in
     let fault = c.in-Err.fault in
-    let on_right = subst (λ (text : List ℕ). IsWhoRefusal dir text c.as_bytes-2.result.now fault) c.as_bytes.ensures.value c.in-Err.ensures.refusal in
+    let on_right = subst (λ (text : List ℕ). IsWhoRefusal dir text c.as_bytes-2.result.now fault)
+    c.as_bytes.ensures.value c.in-Err.ensures.refusal in
     let refused = subst (λ (text : List ℕ). IsWhoRefusal dir right text fault) c.as_bytes-2.ensures.value on_right in
-    if_ok c.refusal.result (λ told said. told_refused dir (IsWhoText dir right name) (IsWhoRefusal dir right name) fault told refused said) c.refusal.ensures
+    if_ok c.refusal.result (λ told said. told_refused dir (IsWhoText dir right name) (IsWhoRefusal dir right name)
+    fault told refused said) c.refusal.ensures

@@ -12,6 +12,7 @@ returns c =
       sym masks.nodes,
       record {
         each = omega (arith, masks.nodes);
-        bits = λ place bit there small. masks.granted place bit there small ∙ rw (c.view.ensures, c.as_ref.ensures.value) refl;
+        bits = λ place bit there small. masks.granted place bit there small
+            ∙ rw (c.view.ensures, c.as_ref.ensures.value) refl;
       },
     )

@@ -6,4 +6,5 @@ pub returns-in-Ok : goal.returns-in-Ok
 returns-in-Ok c = rw (spelled_of c.in-Ok.sid c.args.text.now c.in-Ok.ensures.found) refl
 
 pub returns-in-Err : goal.returns-in-Err
-returns-in-Err c = rw (none_of c.args.text.now (λ sid spelled. let e = c.in-Err.ensures.only sid spelled in absurd cc)) refl
+returns-in-Err c = rw (none_of c.args.text.now (λ sid spelled. let e = c.in-Err.ensures.only sid spelled
+    in absurd cc)) refl

@@ -11,8 +11,10 @@ returns-in-Ok g c =
 
 pub returns-in-Err : goal.returns-in-Err
 returns-in-Err g c =
-    let all = subst (Ended g.I.Source g.S.Site c.args.source.now c.args.source.now c.args.site.now c.resume.new.site) (sym c.of_open.ensures)
-    (unopened g.I.Source g.S.Site c.args.source.now c.args.site.now c.resume.new.site c.in-Err.fault c.in-Err.ensures.outside c.in-Err.ensures.opened
+    let all = subst (Ended g.I.Source g.S.Site c.args.source.now c.args.source.now c.args.site.now c.resume.new.site)
+    (sym c.of_open.ensures)
+    (unopened g.I.Source g.S.Site c.args.source.now c.args.site.now c.resume.new.site c.in-Err.fault
+    c.in-Err.ensures.outside c.in-Err.ensures.opened
     (λ is. c.in-Err.ensures.cause (ap (λ (f : OpenFault). Err f) is))) in
     record { does = all.does; source_failed = all.source_failed; site_failed = all.site_failed }
 

@@ -11,7 +11,8 @@ returns-in-Err g c =
     record {
       served = tt;
       whole = tt;
-      part = part_none (s.emitted c.args.site.now) (s.emitted c.args.site.now) _ (told_self (s.emitted c.args.site.now));
+      part = part_none (s.emitted c.args.site.now) (s.emitted c.args.site.now) _
+          (told_self (s.emitted c.args.site.now));
       keeps = keeps_not s law c.args.site.now;
       moments = goes_not s c.args.site.now;
       never_falls = omega arith;
@@ -22,5 +23,6 @@ returns-in-Err g c =
 pub returns : goal.returns
 returns g c =
     let s = g.S.Site in
-    frame_told s c.args.replay.now c.next_lines.new.replay c.args.number c.args.frame.now c.args.site.now c.tell_lines.new.site c.tell_lines.result
+    frame_told s c.args.replay.now c.next_lines.new.replay c.args.number c.args.frame.now c.args.site.now
+    c.tell_lines.new.site c.tell_lines.result
     c.deref.result.now (c.deref.ensures.value ∙ c.in-Ok.ensures.lines) c.in-Ok.ensures.served c.tell_lines.ensures

@@ -10,6 +10,7 @@ abbrev pub invariant-loop-done : goal.invariant-loop-done
 invariant-loop-done g l =
     let s = g.S.Site in
     record {
-      since : (old : _) → OnlyLooks s old l.fn.site → IfSome (s.reads old) (λ held. IsStoreOf held l.fn.replay.directory)
+      since : (old : _) → OnlyLooks s old l.fn.site
+          → IfSome (s.reads old) (λ held. IsStoreOf held l.fn.replay.directory)
           → IsAuditing g.I.Source s l.fn.replay.directory l.replay l.fn.source l.source old l.site (1000000 - l.done);
     }

@@ -9,5 +9,6 @@ audit_frames-requires g c = ap (λ (s : State). s.tokens) c.new-replay.ensures �
 
 pub returns : goal.returns
 returns g c =
-    subst (λ (d : Directory). IsAuditedSince g.I.Source g.S.Site d c.args.source.now c.audit_frames.new.source c.args.site.now c.audit_frames.new.site c.audit_frames.result)
+    subst (λ (d : Directory). IsAuditedSince g.I.Source g.S.Site d c.args.source.now c.audit_frames.new.source
+    c.args.site.now c.audit_frames.new.site c.audit_frames.result)
     (ap (λ (s : State). s.directory) c.new-replay.ensures) c.audit_frames.ensures

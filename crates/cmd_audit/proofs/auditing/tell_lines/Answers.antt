@@ -7,7 +7,8 @@ use Rattle.cmd_audit.proofs.auditing.tell_lines.Goals as goal
 pub returns-then-is_empty : goal.returns-then-is_empty
 returns-then-is_empty g c =
     let law : IsLawful g.S.Site = record { output = g.met.S.Site.left_output; until = g.met.S.Site.left_until } in
-    tells_none g.S.Site law c.args.site.now c.args.text.now (no_bytes c.args.text.now (sym c.is_empty.ensures ∙ c.if-is_empty.true))
+    tells_none g.S.Site law c.args.site.now c.args.text.now
+    (no_bytes c.args.text.now (sym c.is_empty.ensures ∙ c.if-is_empty.true))
 
 pub returns-in-Ok : goal.returns-in-Ok
 returns-in-Ok g c =

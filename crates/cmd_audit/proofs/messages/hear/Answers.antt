@@ -6,7 +6,8 @@ use Rattle.ad_ldap.specs.MessageValue.{message_seen}
 use Rattle.cmd_audit.proofs.messages.hear.Goals as goal
 
 pub of_message-requires : goal.of_message-requires
-of_message-requires c = (c.what_a_message_has.ensures (message_seen c.in-Ok.message) c.args.bytes.now c.in-Ok.ensures.found).2
+of_message-requires c = (c.what_a_message_has.ensures (message_seen c.in-Ok.message) c.args.bytes.now
+    c.in-Ok.ensures.found).2
 
 pub returns-in-Ok-clause-tried : goal.returns-in-Ok-clause-tried
 unfolding message_tries
@@ -17,4 +18,5 @@ returns-in-Ok-clause-tried c =
 pub returns-in-Ok-clause-looks : goal.returns-in-Ok-clause-looks
 unfolding message_looks
 returns-in-Ok-clause-looks c =
-    subst (λ (b : Bool). IfOk c.of_message.result (λ heard. heard.looks ≡ b)) (ap reading_looks (sym c.in-Ok.ensures.fault)) c.of_message.ensures.looks
+    subst (λ (b : Bool). IfOk c.of_message.result (λ heard. heard.looks ≡ b))
+    (ap reading_looks (sym c.in-Ok.ensures.fault)) c.of_message.ensures.looks

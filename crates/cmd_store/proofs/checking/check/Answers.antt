@@ -9,16 +9,21 @@ use Rattle.cmd_store.proofs.checking.check.Goals as goal
 
 pub returns-in-Ok-clause-does : goal.returns-in-Ok-clause-does
 returns-in-Ok-clause-does g c =
-    (checked_told g.S.Site c.args.site.now c.resume.new.site c.tell.new.site c.in-Ok.engine.dir c.tell.result c.in-Ok.ensures.outside c.in-Ok.ensures.opened
-    (subst (λ (dir : Directory). SaysUnless g.S.Site c.resume.new.site c.tell.new.site (check_text dir) Done c.tell.result) c.dir.ensures c.tell.ensures)).0
+    (checked_told g.S.Site c.args.site.now c.resume.new.site c.tell.new.site c.in-Ok.engine.dir c.tell.result
+    c.in-Ok.ensures.outside c.in-Ok.ensures.opened
+    (subst (λ (dir : Directory). SaysUnless g.S.Site c.resume.new.site c.tell.new.site (check_text dir) Done
+    c.tell.result) c.dir.ensures c.tell.ensures)).0
 
 pub returns-in-Ok-clause-site_failed : goal.returns-in-Ok-clause-site_failed
 returns-in-Ok-clause-site_failed g c =
-    (checked_told g.S.Site c.args.site.now c.resume.new.site c.tell.new.site c.in-Ok.engine.dir c.tell.result c.in-Ok.ensures.outside c.in-Ok.ensures.opened
-    (subst (λ (dir : Directory). SaysUnless g.S.Site c.resume.new.site c.tell.new.site (check_text dir) Done c.tell.result) c.dir.ensures c.tell.ensures)).1
+    (checked_told g.S.Site c.args.site.now c.resume.new.site c.tell.new.site c.in-Ok.engine.dir c.tell.result
+    c.in-Ok.ensures.outside c.in-Ok.ensures.opened
+    (subst (λ (dir : Directory). SaysUnless g.S.Site c.resume.new.site c.tell.new.site (check_text dir) Done
+    c.tell.result) c.dir.ensures c.tell.ensures)).1
 
 pub returns-in-Err : goal.returns-in-Err
 returns-in-Err g c =
-    let both = checked_by g.S.Site c.args.site.now c.resume.new.site c.refuse.new.site c.in-Err.fault c.refuse.result c.in-Err.ensures.outside c.in-Err.ensures.opened
+    let both = checked_by g.S.Site c.args.site.now c.resume.new.site c.refuse.new.site c.in-Err.fault c.refuse.result
+    c.in-Err.ensures.outside c.in-Err.ensures.opened
     (λ is. c.in-Err.ensures.cause (ap (λ (f : OpenFault). Err f) is)) c.refuse.ensures in
     record { does = both.0; site_failed = both.1 }

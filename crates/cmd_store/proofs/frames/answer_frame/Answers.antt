@@ -4,7 +4,8 @@ use Rattle.ad_engine.proofs.Keeping.{emit_stands_still}
 use Rattle.cmd_call.specs.Store.{Emits, EmitsPart}
 use Rattle.cmd_call.proofs.Moments.{IsLawful, emits_on, part_on, goes_on_on}
 use Rattle.cmd_store.specs.serving.One.{answered_by}
-use Rattle.cmd_store.proofs.serving.OneFrame.{part_none, part_whole, known_then, not_so, amid_served, amid_emitted, lasts_emitted}
+use Rattle.cmd_store.proofs.serving.OneFrame.{part_none, part_whole, known_then, not_so, amid_served, amid_emitted}
+use Rattle.cmd_store.proofs.serving.OneFrame.{lasts_emitted}
 use Rattle.cmd_store.proofs.frames.answer_frame.Goals as goal
 
 pub returns-in-Err-Site : goal.returns-in-Err-Site
@@ -14,7 +15,8 @@ returns-in-Err-Site g c =
     record {
       answered = tt;
       part = part_none (s.emitted c.args.site.now) (s.emitted c.serve_frame.new.site) _ made.outside.output;
-      amid = amid_served s (record { output = g.met.S.Site.left_output; until = g.met.S.Site.left_until }) c.args.engine.now c.args.frame.now c.args.site.now c.serve_frame.new.site
+      amid = amid_served s (record { output = g.met.S.Site.left_output; until = g.met.S.Site.left_until })
+          c.args.engine.now c.args.frame.now c.args.site.now c.serve_frame.new.site
           made.outside made.any_moment;
       moments = made.outside.moments;
       known = made.outside.known;
@@ -31,7 +33,8 @@ returns-in-Err-Memory g c =
     record {
       answered = tt;
       part = part_none (s.emitted c.args.site.now) (s.emitted c.serve_frame.new.site) _ made.outside.output;
-      amid = amid_served s (record { output = g.met.S.Site.left_output; until = g.met.S.Site.left_until }) c.args.engine.now c.args.frame.now c.args.site.now c.serve_frame.new.site
+      amid = amid_served s (record { output = g.met.S.Site.left_output; until = g.met.S.Site.left_until })
+          c.args.engine.now c.args.frame.now c.args.site.now c.serve_frame.new.site
           made.outside made.any_moment;
       moments = made.outside.moments;
       known = made.outside.known;
@@ -55,21 +58,26 @@ returns-in-Ok-emit g c =
     let said : Emits (s.emitted y) (s.emitted z) (answered_by old c.args.frame.now).output =
     subst (λ (t : List ℕ). Emits (s.emitted y) (s.emitted z) t) text c.in-Ok-emit.ensures.output in
     let all : Emits (s.emitted x) (s.emitted z) (answered_by old c.args.frame.now).output =
-    emits_on (s.emitted x) (s.emitted y) (s.emitted z) (answered_by old c.args.frame.now).output made.outside.output said in
+    emits_on (s.emitted x) (s.emitted y) (s.emitted z) (answered_by old c.args.frame.now).output made.outside.output
+    said in
     let law : IsLawful s = record { output = g.met.S.Site.left_output; until = g.met.S.Site.left_until } in
     record {
       answered = record {
         directory = made.directory;
         tokens = made.tokens;
-        stands = emit_stands_still new (s.reads y) (s.reads z) (s.now y) (s.now z) (s.left y) (s.left z) bytes made.stands c.emit.ensures.slots c.emit.ensures.moments.later c.emit.ensures.images;
+        stands = emit_stands_still new (s.reads y) (s.reads z) (s.now y) (s.now z) (s.left y) (s.left z) bytes
+            made.stands c.emit.ensures.slots c.emit.ensures.moments.later c.emit.ensures.images;
         unspent = not_so new.spent _ made.marks.0 (λ no. absurd cc);
         output = all;
-        lasts = lasts_emitted s old.dir new.dir x y z bytes made.every_crash c.emit.ensures.moments c.emit.ensures.images;
+        lasts = lasts_emitted s old.dir new.dir x y z bytes made.every_crash c.emit.ensures.moments
+            c.emit.ensures.images;
       };
       part = part_whole (s.emitted x) (s.emitted z) (answered_by old c.args.frame.now).output all;
-      amid = amid_emitted s law old new c.args.frame.now x y z bytes made.outside made.directory text made.every_crash c.emit.ensures.moments c.emit.ensures.images
+      amid = amid_emitted s law old new c.args.frame.now x y z bytes made.outside made.directory text made.every_crash
+          c.emit.ensures.moments c.emit.ensures.images
           (amid_served s law old c.args.frame.now x y made.outside made.any_moment);
-      moments = goes_on_on (s.now x) (s.now y) (s.now z) (s.left x) (s.left y) (s.left z) made.outside.moments c.emit.ensures.moments;
+      moments = goes_on_on (s.now x) (s.now y) (s.now z) (s.left x) (s.left y) (s.left z) made.outside.moments
+          c.emit.ensures.moments;
       known = known_then (s.reads x) (s.reads y) (s.reads z) made.outside.known c.emit.ensures.slots;
       slot_faults = omega (arith, made.outside.never_falls, c.emit.ensures.slot_faults);
       out_faults = omega (arith, made.outside.out_faults, c.emit.ensures.never_falls);
@@ -93,13 +101,17 @@ returns g c =
     let law : IsLawful s = record { output = g.met.S.Site.left_output; until = g.met.S.Site.left_until } in
     record {
       answered = tt;
-      part = part_on (s.emitted x) (s.emitted y) (s.emitted z) (answered_by old c.args.frame.now).output made.outside.output said;
-      amid = amid_emitted s law old new c.args.frame.now x y z bytes made.outside made.directory text made.every_crash c.emit.ensures.moments c.emit.ensures.images
+      part = part_on (s.emitted x) (s.emitted y) (s.emitted z) (answered_by old c.args.frame.now).output
+          made.outside.output said;
+      amid = amid_emitted s law old new c.args.frame.now x y z bytes made.outside made.directory text made.every_crash
+          c.emit.ensures.moments c.emit.ensures.images
           (amid_served s law old c.args.frame.now x y made.outside made.any_moment);
-      moments = goes_on_on (s.now x) (s.now y) (s.now z) (s.left x) (s.left y) (s.left z) made.outside.moments c.emit.ensures.moments;
+      moments = goes_on_on (s.now x) (s.now y) (s.now z) (s.left x) (s.left y) (s.left z) made.outside.moments
+          c.emit.ensures.moments;
       known = known_then (s.reads x) (s.reads y) (s.reads z) made.outside.known c.emit.ensures.slots;
       slot_faults = omega (arith, made.outside.never_falls, c.emit.ensures.slot_faults);
       out_faults = omega (arith, made.outside.out_faults, c.emit.ensures.never_falls);
-      cause = λ _. inr (subst (λ (k : ℕ). HasRisen k (s.out_faults z)) made.outside.out_faults (c.in-Err.ensures.cause refl));
+      cause = λ _. inr (subst (λ (k : ℕ). HasRisen k (s.out_faults z)) made.outside.out_faults
+          (c.in-Err.ensures.cause refl));
       only = tt;
     }

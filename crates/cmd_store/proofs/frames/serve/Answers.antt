@@ -12,7 +12,13 @@ returns-in-Ok g c =
 pub returns-in-Err : goal.returns-in-Err
 returns-in-Err g c =
     let law : IsLawful g.S.Site = record { output = g.met.S.Site.left_output; until = g.met.S.Site.left_until } in
-    let both = subst (Serves g.I.Source g.S.Site c.args.source.now c.args.source.now c.args.site.now c.resume.new.site) (sym c.of_open.ensures)
-    (unopened g.I.Source g.S.Site law c.args.source.now c.args.site.now c.resume.new.site c.in-Err.fault c.in-Err.ensures.outside c.in-Err.ensures.opened
+    let both = subst (Serves g.I.Source g.S.Site c.args.source.now c.args.source.now c.args.site.now
+    c.resume.new.site) (sym c.of_open.ensures)
+    (unopened g.I.Source g.S.Site law c.args.source.now c.args.site.now c.resume.new.site c.in-Err.fault
+    c.in-Err.ensures.outside c.in-Err.ensures.opened
     (λ is. c.in-Err.ensures.cause (ap (λ (f : OpenFault). Err f) is))) in
-    record { does = both.0; source_failed = λ is. absurd (no_source c.in-Err.fault (sym c.of_open.ensures ∙ is)); site_failed = both.1 }
+    record {
+      does = both.0;
+      source_failed = λ is. absurd (no_source c.in-Err.fault (sym c.of_open.ensures ∙ is));
+      site_failed = both.1;
+    }

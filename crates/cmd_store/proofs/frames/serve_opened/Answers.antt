@@ -11,9 +11,11 @@ serve_frames-requires-clause-tokens g c = c.in-Ok.ensures.tokens ∙ c.requires.
 pub returns-in-Ok : goal.returns-in-Ok
 returns-in-Ok g c = λ old looks store.
     let made = c.in-Ok.ensures in
-    c.serve_frames.ensures old (subst (λ (d : Directory). IsReady g.S.Site d old c.make_ready.new.site) (sym made.dir) (made.ready old looks store))
+    c.serve_frames.ensures old (subst (λ (d : Directory). IsReady g.S.Site d old c.make_ready.new.site) (sym made.dir)
+    (made.ready old looks store))
 
 pub returns-in-Err : goal.returns-in-Err
 returns-in-Err g c = λ old looks store.
     let law : IsLawful g.S.Site = record { output = g.met.S.Site.left_output; until = g.met.S.Site.left_until } in
-    ended_unready g.I.Source g.S.Site law c.args.source.now c.args.engine.now.dir old c.make_ready.new.site c.in-Err.outcome (c.in-Err.ensures.failed old looks store)
+    ended_unready g.I.Source g.S.Site law c.args.source.now c.args.engine.now.dir old c.make_ready.new.site
+    c.in-Err.outcome (c.in-Err.ensures.failed old looks store)

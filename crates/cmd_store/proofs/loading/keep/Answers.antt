@@ -12,7 +12,8 @@ returns-in-Err g c = record {
 
 pub returns-in-Ok-stored : goal.returns-in-Ok-stored
 returns-in-Ok-stored g c = record {
-  keeps = kept_said g.S.Site (record { output = g.met.S.Site.left_output; until = g.met.S.Site.left_until }) c.args.dir c.args.site.now c.stored.new.site c.say.new.site c.say.result
+  keeps = kept_said g.S.Site (record { output = g.met.S.Site.left_output; until = g.met.S.Site.left_until })
+      c.args.dir c.args.site.now c.stored.new.site c.say.new.site c.say.result
       c.in-Ok-stored.ensures.creating.outside c.in-Ok-stored.ensures.held c.in-Ok-stored.ensures.every_crash
       (subst (λ (text : List ℕ). Says g.S.Site c.stored.new.site c.say.new.site text Done c.say.result)
       (c.deref.ensures.value ∙ c.in-Ok.ensures) c.say.ensures);
@@ -22,9 +23,11 @@ pub returns-in-Err-Taken : goal.returns-in-Err-Taken
 returns-in-Err-Taken g c =
     let made = rw c.in-Err-Taken.field-0-is at c.in-Err-Taken.ensures in
     record {
-      keeps = kept_taken g.S.Site (record { output = g.met.S.Site.left_output; until = g.met.S.Site.left_until }) c.args.dir c.args.site.now c.stored.new.site c.say-in-Err-Taken.new.site c.say-in-Err-Taken.result
+      keeps = kept_taken g.S.Site (record { output = g.met.S.Site.left_output; until = g.met.S.Site.left_until })
+          c.args.dir c.args.site.now c.stored.new.site c.say-in-Err-Taken.new.site c.say-in-Err-Taken.result
           made.creating.outside (made.creating.taken refl) (made.creating.unwritten (inl refl))
-          (subst (λ (text : List ℕ). Says g.S.Site c.stored.new.site c.say-in-Err-Taken.new.site text NoStore c.say-in-Err-Taken.result) c.as_bytes.ensures.value c.say-in-Err-Taken.ensures);
+          (subst (λ (text : List ℕ). Says g.S.Site c.stored.new.site c.say-in-Err-Taken.new.site text NoStore
+          c.say-in-Err-Taken.result) c.as_bytes.ensures.value c.say-in-Err-Taken.ensures);
     }
 
 pub returns-in-Err-Memory : goal.returns-in-Err-Memory
@@ -32,7 +35,8 @@ returns-in-Err-Memory g c =
     let made = rw c.in-Err-Memory.field-0-is at c.in-Err-Memory.ensures in
     record {
       keeps = kept_memory g.S.Site
-          (record { output = g.met.S.Site.left_output; until = g.met.S.Site.left_until }) c.args.dir c.args.site.now c.stored.new.site made.creating.outside
+          (record { output = g.met.S.Site.left_output; until = g.met.S.Site.left_until }) c.args.dir c.args.site.now
+          c.stored.new.site made.creating.outside
           (made.creating.unwritten (inr refl));
     }
 
@@ -40,6 +44,7 @@ pub returns-in-Err-Site : goal.returns-in-Err-Site
 returns-in-Err-Site g c =
     let made = rw c.in-Err-Site.field-0-is at c.in-Err-Site.ensures in
     record {
-      keeps = kept_failed g.S.Site (record { output = g.met.S.Site.left_output; until = g.met.S.Site.left_until }) c.args.dir c.args.site.now c.stored.new.site
+      keeps = kept_failed g.S.Site (record { output = g.met.S.Site.left_output; until = g.met.S.Site.left_until })
+          c.args.dir c.args.site.now c.stored.new.site
           made.creating.outside (made.creating.cause refl);
     }

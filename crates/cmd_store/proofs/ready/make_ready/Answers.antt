@@ -14,8 +14,10 @@ pub migrate_synced-requires-clause-lasts : goal.migrate_synced-requires-clause-l
 migrate_synced-requires-clause-lasts g c =
     let s = g.S.Site in
     let made = c.in-Ok.ensures in
-    subst (λ (d : Directory). IfSome (s.reads c.sync.new.site) (λ held. EachStandsFor s d c.sync.new.site)) (sym made.dir)
-    (told_on (λ held. EachStandsFor s c.args.engine.now.dir c.sync.new.site) (s.reads c.args.site.now) (s.reads c.sync.new.site) made.outside.held made.every_crash)
+    subst (λ (d : Directory). IfSome (s.reads c.sync.new.site) (λ held. EachStandsFor s d c.sync.new.site))
+    (sym made.dir)
+    (told_on (λ held. EachStandsFor s c.args.engine.now.dir c.sync.new.site) (s.reads c.args.site.now)
+    (s.reads c.sync.new.site) made.outside.held made.every_crash)
 
 pub migrate_synced-requires-clause-unspent : goal.migrate_synced-requires-clause-unspent
 migrate_synced-requires-clause-unspent g c = not_so c.sync.new.self.spent _ c.in-Ok.ensures.marks.0 (λ no. absurd cc)
@@ -27,7 +29,8 @@ returns-in-Ok-clause-ready g c =
     let z = c.migrate_synced.new.site in
     on_ok_weaker c.migrate_synced.result
     (λ ready old looks store.
-    subst (λ (d : Directory). IsReadySince s d c.sync.new.site z) made.dir ready old (looks_on s old c.args.site.now c.sync.new.site looks made.outside) store)
+    subst (λ (d : Directory). IsReadySince s d c.sync.new.site z) made.dir ready old
+    (looks_on s old c.args.site.now c.sync.new.site looks made.outside) store)
     c.migrate_synced.ensures.ready
 
 pub returns-in-Ok-clause-failed : goal.returns-in-Ok-clause-failed
@@ -37,7 +40,8 @@ returns-in-Ok-clause-failed g c =
     let z = c.migrate_synced.new.site in
     IfErr-weaker c.migrate_synced.result _ (IsUnreadySince s c.args.engine.now.dir c.args.site.now z)
     (λ outcome unready old looks store.
-    subst (λ (d : Directory). IsUnreadySince s d c.sync.new.site z outcome) made.dir unready old (looks_on s old c.args.site.now c.sync.new.site looks made.outside) store)
+    subst (λ (d : Directory). IsUnreadySince s d c.sync.new.site z outcome) made.dir unready old
+    (looks_on s old c.args.site.now c.sync.new.site looks made.outside) store)
     c.migrate_synced.ensures.failed
 
 pub returns-in-Ok-clause-dir : goal.returns-in-Ok-clause-dir
@@ -53,7 +57,9 @@ returns-in-Err-Site-clause-failed g c = λ old looks store.
     let made = rw c.in-Err-Site.field-0-is at c.in-Err-Site.ensures in
     record {
       synced = suc (s.now c.sync.new.site);
-      opening = opening_failed s law c.args.engine.now.dir old c.sync.new.site (looks_on s old c.args.site.now c.sync.new.site looks made.outside) store;
-      cause = λ _. rises_from (s.slot_faults old) (s.slot_faults c.args.site.now) (s.slot_faults c.sync.new.site) looks.never_falls (made.cause refl);
+      opening = opening_failed s law c.args.engine.now.dir old c.sync.new.site
+          (looks_on s old c.args.site.now c.sync.new.site looks made.outside) store;
+      cause = λ _. rises_from (s.slot_faults old) (s.slot_faults c.args.site.now) (s.slot_faults c.sync.new.site)
+          looks.never_falls (made.cause refl);
       only = inl refl;
     }

@@ -9,7 +9,8 @@ returns-in-Ok-clause-ready g c = λ old looks store.
     let s = g.S.Site in
     let law : IsLawful s = record { output = g.met.S.Site.left_output; until = g.met.S.Site.left_until } in
     let made = c.in-Ok.ensures in
-    ready_on s law c.args.engine.now.dir old c.args.site.now c.migrate.new.site looks store c.requires.lasts made.outside made.any_moment made.untouched
+    ready_on s law c.args.engine.now.dir old c.args.site.now c.migrate.new.site looks store c.requires.lasts
+    made.outside made.any_moment made.untouched
 
 pub returns-in-Ok-clause-unspent : goal.returns-in-Ok-clause-unspent
 returns-in-Ok-clause-unspent g c = not_so c.migrate.new.self.spent _ c.in-Ok.ensures.marks.0 (λ no. absurd cc)
@@ -21,8 +22,10 @@ returns-in-Err-Site-clause-failed g c = λ old looks store.
     let made = rw c.in-Err-Site.field-0-is at c.in-Err-Site.ensures in
     record {
       synced = s.now c.args.site.now;
-      opening = opening_on s law c.args.engine.now.dir old c.args.site.now c.migrate.new.site looks store c.requires.lasts made.outside made.any_moment made.untouched;
-      cause = λ _. rises_from (s.slot_faults old) (s.slot_faults c.args.site.now) (s.slot_faults c.migrate.new.site) looks.never_falls (made.cause refl);
+      opening = opening_on s law c.args.engine.now.dir old c.args.site.now c.migrate.new.site looks store
+          c.requires.lasts made.outside made.any_moment made.untouched;
+      cause = λ _. rises_from (s.slot_faults old) (s.slot_faults c.args.site.now) (s.slot_faults c.migrate.new.site)
+          looks.never_falls (made.cause refl);
       only = inl refl;
     }
 
@@ -33,7 +36,8 @@ returns-in-Err-Memory-clause-failed g c = λ old looks store.
     let made = c.in-Err-Memory.ensures in
     record {
       synced = s.now c.args.site.now;
-      opening = opening_on s law c.args.engine.now.dir old c.args.site.now c.migrate.new.site looks store c.requires.lasts made.outside made.any_moment made.untouched;
+      opening = opening_on s law c.args.engine.now.dir old c.args.site.now c.migrate.new.site looks store
+          c.requires.lasts made.outside made.any_moment made.untouched;
       cause = λ no. absurd cc;
       only = inr refl;
     }

@@ -7,5 +7,9 @@ returns-in-Ok-clause-given c = ap loaded (sym (c.deref.ensures.value ∙ c.in_ok
 
 pub returns-in-Err-Bad-clause-given : goal.returns-in-Err-Bad-clause-given
 returns-in-Err-Bad-clause-given c =
-    let made = rw c.in-Err-Bad.field-0-is at c.in-Err-Bad.ensures in
-    (c.in-Err-Bad.field-0-0, c.in-Err-Bad.field-0-1, ap loaded (sym (c.deref.ensures.value ∙ c.in_ok-text.ensures)) ∙ made.loaded refl)
+    let made = rw c.in-Err-Bad.field-0-is at c.in-Err-Bad.ensures in (
+      c.in-Err-Bad.field-0-0,
+      c.in-Err-Bad.field-0-1,
+      ap loaded (sym (c.deref.ensures.value ∙ c.in_ok-text.ensures))
+          ∙ made.loaded refl,
+    )

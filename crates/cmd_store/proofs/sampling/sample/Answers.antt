@@ -9,9 +9,12 @@ pub returns-in-Ok-true : goal.returns-in-Ok-true
 returns-in-Ok-true g c =
     let law : IsLawful g.S.Site = record { output = g.met.S.Site.left_output; until = g.met.S.Site.left_until } in
     record {
-      does = samples_behind g.S.Site law c.args.n c.args.site.now c.are_empty.new.site c.sample_empty.new.site c.sample_empty.result
-          c.in-Ok-true.ensures.outside (rw c.in-Ok-true.field-0-test at c.in-Ok-true.ensures).empty c.sample_empty.ensures;
-      site_failed = λ is. failed_behind g.S.Site c.args.site.now c.are_empty.new.site c.sample_empty.new.site c.in-Ok-true.ensures.outside
+      does = samples_behind g.S.Site law c.args.n c.args.site.now c.are_empty.new.site c.sample_empty.new.site
+          c.sample_empty.result
+          c.in-Ok-true.ensures.outside (rw c.in-Ok-true.field-0-test at c.in-Ok-true.ensures).empty
+          c.sample_empty.ensures;
+      site_failed = λ is. failed_behind g.S.Site c.args.site.now c.are_empty.new.site c.sample_empty.new.site
+          c.in-Ok-true.ensures.outside
           (c.sample_empty.ensures.site_failed is);
     }
 
@@ -20,9 +23,11 @@ returns-in-Ok-false-clause-does g c =
     let law : IsLawful g.S.Site = record { output = g.met.S.Site.left_output; until = g.met.S.Site.left_until } in
     of_taken g.S.Site law c.args.n c.args.site.now c.are_empty.new.site c.say.new.site c.say.result
     c.in-Ok-false.ensures.outside (rw c.in-Ok-false.field-0-test at c.in-Ok-false.ensures).empty
-    (subst (λ (text : List ℕ). Says g.S.Site c.are_empty.new.site c.say.new.site text NoStore c.say.result) c.as_bytes.ensures.value c.say.ensures)
+    (subst (λ (text : List ℕ). Says g.S.Site c.are_empty.new.site c.say.new.site text NoStore c.say.result)
+    c.as_bytes.ensures.value c.say.ensures)
 
 pub returns-in-Err-clause-does : goal.returns-in-Err-clause-does
 returns-in-Err-clause-does g c =
     let law : IsLawful g.S.Site = record { output = g.met.S.Site.left_output; until = g.met.S.Site.left_until } in
-    of_failed g.S.Site law c.args.n c.args.site.now c.are_empty.new.site c.in-Err.ensures.outside (c.in-Err.ensures.cause refl)
+    of_failed g.S.Site law c.args.n c.args.site.now c.are_empty.new.site c.in-Err.ensures.outside
+    (c.in-Err.ensures.cause refl)

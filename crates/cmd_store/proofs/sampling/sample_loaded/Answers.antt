@@ -8,7 +8,8 @@ use Rattle.cmd_store.proofs.sampling.sample_loaded.Goals as goal
 
 pub returns-in-Ok : goal.returns-in-Ok
 returns-in-Ok g c = record {
-  samples = subst (λ (frames : List Frame). Samples g.S.Site c.args.dir frames c.args.site.now c.keep.new.site c.keep.result)
+  samples = subst (λ (frames : List Frame). Samples g.S.Site c.args.dir frames c.args.site.now c.keep.new.site
+      c.keep.result)
       (c.as_slice.ensures.value ∙ sym c.in-Ok.ensures) c.keep.ensures.samples;
 }
 

@@ -10,5 +10,7 @@ returns-in-Ok-text_of g c =
     c.deref.ensures.value ∙ c.in-Ok-text_of.ensures
     ∙ ap (λ (a : List (List ℕ)). text_of a c.dir.result.now) c.as_slice.ensures.value
     ∙ ap (λ (d : Directory). text_of c.in-Ok.answers.items d) c.dir.ensures in
-    told_numbers g.S.Site c.args.engine.now c.serve_all.new.engine c.args.frames.now c.in-Ok.answers.items c.deref.result.now
-    c.args.site.now c.serve_all.new.site c.say.new.site c.say.result c.in-Ok.ensures.served c.in-Ok.ensures.outside text_is c.say.ensures
+    told_numbers g.S.Site c.args.engine.now c.serve_all.new.engine c.args.frames.now c.in-Ok.answers.items
+    c.deref.result.now
+    c.args.site.now c.serve_all.new.site c.say.new.site c.say.result c.in-Ok.ensures.served c.in-Ok.ensures.outside
+    text_is c.say.ensures

@@ -12,6 +12,7 @@ returns-in-Ok g c =
 pub returns-in-Err : goal.returns-in-Err
 returns-in-Err g c =
     let law : IsLawful g.S.Site = record { output = g.met.S.Site.left_output; until = g.met.S.Site.left_until } in
-    let both = settled_by g.S.Site law c.args.site.now c.resume.new.site c.refuse.new.site c.in-Err.fault c.refuse.result c.in-Err.ensures.outside c.in-Err.ensures.opened
+    let both = settled_by g.S.Site law c.args.site.now c.resume.new.site c.refuse.new.site c.in-Err.fault
+    c.refuse.result c.in-Err.ensures.outside c.in-Err.ensures.opened
     (λ is. c.in-Err.ensures.cause (ap (λ (f : OpenFault). Err f) is)) c.refuse.ensures in
     record { does = both.0; site_failed = both.1 }

@@ -17,11 +17,14 @@ returns-then-len-eq0 g c =
     let none : length dir.pending ≡ 0 = sym (ap length queue) ∙ sym c.len.ensures.len ∙ c.if-len-eq0.true in
     λ old ready.
     settled_told s law dir 0 old c.args.site.now c.tell.new.site c.tell.result
-    (made_none s dir old c.args.site.now ready now.sound (stands_for s engine dir (s.reads c.args.site.now) refl now.held now.sound) (nil_from_length dir.pending none)) c.tell.ensures
+    (made_none s dir old c.args.site.now ready now.sound
+    (stands_for s engine dir (s.reads c.args.site.now) refl now.held now.sound)
+    (nil_from_length dir.pending none)) c.tell.ensures
 
 pub settle_pending-requires-clause-some : goal.settle_pending-requires-clause-some
 settle_pending-requires-clause-some g c = λ none.
-    let queue : c.queue.result.now ≡ c.args.engine.now.dir.pending = c.queue.ensures ∙ ap (λ (d : Directory). d.pending) c.dir.ensures in
+    let queue : c.queue.result.now ≡ c.args.engine.now.dir.pending = c.queue.ensures
+    ∙ ap (λ (d : Directory). d.pending) c.dir.ensures in
     let so_many : length c.queue.result.now ≡ 0 = ap length queue ∙ ap length none in
     c.if-len-eq0.false (c.len.ensures.len ∙ so_many)
 

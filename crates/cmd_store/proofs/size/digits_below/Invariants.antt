@@ -5,6 +5,7 @@ use Rattle.cmd_store.proofs.size.digits_below.Given as goal
 
 abbrev pub invariant-loop-byte : goal.invariant-loop-byte
 invariant-loop-byte l = record {
-  same : option_and_then (if_below 1001) (digits_behind l.number (drop l.byte-index l.text)) ≡ option_and_then (if_below 1001) (digits_behind 0 l.text);
+  same : option_and_then (if_below 1001) (digits_behind l.number (drop l.byte-index l.text))
+      ≡ option_and_then (if_below 1001) (digits_behind 0 l.text);
   below : l.number < 1001;
 }

@@ -13,20 +13,23 @@ use Rattle.cmd_store.proofs.stale.+from_root.Goals as goal
 
 pub returns-then-number-eq-ROOT : goal.returns-then-number-eq-ROOT
 returns-then-number-eq-ROOT t c =
-    subst (λ (x : Sd). IfOk c.root_part.result (λ sd. sd ≡ x)) (root_scratch c.args.dir.now c.args.levels c.args.number c.if-number-eq-ROOT.true) c.root_part.ensures
+    subst (λ (x : Sd). IfOk c.root_part.result (λ sd. sd ≡ x))
+    (root_scratch c.args.dir.now c.args.levels c.args.number c.if-number-eq-ROOT.true) c.root_part.ensures
 
 pub from_root-requires : goal.from_root-requires
 from_root-requires t c =
     let dir = c.args.dir.now in
     let higher = up dir c.args.levels c.args.number c.if-number-eq-ROOT.false c.requires.placed in
     let parent = ap (λ (o : Object). o.parent) (sym c.live_object-object.ensures) in
-    let live = (below_at dir c.requires.sound.each c.args.number c.requires.live c.if-number-eq-ROOT.false).parent_live in (
+    let live = (below_at dir c.requires.sound.each c.args.number c.requires.live
+    c.if-number-eq-ROOT.false).parent_live in (
       omega (arith, c.decreases, higher.0),
       (
         c.requires.sound,
         (
           subst (λ (n : ℕ). is_live dir.objects n ≡ true) parent live,
-          subst (λ (n : ℕ). (depth : ℕ) × (depth ≤ c.args.levels - 1) × IsAtDepth (parents dir) depth n) parent higher.1,
+          subst (λ (n : ℕ). (depth : ℕ) × (depth ≤ c.args.levels - 1) × IsAtDepth (parents dir) depth n) parent
+              higher.1,
         ),
       ),
     )
@@ -35,7 +38,8 @@ pub below-requires-clause-class : goal.below-requires-clause-class
 below-requires-clause-class t c =
     let dir = c.args.dir.now in
     let class = ap (λ (o : Object). o.class) (sym c.live_object-object.ensures) in
-    subst (λ (k : ℕ). k < length (classes_of dir.schema)) class (sound_at dir c.requires.sound.each c.args.number c.requires.live).content.class_of_schema
+    subst (λ (k : ℕ). k < length (classes_of dir.schema)) class
+    (sound_at dir c.requires.sound.each c.args.number c.requires.live).content.class_of_schema
 
 pub returns : goal.returns
 returns t c =
@@ -46,9 +50,12 @@ returns t c =
     let parent = ap (λ (x : Object). x.parent) c.live_object-object.ensures in
     let class = ap (λ (x : Object). x.class) c.live_object-object.ensures in
     let levels : suc (c.args.levels - 1) ≡ c.args.levels = omega (arith, higher.0) in
-    let above = c.in_ok-above.ensures ∙ ap (λ (l : ℕ). scratch_within dir l c.live_object-object.result.now.parent) levels ∙ ap (scratch_within dir c.args.levels) parent in
+    let above = c.in_ok-above.ensures ∙ ap (λ (l : ℕ). scratch_within dir l c.live_object-object.result.now.parent)
+    levels ∙ ap (scratch_within dir c.args.levels) parent in
     let is =
-    ap (λ (a : Sd). whole a (sd_at dir.objects number) (guid_at dir.schema c.live_object-object.result.now.class.0)) above
-    ∙ ap (λ (k : ℕ). whole (scratch_within dir c.args.levels (parents dir number)) (sd_at dir.objects number) (guid_at dir.schema k)) class
+    ap (λ (a : Sd). whole a (sd_at dir.objects number) (guid_at dir.schema c.live_object-object.result.now.class.0))
+    above
+    ∙ ap (λ (k : ℕ). whole (scratch_within dir c.args.levels (parents dir number)) (sd_at dir.objects number)
+    (guid_at dir.schema k)) class
     ∙ below_scratch dir c.args.levels number c.if-number-eq-ROOT.false in
     subst (λ (x : Sd). IfOk c.below.result (λ sd. sd ≡ x)) is c.below.ensures

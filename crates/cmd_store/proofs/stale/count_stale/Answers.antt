@@ -9,13 +9,17 @@ returns-then-len-eq0 c =
     sym (none_stale c.args.dir.now c.requires (sym c.queue.ensures ∙ none))
 
 pub loop-number-init : goal.loop-number-init
-loop-number-init c = counting_from c.args.dir.now c.deref-number-items.result.now (c.deref-number-items.ensures.value ∙ c.in_ok-numbers.ensures)
+loop-number-init c = counting_from c.args.dir.now c.deref-number-items.result.now
+    (c.deref-number-items.ensures.value ∙ c.in_ok-numbers.ensures)
 
 pub loop-number-preserved : goal.loop-number-preserved
 loop-number-preserved c =
-    let counted = counted_more c.args.dir.now c.deref-number-items.result.now c.loop-number.n c.loop-number.number-index (c.loop-number.number-index + 1) c.in_ok-is_stale.field-0
+    let counted = counted_more c.args.dir.now c.deref-number-items.result.now c.loop-number.n
+    c.loop-number.number-index (c.loop-number.number-index + 1) c.in_ok-is_stale.field-0
     c.loop-number.invariant (omega arith) c.loop-number-test.true c.in_ok-is_stale.ensures in
-    subst (λ (k : ℕ). IsCounting c.args.dir.now c.deref-number-items.result.now (c.loop-number.n + k) (c.loop-number.number-index + 1)) (sym c.counted.ensures) counted
+    subst (λ (k : ℕ). IsCounting c.args.dir.now c.deref-number-items.result.now (c.loop-number.n + k)
+    (c.loop-number.number-index + 1)) (sym c.counted.ensures) counted
 
 pub returns : goal.returns
-returns c = counted_all c.args.dir.now c.deref-number-items.result.now c.loop-number.n c.loop-number.number-index c.loop-number.invariant (omega (arith, c.loop-number-test.false))
+returns c = counted_all c.args.dir.now c.deref-number-items.result.now c.loop-number.n c.loop-number.number-index
+    c.loop-number.invariant (omega (arith, c.loop-number-test.false))

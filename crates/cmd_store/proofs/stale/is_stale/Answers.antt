@@ -11,5 +11,6 @@ from_root-requires-clause-placed c = placed_within c.args.dir.now c.args.number 
 pub returns : goal.returns
 returns c =
     let dir = c.args.dir.now in
-    let scratched = subst (λ (sd : Sd). SpellsNormal sd c.as_bytes.result.now) (c.in_ok-scratch.ensures ∙ scratch_64 dir c.args.number) c.as_bytes.ensures in
+    let scratched = subst (λ (sd : Sd). SpellsNormal sd c.as_bytes.result.now)
+    (c.in_ok-scratch.ensures ∙ scratch_64 dir c.args.number) c.as_bytes.ensures in
     c.is_another.ensures (scratch dir c.args.number) scratched

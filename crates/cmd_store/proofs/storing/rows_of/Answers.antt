@@ -10,4 +10,6 @@ pub write_parts-requires : goal.write_parts-requires
 write_parts-requires c = subst (λ (d : Directory). Rise d.objects) c.into_parts-schema.ensures c.requires.rise
 
 pub returns : goal.returns
-returns c = IfOk-weaker c.write_parts.result _ _ (λ rows are. subst (λ (d : Directory). AreRowsOf d (table_of rows)) (sym c.into_parts-schema.ensures) are) c.write_parts.ensures.rows
+returns c = IfOk-weaker c.write_parts.result _ _
+    (λ rows are. subst (λ (d : Directory). AreRowsOf d (table_of rows)) (sym c.into_parts-schema.ensures) are)
+    c.write_parts.ensures.rows

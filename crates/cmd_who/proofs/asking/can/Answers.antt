@@ -11,15 +11,20 @@ use Rattle.cmd_who.proofs.asking.can.Goals as goal
 pub returns-in-Ok : goal.returns-in-Ok
 returns-in-Ok g c =
     let asks : Question = λ dir. CanTold dir c.args.name.now c.args.right.now c.args.base.now in
-    let excludes : Excludes asks = λ dir answer line is none. can_either dir c.args.name.now c.args.right.now c.args.base.now answer none.0 is none.1 none.2 in
-    let said = subst (λ (dir : Directory). TellsIn g.S.Site asks dir c.resume.new.site c.tell_can.new.site c.tell_can.result) c.dir.ensures c.tell_can.ensures in
-    let all = asked_told g.S.Site asks excludes c.args.site.now c.resume.new.site c.tell_can.new.site c.in-Ok.engine.dir c.tell_can.result c.in-Ok.ensures.outside c.in-Ok.ensures.opened said in
+    let excludes : Excludes asks = λ dir answer line is none. can_either dir c.args.name.now c.args.right.now
+    c.args.base.now answer none.0 is none.1 none.2 in
+    let said = subst (λ (dir : Directory). TellsIn g.S.Site asks dir c.resume.new.site c.tell_can.new.site
+    c.tell_can.result) c.dir.ensures c.tell_can.ensures in
+    let all = asked_told g.S.Site asks excludes c.args.site.now c.resume.new.site c.tell_can.new.site
+    c.in-Ok.engine.dir c.tell_can.result c.in-Ok.ensures.outside c.in-Ok.ensures.opened said in
     record { does = all.0; site_failed = all.1 }
 
 pub returns-in-Err : goal.returns-in-Err
 returns-in-Err g c =
     let asks : Question = λ dir. CanTold dir c.args.name.now c.args.right.now c.args.base.now in
-    let excludes : Excludes asks = λ dir answer line is none. can_either dir c.args.name.now c.args.right.now c.args.base.now answer none.0 is none.1 none.2 in
-    let all = asked_by g.S.Site asks excludes c.args.site.now c.resume.new.site c.refuse.new.site c.in-Err.fault c.refuse.result c.in-Err.ensures.outside c.in-Err.ensures.opened
+    let excludes : Excludes asks = λ dir answer line is none. can_either dir c.args.name.now c.args.right.now
+    c.args.base.now answer none.0 is none.1 none.2 in
+    let all = asked_by g.S.Site asks excludes c.args.site.now c.resume.new.site c.refuse.new.site c.in-Err.fault
+    c.refuse.result c.in-Err.ensures.outside c.in-Err.ensures.opened
     (λ is. c.in-Err.ensures.cause (ap (λ (f : OpenFault). Err f) is)) c.refuse.ensures in
     record { does = all.0; site_failed = all.1 }

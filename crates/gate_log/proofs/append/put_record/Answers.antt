@@ -13,7 +13,8 @@ returns-in_err-set-clause-any_moment g c =
     let s = g.S.Site in
     let old = c.args.site.now in
     let mid = c.set.new.site in
-    staging c.args.live c.args.end c.args.body.now (length c.args.bytes.now) (s.reads old) (s.now old) (s.now mid) (s.left old) (s.left mid) c.requires.lasts c.set.ensures.images c.set.ensures.outside.moments
+    staging c.args.live c.args.end c.args.body.now (length c.args.bytes.now) (s.reads old) (s.now old) (s.now mid)
+    (s.left old) (s.left mid) c.requires.lasts c.set.ensures.images c.set.ensures.outside.moments
 
 pub returns-clause-added : goal.returns-clause-added
 returns-clause-added g c =
@@ -23,9 +24,12 @@ returns-clause-added g c =
     let r1 = s.reads c.set.new.site in
     let r2 = s.reads c.set-2.new.site in
     let long = ap length c.requires.spelled in
-    let fits : length body < 2 ^ 64 = omega (arith, c.in_ok-set.ensures.end, long, length-append (recorded body) (0 ∷ [])) in
-    let puts = subst (λ (l : List ℕ). BothTold r0 r1 (Puts c.args.live (c.args.end + 1) l)) c.requires.spelled c.in_ok-set.ensures.held in
-    on_ok_weaker c.set-2.result (λ opens. added c.args.live c.args.end body r0 r1 r2 fits puts opens) c.set-2.ensures.held
+    let fits : length body < 2 ^ 64 = omega
+    (arith, c.in_ok-set.ensures.end, long, length-append (recorded body) (0 ∷ [])) in
+    let puts = subst (λ (l : List ℕ). BothTold r0 r1 (Puts c.args.live (c.args.end + 1) l)) c.requires.spelled
+    c.in_ok-set.ensures.held in
+    on_ok_weaker c.set-2.result (λ opens. added c.args.live c.args.end body r0 r1 r2 fits puts opens)
+    c.set-2.ensures.held
 
 pub returns-clause-any_moment : goal.returns-clause-any_moment
 returns-clause-any_moment g c =
@@ -37,11 +41,17 @@ returns-clause-any_moment g c =
     let r0 = s.reads old in
     let r1 = s.reads mid in
     let long = ap length c.requires.spelled in
-    let fits : length body < 2 ^ 64 = omega (arith, c.in_ok-set.ensures.end, long, length-append (recorded body) (0 ∷ [])) in
-    let puts = subst (λ (l : List ℕ). BothTold r0 r1 (Puts c.args.live (c.args.end + 1) l)) c.requires.spelled c.in_ok-set.ensures.held in
-    let lasts = lasts_both c.args.live r1 (s.now mid) (s.left mid) c.in_ok-set.ensures.lasts (c.in_ok-set.ensures.others (lasts_other c.args.live r0 (s.now old) (s.left old) c.requires.lasts)) in
-    opening c.args.live c.args.end body r0 r1 (s.now old) (s.now mid) (s.now new) (s.left old) (s.left mid) (s.left new) fits puts lasts c.set-2.ensures.images c.set-2.ensures.outside.moments
-    (staging c.args.live c.args.end body (length c.args.bytes.now) r0 (s.now old) (s.now mid) (s.left old) (s.left mid) c.requires.lasts c.set.ensures.images c.set.ensures.outside.moments)
+    let fits : length body < 2 ^ 64 = omega
+    (arith, c.in_ok-set.ensures.end, long, length-append (recorded body) (0 ∷ [])) in
+    let puts = subst (λ (l : List ℕ). BothTold r0 r1 (Puts c.args.live (c.args.end + 1) l)) c.requires.spelled
+    c.in_ok-set.ensures.held in
+    let lasts = lasts_both c.args.live r1 (s.now mid) (s.left mid) c.in_ok-set.ensures.lasts
+    (c.in_ok-set.ensures.others (lasts_other c.args.live r0 (s.now old) (s.left old) c.requires.lasts)) in
+    opening c.args.live c.args.end body r0 r1 (s.now old) (s.now mid) (s.now new) (s.left old) (s.left mid)
+    (s.left new) fits puts lasts c.set-2.ensures.images c.set-2.ensures.outside.moments
+    (staging c.args.live c.args.end body (length c.args.bytes.now) r0 (s.now old) (s.now mid) (s.left old)
+    (s.left mid) c.requires.lasts c.set.ensures.images c.set.ensures.outside.moments)
 
 pub returns-clause-outside : goal.returns-clause-outside
-returns-clause-outside g c = touches_on g.S.Site c.args.site.now c.set.new.site c.set-2.new.site c.set.ensures.outside c.set-2.ensures.outside
+returns-clause-outside g c = touches_on g.S.Site c.args.site.now c.set.new.site c.set-2.new.site c.set.ensures.outside
+    c.set-2.ensures.outside

@@ -9,18 +9,24 @@ returns-clause-record c =
     let split = c.split_at.ensures in
     let copied = c.in_ok-to_vec.ensures in
     let gate = c.if-gate-ne1.false in
-    record_found c.args.rest.now c.in-Some.tail.now c.split_at.result.0.now c.split_at.result.1.now c.in_ok-to_vec.field-0.items c.in-Some.gate.now c.number_of-length.result
-    first.cases.0 gate split.front split.back (omega (arith, c.if-tail-lt8.false)) c.number_of-length.ensures (omega (arith, c.if-length-behind.false)) (copied.items_if_clones_equal (λ x y same. same))
+    record_found c.args.rest.now c.in-Some.tail.now c.split_at.result.0.now c.split_at.result.1.now
+    c.in_ok-to_vec.field-0.items c.in-Some.gate.now c.number_of-length.result
+    first.cases.0 gate split.front split.back (omega (arith, c.if-tail-lt8.false)) c.number_of-length.ensures
+    (omega (arith, c.if-length-behind.false)) (copied.items_if_clones_equal (λ x y same. same))
 
 pub returns-in_default-clause-broken : goal.returns-in_default-clause-broken
-returns-in_default-clause-broken c = λ is bodies. none_in_none bodies c.args.rest.now (omega (arith, c.in_default.ensures.cases))
+returns-in_default-clause-broken c = λ is bodies. none_in_none bodies c.args.rest.now
+    (omega (arith, c.in_default.ensures.cases))
 
 pub returns-then-tail-lt8-clause-broken : goal.returns-then-tail-lt8-clause-broken
 returns-then-tail-lt8-clause-broken c = λ is bodies.
-    none_in_short bodies c.args.rest.now c.in-Some.tail.now c.in-Some.gate.now c.in-Some.ensures.cases.0 c.if-gate-ne1.false (omega (arith, c.if-tail-lt8.true))
+    none_in_short bodies c.args.rest.now c.in-Some.tail.now c.in-Some.gate.now c.in-Some.ensures.cases.0
+    c.if-gate-ne1.false (omega (arith, c.if-tail-lt8.true))
 
 pub returns-then-length-behind-clause-broken : goal.returns-then-length-behind-clause-broken
 returns-then-length-behind-clause-broken c = λ is bodies.
     let split = c.split_at.ensures in
-    none_in_long bodies c.args.rest.now c.in-Some.tail.now c.split_at.result.0.now c.split_at.result.1.now c.in-Some.gate.now c.number_of-length.result
-    c.in-Some.ensures.cases.0 c.if-gate-ne1.false split.front split.back (omega (arith, c.if-tail-lt8.false)) c.number_of-length.ensures (omega (arith, c.if-length-behind.true))
+    none_in_long bodies c.args.rest.now c.in-Some.tail.now c.split_at.result.0.now c.split_at.result.1.now
+    c.in-Some.gate.now c.number_of-length.result
+    c.in-Some.ensures.cases.0 c.if-gate-ne1.false split.front split.back (omega (arith, c.if-tail-lt8.false))
+    c.number_of-length.ensures (omega (arith, c.if-length-behind.true))

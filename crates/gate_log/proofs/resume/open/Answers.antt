@@ -6,5 +6,8 @@ use Rattle.gate_log.proofs.resume.«open».Goals as goal
 
 pub returns-clause-broken : goal.returns-clause-broken
 returns-clause-broken g c = λ is.
-    bytes_told (λ bytes. (end : ℕ) (bodies : List (List ℕ)) → HasRecords bytes (number_of c.args.version) c.args.generation end bodies → ⊥) c.args.live (g.S.Site.reads c.args.site.now) c.in_ok-bytes.bytes.items c.in_ok-bytes.ensures.bytes
-    (subst (λ bytes. (end : ℕ) (bodies : List (List ℕ)) → HasRecords bytes (number_of c.args.version) c.args.generation end bodies → ⊥) c.deref.ensures.value (c.live_log.ensures.broken is))
+    bytes_told (λ bytes. (end : ℕ) (bodies : List (List ℕ)) → HasRecords bytes (number_of c.args.version)
+    c.args.generation end bodies → ⊥) c.args.live (g.S.Site.reads c.args.site.now) c.in_ok-bytes.bytes.items
+    c.in_ok-bytes.ensures.bytes
+    (subst (λ bytes. (end : ℕ) (bodies : List (List ℕ)) → HasRecords bytes (number_of c.args.version)
+    c.args.generation end bodies → ⊥) c.deref.ensures.value (c.live_log.ensures.broken is))

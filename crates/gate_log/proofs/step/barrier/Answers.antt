@@ -10,7 +10,9 @@ returns-clause-lasts_a g c =
     let s = g.S.Site in
     let y = c.sync.new.self in
     let z = c.sync-2.new.self in
-    on_ok_weaker c.sync-2.result (λ _. held_on A (s.reads y) (s.reads z) (s.now y) (s.now z) (s.left y) (s.left z) c.in_ok-sync.ensures.lasts c.sync-2.ensures.slots c.sync-2.ensures.moments.later c.sync-2.ensures.images) c.sync-2.ensures.lasts
+    on_ok_weaker c.sync-2.result (λ _. held_on A (s.reads y) (s.reads z) (s.now y) (s.now z) (s.left y) (s.left z)
+    c.in_ok-sync.ensures.lasts c.sync-2.ensures.slots c.sync-2.ensures.moments.later c.sync-2.ensures.images)
+    c.sync-2.ensures.lasts
 
 pub returns-clause-lasts_b : goal.returns-clause-lasts_b
 returns-clause-lasts_b g c = c.sync-2.ensures.lasts

@@ -12,6 +12,10 @@ loop-offset-preserved c =
     let entry : Pending = c.index.result.now in
     let updates = c.in_ok-insert.ensures.updates in
     let within : c.loop-offset.offset < length c.args.entries.now.items = omega (arith, c.len-offset-end.ensures) in
-    let more : take c.loop-offset.offset c.args.entries.now.items ++ c.index.result.now ∷ [] ≡ take (c.loop-offset.offset + 1) c.args.entries.now.items = ap (λ (e : Pending). take c.loop-offset.offset c.args.entries.now.items ++ e ∷ []) c.index.ensures ∙ sym (take_more c.args.entries.now.items c.loop-offset.offset c.index.result.now within) in
+    let more : take c.loop-offset.offset c.args.entries.now.items ++ c.index.result.now ∷ []
+    ≡ take (c.loop-offset.offset + 1) c.args.entries.now.items
+    = ap (λ (e : Pending). take c.loop-offset.offset c.args.entries.now.items ++ e ∷ []) c.index.ensures
+    ∙ sym (take_more c.args.entries.now.items c.loop-offset.offset c.index.result.now within) in
     subst (AreKnown c.insert.new.self) more
-    (known-push c.loop-offset.numbers c.insert.new.self offset (take offset items) entry updates.2 updates.1 c.loop-offset.invariant)
+    (known-push c.loop-offset.numbers c.insert.new.self offset (take offset items) entry updates.2 updates.1
+    c.loop-offset.invariant)

@@ -8,7 +8,10 @@ use Rattle.prop_queue.proofs.queue.take_out.Goals as goal
 
 pub returns : goal.returns
 returns c = λ parent stands distinct.
-    let within : c.args.place < deque_len c.args.entries.now = omega (arith, c.args.entries.now.ok.0, stands_within parent c.args.place c.args.entries.now.items stands) in
+    let within : c.args.place < deque_len c.args.entries.now
+    = omega (arith, c.args.entries.now.ok.0, stands_within parent c.args.place c.args.entries.now.items stands) in
     let there = c.remove-entry.ensures.succeeds (from_the_start 0) within in
-    let taken = subst (λ (r : Option Pending). OnSome r (c.remove-entry.new.self.items ≡ remove c.args.entries.now.items c.args.place)) there c.remove-entry.ensures.items in
+    let taken = subst (λ (r : Option Pending). OnSome r
+    (c.remove-entry.new.self.items ≡ remove c.args.entries.now.items c.args.place)) there
+    c.remove-entry.ensures.items in
     taken ∙ remove-without parent c.args.place c.args.entries.now.items stands distinct

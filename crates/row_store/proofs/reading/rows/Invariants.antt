@@ -6,4 +6,5 @@ use Rattle.row_store.proofs.reading.rows.Given as goal
 
 -- the rows so far, and those still to be read, are the whole
 abbrev pub invariant-loop : goal.invariant-loop
-invariant-loop l = with_front l.rows.items (many_at row_at (l.count - l.counter) l.input) ≡ many_at row_at l.count l.fn.input
+invariant-loop l = with_front l.rows.items (many_at row_at (l.count - l.counter) l.input)
+    ≡ many_at row_at l.count l.fn.input

@@ -16,10 +16,13 @@ loop-body-preserved c =
     let bodies = c.args.bodies.now in
     let body = c.body-item.result in
     let rows = c.in_ok-rows.rows.items in
-    let spelled : SpellsBatch rows body.items = subst (λ (b : List ℕ). SpellsBatch rows b) c.deref.ensures.value c.in_ok-rows.ensures.found in (
+    let spelled : SpellsBatch rows body.items = subst (λ (b : List ℕ). SpellsBatch rows b) c.deref.ensures.value
+    c.in_ok-rows.ensures.found in (
       so_far.0 ++ rows ∷ [],
-      subst (SpellBatches (so_far.0 ++ rows ∷ [])) (bodies_more bodies i body c.loop-body-test.true c.body-item.is) (spell_push so_far.0 rows (bodies_of (take i bodies)) body.items so_far.1 spelled),
-      table_push so_far.0 rows (table_in c.loop-body.left) (table_in c.take_rows.new.left) so_far.2 c.in_ok-take_rows.ensures.left,
+      subst (SpellBatches (so_far.0 ++ rows ∷ [])) (bodies_more bodies i body c.loop-body-test.true c.body-item.is)
+          (spell_push so_far.0 rows (bodies_of (take i bodies)) body.items so_far.1 spelled),
+      table_push so_far.0 rows (table_in c.loop-body.left) (table_in c.take_rows.new.left) so_far.2
+          c.in_ok-take_rows.ensures.left,
     )
 
 pub returns-in_err-rows-clause-broken : goal.returns-in_err-rows-clause-broken
@@ -30,5 +33,6 @@ returns-in_err-rows-clause-broken c = λ is batches all.
     let p = err_from_is_err_and c.from_residual.result c.from_residual.ensures.1 in
     let bad : c.in_err-rows.field-0.0 ≡ Bad = bad_row c.in_err-rows.field-0.0 c.from_residual.result p.0 p.1 p.2 is in
     let none = c.in_err-rows.ensures.none (ap (λ (f : RowFault). Err f) bad) in
-    none_spelled (bodies_of (take i bodies)) body.items (bodies_of (drop (i + 1) bodies)) (λ rows s. none rows (subst (λ (b : List ℕ). SpellsBatch rows b) (sym c.deref.ensures.value) s)) batches
+    none_spelled (bodies_of (take i bodies)) body.items (bodies_of (drop (i + 1) bodies))
+    (λ rows s. none rows (subst (λ (b : List ℕ). SpellsBatch rows b) (sym c.deref.ensures.value) s)) batches
     (subst (SpellBatches batches) (bodies_split bodies i body c.loop-body-test.true c.body-item.is) all)

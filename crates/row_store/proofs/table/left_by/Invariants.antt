@@ -7,4 +7,5 @@ use Rattle.row_store.specs.Table.{SameTable, table_of, all_rows}
 use Rattle.row_store.proofs.table.left_by.Given as goal
 
 abbrev pub invariant-loop-body : goal.invariant-loop-body
-invariant-loop-body l = (batches : List (List Row)) × SpellBatches batches (bodies_of (take l.body-index l.bodies)) × SameTable (table_of (all_rows batches)) (table_in l.left)
+invariant-loop-body l = (batches : List (List Row)) × SpellBatches batches (bodies_of (take l.body-index l.bodies))
+    × SameTable (table_of (all_rows batches)) (table_in l.left)

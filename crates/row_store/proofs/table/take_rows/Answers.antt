@@ -4,4 +4,5 @@ use Rattle.row_store.proofs.table.take_rows.Goals as goal
 
 pub loop-row-preserved : goal.loop-row-preserved
 loop-row-preserved c =
-    rows_push c.loop-row.yielded c.in-Some.row (table_in c.args.left.now) (table_in c.loop-row.left) (table_in c.take_row.new.left) c.loop-row.invariant c.in_ok-take_row.ensures.left
+    rows_push c.loop-row.yielded c.in-Some.row (table_in c.args.left.now) (table_in c.loop-row.left)
+    (table_in c.take_row.new.left) c.loop-row.invariant c.in_ok-take_row.ensures.left

@@ -13,8 +13,10 @@ loop-row-preserved c =
     let so_far = c.loop-row.invariant in
     let more = c.in_ok-put_row.ensures in
     let longer : take c.loop-row.row-index rows ++ c.row-item.result ∷ [] ≡ take (c.loop-row.row-index + 1) rows =
-    ap (λ (x : Row). take c.loop-row.row-index rows ++ x ∷ []) c.row-item.is ∙ sym (take_more rows c.loop-row.row-index c.row-item.result c.loop-row-test.true) in (
+    ap (λ (x : Row). take c.loop-row.row-index rows ++ x ∷ []) c.row-item.is
+    ∙ sym (take_more rows c.loop-row.row-index c.row-item.result c.loop-row-test.true) in (
       so_far.0 ++ more.0,
-      subst (λ (rs : List Row). SpellsEach SpellsRow rs (so_far.0 ++ more.0)) longer (each_push (take c.loop-row.row-index rows) c.row-item.result so_far.0 more.0 so_far.1 more.1),
+      subst (λ (rs : List Row). SpellsEach SpellsRow rs (so_far.0 ++ more.0)) longer
+          (each_push (take c.loop-row.row-index rows) c.row-item.result so_far.0 more.0 so_far.1 more.1),
       more.2 ∙ ap (λ (l : List ℕ). l ++ more.0) so_far.2 ∙ append_assoc (be_bytes 8 (length rows)) so_far.0 more.0,
     )

@@ -8,4 +8,5 @@ loop-row-preserved c =
     let rows = c.args.rows.now in
     let i = c.loop-row.row-index in
     let row = c.row-item.result in
-    c.in_ok-written-2.ensures ∙ ap (λ (l : List Row). l ++ row ∷ []) c.loop-row.invariant ∙ ap (λ (x : Row). take i rows ++ x ∷ []) c.row-item.is ∙ sym (take_more rows i row c.loop-row-test.true)
+    c.in_ok-written-2.ensures ∙ ap (λ (l : List Row). l ++ row ∷ []) c.loop-row.invariant
+    ∙ ap (λ (x : Row). take i rows ++ x ∷ []) c.row-item.is ∙ sym (take_more rows i row c.loop-row-test.true)

@@ -6,4 +6,5 @@ pub returns-then-holes-place : goal.returns-then-holes-place
 returns-then-holes-place c = sym (begins_none c.args.block c.args.place c.args.holes.now c.if-holes-place.true)
 
 pub returns : goal.returns
-returns c = sym (begins_cons c.args.block c.args.place c.args.holes.now (record { block = 0; end = 0 }) c.if-holes-place.false)
+returns c = sym (begins_cons c.args.block c.args.place c.args.holes.now (record { block = 0; end = 0 })
+    c.if-holes-place.false)

@@ -10,5 +10,7 @@ use Rattle.sd_pool.proofs.look_ups.holder_of.Goals as goal
 pub returns-in_default : goal.returns-in_default
 returns-in_default c =
     let parts : Parts = c.args.parts.now in
-    let zero_is : count_of_hash (hash c.args.bytes.now) (live_of parts) ≡ 0 = sym (c.requires.kept.tallied (hash c.args.bytes.now)) ∙ ap (λ (h : ℕ). count_in (get nat_cmp parts.tallies h)) (sym c.requires.hash) ∙ c.in_default.ensures in
+    let zero_is : count_of_hash (hash c.args.bytes.now) (live_of parts) ≡ 0
+    = sym (c.requires.kept.tallied (hash c.args.bytes.now))
+    ∙ ap (λ (h : ℕ). count_in (get nat_cmp parts.tallies h)) (sym c.requires.hash) ∙ c.in_default.ensures in
     none_of_hash c.args.bytes.now (live_of parts) zero_is

@@ -38,5 +38,6 @@ returns-clause-kept c =
         };
         room = (let len : length c.new-3.result.items ≡ 0 = ap length c.new-3.ensures.items in omega (arith, len));
       };
-      tallied = λ h. ap (λ es. count_in (lookup (is_at (nat_cmp h)) es)) c.new-4.ensures.empty ∙ sym (zero_count h) ∙ ap (count_of_hash h) (sym live);
+      tallied = λ h. ap (λ es. count_in (lookup (is_at (nat_cmp h)) es)) c.new-4.ensures.empty ∙ sym (zero_count h)
+          ∙ ap (count_of_hash h) (sym live);
     }

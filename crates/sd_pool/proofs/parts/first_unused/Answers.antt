@@ -14,7 +14,8 @@ pub loop-id-preserved : goal.loop-id-preserved
 loop-id-preserved c =
     let slot : Slot = c.slot_at.result in
     let used : is_used slot ≡ true = ap not (ne_eqb slot.sharers 0 c.if-slot_at-eq0.false) in
-    used_more c.loop-id.id c.args.slots.now slot c.loop-id-test.true (ap is_used (sym (c.slot_at.ensures slot)) ∙ used) c.loop-id.invariant
+    used_more c.loop-id.id c.args.slots.now slot c.loop-id-test.true
+    (ap is_used (sym (c.slot_at.ensures slot)) ∙ used) c.loop-id.invariant
 
 pub returns : goal.returns
 returns c =

@@ -5,7 +5,8 @@ pub returns : goal.returns
 returns c =
     let parts = c.args.parts.now in
     record {
-      rise = are_rising 0 parts.blocks parts.region.items parts.slots.items c.requires.laid.region c.requires.laid.within;
+      rise = are_rising 0 parts.blocks parts.region.items parts.slots.items c.requires.laid.region
+          c.requires.laid.within;
       apart = c.requires.laid.apart;
       distinct = c.requires.laid.distinct;
     }

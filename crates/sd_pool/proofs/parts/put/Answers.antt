@@ -19,28 +19,37 @@ share-requires-clause-live c = ap is_some (holder_is c.args.parts.now c.args.byt
 pub share-requires-clause-few : goal.share-requires-clause-few
 share-requires-clause-few c =
     let parts : Parts = c.args.parts.now in
-    subst (λ (o : Option Extent). IfSome o (λ (e : Extent). e.sharers < 2 ^ 32 - 1)) (holder_found parts c.args.bytes.now c.in-Ok.id c.requires.kept c.in-Ok.ensures ∙ sym (holder_is parts c.args.bytes.now c.in-Ok.id c.in-Ok.ensures)) c.requires.few
+    subst (λ (o : Option Extent). IfSome o (λ (e : Extent). e.sharers < 2 ^ 32 - 1))
+    (holder_found parts c.args.bytes.now c.in-Ok.id c.requires.kept c.in-Ok.ensures
+    ∙ sym (holder_is parts c.args.bytes.now c.in-Ok.id c.in-Ok.ensures)) c.requires.few
 
 pub returns-in-Ok-clause-again : goal.returns-in-Ok-clause-again
 returns-in-Ok-clause-again c = λ extent found.
     let parts : Parts = c.args.parts.now in
-    let own : Extent = extent_in parts.region.items c.in-Ok.id (get_or parts.slots.items c.in-Ok.id (record { block = 0; len = 0; sharers = 0 })) in
-    let both : Some own ≡ Some extent = sym (holder_found parts c.args.bytes.now c.in-Ok.id c.requires.kept c.in-Ok.ensures) ∙ found in
+    let own : Extent = extent_in parts.region.items c.in-Ok.id
+    (get_or parts.slots.items c.in-Ok.id (record { block = 0; len = 0; sharers = 0 })) in
+    let both : Some own ≡ Some extent = sym
+    (holder_found parts c.args.bytes.now c.in-Ok.id c.requires.kept c.in-Ok.ensures) ∙ found in
     let same : own ≡ extent = cc in
     let id_is : c.in-Ok.id ≡ extent.id = ap (λ (e : Extent). e.id) same in (
       id_is,
-      pool_by (pool_of c.share.new.parts) (shared extent.id (live_of parts)) (pool_of parts) (c.share.ensures.live ∙ ap (λ (n : ℕ). shared n (live_of parts)) id_is) c.share.ensures.blocks,
+      pool_by (pool_of c.share.new.parts) (shared extent.id (live_of parts)) (pool_of parts)
+          (c.share.ensures.live ∙ ap (λ (n : ℕ). shared n (live_of parts)) id_is) c.share.ensures.blocks,
     )
   where
-    pool_by : (new : Pool) (live : List Extent) (old : Pool) → new.live ≡ live → new.blocks ≡ old.blocks → new ≡ with_live live old
-    pool_by new live old lives blocks = ap (λ (es : List Extent). record { live = es; blocks = new.blocks }) lives ∙ ap (λ (b : ℕ). record { live = live; blocks = b }) blocks
+    pool_by : (new : Pool) (live : List Extent) (old : Pool) → new.live ≡ live → new.blocks ≡ old.blocks → new
+        ≡ with_live live old
+    pool_by new live old lives blocks = ap (λ (es : List Extent). record { live = es; blocks = new.blocks }) lives
+        ∙ ap (λ (b : ℕ). record { live = live; blocks = b }) blocks
 
 pub returns-in-Ok-clause-put : goal.returns-in-Ok-clause-put
 returns-in-Ok-clause-put c = λ none.
-    let wrong = sym (holder_found c.args.parts.now c.args.bytes.now c.in-Ok.id c.requires.kept c.in-Ok.ensures) ∙ none in absurd (cc)
+    let wrong = sym (holder_found c.args.parts.now c.args.bytes.now c.in-Ok.id c.requires.kept c.in-Ok.ensures) ∙ none
+    in absurd (cc)
 
 pub returns-in-Ok-clause-full : goal.returns-in-Ok-clause-full
 returns-in-Ok-clause-full c = (
   (λ wrong. absurd (cc)),
-  (λ both. let wrong = sym (holder_found c.args.parts.now c.args.bytes.now c.in-Ok.id c.requires.kept c.in-Ok.ensures) ∙ both.0 in absurd (cc)),
+  (λ both. let wrong = sym (holder_found c.args.parts.now c.args.bytes.now c.in-Ok.id c.requires.kept c.in-Ok.ensures)
+      ∙ both.0 in absurd (cc)),
 )

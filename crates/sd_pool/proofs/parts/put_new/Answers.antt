@@ -9,4 +9,11 @@ pub count_on-requires : goal.count_on-requires
 count_on-requires c =
     let now : Parts = c.make_room.new.parts in
     let few : count_of_hash c.args.hash (live_of now) ≤ length (live_of now) = few_of_hash c.args.hash (live_of now) in
-    omega (arith, few, c.in_ok-spot.ensures.kept.tallied c.args.hash, c.in_ok-spot.ensures.kept.laid.count, c.in_ok-spot.ensures.live, c.requires.free)
+    omega (
+      arith,
+      few,
+      c.in_ok-spot.ensures.kept.tallied c.args.hash,
+      c.in_ok-spot.ensures.kept.laid.count,
+      c.in_ok-spot.ensures.live,
+      c.requires.free,
+    )

@@ -15,39 +15,64 @@ loop-chunk-init g c = record {
 pub returns-in_err-n-clause-told : goal.returns-in_err-n-clause-told
 returns-in_err-n-clause-told g c =
     let rest = g.I.Source.rest in
-    leaves_an_end (rest c.args.source.now) (rest c.take.new.self) c.loop-chunk.whole.items (stays_read (rest c.args.source.now) (rest c.loop-chunk.source) (rest c.take.new.self) c.loop-chunk.whole.items c.loop-chunk.invariant.told c.in_err-n.ensures.next)
+    leaves_an_end (rest c.args.source.now) (rest c.take.new.self) c.loop-chunk.whole.items
+    (stays_read (rest c.args.source.now) (rest c.loop-chunk.source) (rest c.take.new.self)
+    c.loop-chunk.whole.items c.loop-chunk.invariant.told c.in_err-n.ensures.next)
 
 pub returns-in_err-n-clause-cause : goal.returns-in_err-n-clause-cause
-returns-in_err-n-clause-cause g c = λ _. risen_since _ _ _ c.loop-chunk.invariant.never_falls (c.in_err-n.ensures.cause refl)
+returns-in_err-n-clause-cause g c = λ _. risen_since _ _ _ c.loop-chunk.invariant.never_falls
+    (c.in_err-n.ensures.cause refl)
 
 pub returns-then-n-eq0-clause-whole : goal.returns-then-n-eq0-clause-whole
 returns-then-n-eq0-clause-whole g c =
     let rest = g.I.Source.rest in
-    reads_all (rest c.args.source.now) (rest c.loop-chunk.source) (rest c.take.new.self) c.loop-chunk.whole.items c.take.new.into c.in_ok-n.n c.if-n-eq0.true (omega (arith, c.take.auto.into, c.deref_mut.ensures.len, c.loop-chunk.invariant.room)) c.loop-chunk.invariant.told c.in_ok-n.ensures.next
+    reads_all (rest c.args.source.now) (rest c.loop-chunk.source) (rest c.take.new.self) c.loop-chunk.whole.items
+    c.take.new.into c.in_ok-n.n c.if-n-eq0.true
+    (omega (arith, c.take.auto.into, c.deref_mut.ensures.len, c.loop-chunk.invariant.room))
+    c.loop-chunk.invariant.told c.in_ok-n.ensures.next
 
 pub returns-then-n-eq0-clause-told : goal.returns-then-n-eq0-clause-told
 returns-then-n-eq0-clause-told g c =
     let rest = g.I.Source.rest in
-    leaves_an_end (rest c.args.source.now) (rest c.take.new.self) _ (reads_on (rest c.args.source.now) (rest c.loop-chunk.source) (rest c.take.new.self) c.loop-chunk.whole.items c.take.new.into c.in_ok-n.n c.loop-chunk.invariant.told c.in_ok-n.ensures.next)
+    leaves_an_end (rest c.args.source.now) (rest c.take.new.self) _
+    (reads_on (rest c.args.source.now) (rest c.loop-chunk.source) (rest c.take.new.self) c.loop-chunk.whole.items
+    c.take.new.into c.in_ok-n.n c.loop-chunk.invariant.told c.in_ok-n.ensures.next)
 
 pub returns-then-n-limit-clause-whole : goal.returns-then-n-limit-clause-whole
 returns-then-n-limit-clause-whole g c =
     let rest = g.I.Source.rest in
-    reads_more (rest c.args.source.now) (rest c.take.new.self) (c.loop-chunk.whole.items ++ take c.in_ok-n.n c.take.new.into) c.args.limit
-    (omega (arith, c.take.ensures.within, c.in_ok-n.ensures.within, c.if-n-limit.true, c.len.ensures, c.loop-chunk.whole.ok.0, c.loop-chunk.invariant.within, length-append c.loop-chunk.whole.items (take c.in_ok-n.n c.take.new.into), length-take-le c.in_ok-n.n c.take.new.into c.in_ok-n.ensures.within))
-    (reads_on (rest c.args.source.now) (rest c.loop-chunk.source) (rest c.take.new.self) c.loop-chunk.whole.items c.take.new.into c.in_ok-n.n c.loop-chunk.invariant.told c.in_ok-n.ensures.next)
+    reads_more (rest c.args.source.now) (rest c.take.new.self)
+    (c.loop-chunk.whole.items ++ take c.in_ok-n.n c.take.new.into) c.args.limit
+    (omega (
+      arith,
+      c.take.ensures.within,
+      c.in_ok-n.ensures.within,
+      c.if-n-limit.true,
+      c.len.ensures,
+      c.loop-chunk.whole.ok.0,
+      c.loop-chunk.invariant.within,
+      length-append c.loop-chunk.whole.items
+          (take c.in_ok-n.n c.take.new.into),
+      length-take-le c.in_ok-n.n c.take.new.into c.in_ok-n.ensures.within,
+    ))
+    (reads_on (rest c.args.source.now) (rest c.loop-chunk.source) (rest c.take.new.self) c.loop-chunk.whole.items
+    c.take.new.into c.in_ok-n.n c.loop-chunk.invariant.told c.in_ok-n.ensures.next)
 
 pub returns-then-n-limit-clause-told : goal.returns-then-n-limit-clause-told
 returns-then-n-limit-clause-told g c =
     let rest = g.I.Source.rest in
-    leaves_an_end (rest c.args.source.now) (rest c.take.new.self) _ (reads_on (rest c.args.source.now) (rest c.loop-chunk.source) (rest c.take.new.self) c.loop-chunk.whole.items c.take.new.into c.in_ok-n.n c.loop-chunk.invariant.told c.in_ok-n.ensures.next)
+    leaves_an_end (rest c.args.source.now) (rest c.take.new.self) _
+    (reads_on (rest c.args.source.now) (rest c.loop-chunk.source) (rest c.take.new.self) c.loop-chunk.whole.items
+    c.take.new.into c.in_ok-n.n c.loop-chunk.invariant.told c.in_ok-n.ensures.next)
 
 pub loop-chunk-preserved : goal.loop-chunk-preserved
 loop-chunk-preserved g c =
     let rest = g.I.Source.rest in
     record {
-      told = let more = reads_on (rest c.args.source.now) (rest c.loop-chunk.source) (rest c.take.new.self) c.loop-chunk.whole.items c.take.new.into c.in_ok-n.n c.loop-chunk.invariant.told c.in_ok-n.ensures.next in
-          let filled : length c.take.new.into ≡ c.loop-chunk.chunk.len = omega (arith, c.take.auto.into, c.deref_mut.ensures.len) in
+      told = let more = reads_on (rest c.args.source.now) (rest c.loop-chunk.source) (rest c.take.new.self)
+          c.loop-chunk.whole.items c.take.new.into c.in_ok-n.n c.loop-chunk.invariant.told c.in_ok-n.ensures.next in
+          let filled : length c.take.new.into ≡ c.loop-chunk.chunk.len
+          = omega (arith, c.take.auto.into, c.deref_mut.ensures.len) in
           let seen = c.deref.ensures.value ∙ take_at c.take.new.into _ c.loop-chunk.chunk.len filled in
           let grown : c.keep.new.whole.items ≡ c.loop-chunk.whole.items ++ take c.in_ok-n.n c.take.new.into =
           c.in_ok-keep.ensures.grown ∙ ap (λ (l : List ℕ). c.loop-chunk.whole.items ++ take c.in_ok-n.n l) seen in
@@ -61,4 +86,6 @@ pub returns-in_err-keep-clause-told :
     goal.returns-in_err-keep-clause-told
 returns-in_err-keep-clause-told g c =
     let rest = g.I.Source.rest in
-    leaves_an_end (rest c.args.source.now) (rest c.take.new.self) _ (reads_on (rest c.args.source.now) (rest c.loop-chunk.source) (rest c.take.new.self) c.loop-chunk.whole.items c.take.new.into c.in_ok-n.n c.loop-chunk.invariant.told c.in_ok-n.ensures.next)
+    leaves_an_end (rest c.args.source.now) (rest c.take.new.self) _
+    (reads_on (rest c.args.source.now) (rest c.loop-chunk.source) (rest c.take.new.self) c.loop-chunk.whole.items
+    c.take.new.into c.in_ok-n.n c.loop-chunk.invariant.told c.in_ok-n.ensures.next)

@@ -8,4 +8,5 @@ use Rattle.tests_dir.proofs.allowed.are_placed.Given as goal
 
 -- each so far is placed, whatever descriptor this one gets
 abbrev pub invariant-loop-number : goal.invariant-loop-number
-invariant-loop-number l = AllByRecursion (λ (n : ℕ). (sd : Sd) → IsPlaced (parent_at (put (object_seen l.object sd) l.dir.objects)) n) (take l.number-index l.numbers)
+invariant-loop-number l = AllByRecursion (λ (n : ℕ). (sd : Sd)
+    → IsPlaced (parent_at (put (object_seen l.object sd) l.dir.objects)) n) (take l.number-index l.numbers)

@@ -11,4 +11,6 @@ returns c t sd =
     let o = c.args.object.now in
     let os = c.args.dir.now.objects in
     all_links (λ (n : ℕ). is_live (put (object_seen o sd) os) n ≡ true) (map held_seen o.values)
-    (with_this os o sd (map held_seen o.values) (subst (λ (values : _). AllByRecursion (HasLinks os o) (map held_seen values)) c.as_slice.ensures (c.are_live_held.ensures t)))
+    (with_this os o sd (map held_seen o.values)
+    (subst (λ (values : _). AllByRecursion (HasLinks os o) (map held_seen values)) c.as_slice.ensures
+    (c.are_live_held.ensures t)))

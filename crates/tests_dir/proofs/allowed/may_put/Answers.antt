@@ -16,7 +16,8 @@ returns c sd t =
       some = c.is_among.ensures.some c.if-not-is_among.false;
       fits_number = c.is_among.ensures.fits c.if-not-is_among.false;
       fits = record {
-        content = subst (λ (s : _). IsContent s (object_seen o sd)) c.schema.ensures (c.in_ok-content.ensures sd c.if-not-content.false);
+        content = subst (λ (s : _). IsContent s (object_seen o sd)) c.schema.ensures
+            (c.in_ok-content.ensures sd c.if-not-content.false);
         links = c.has_live_links.ensures c.if-not-has_live_links.false sd;
         own_name = c.in_ok-own.ensures sd c.if-not-own.false;
         own_sid = c.has_own_sid.ensures sd c.if-not-has_own_sid.false;
@@ -24,6 +25,8 @@ returns c sd t =
       no_parent = c.is_among.ensures.no_parent c.if-not-is_among.false;
       parent_live = c.is_among.ensures.parent_live c.if-not-is_among.false;
       placed = λ below. all_placed os o sd
-          (subst (λ (ns : List ℕ). AllByRecursion (λ (n : ℕ). (s : Sd) → IsPlaced (parent_at (put (object_seen o s) os)) n) ns) (c.as_slice.ensures.value ∙ c.in_ok-numbers.ensures) (c.are_placed.ensures t))
+          (subst (λ (ns : List ℕ). AllByRecursion
+          (λ (n : ℕ). (s : Sd) → IsPlaced (parent_at (put (object_seen o s) os)) n) ns)
+          (c.as_slice.ensures.value ∙ c.in_ok-numbers.ensures) (c.are_placed.ensures t))
           (c.is_among.ensures.placed c.if-not-is_among.false below sd);
     }

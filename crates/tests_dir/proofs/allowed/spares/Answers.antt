@@ -10,5 +10,7 @@ pub returns-in-Some : goal.returns-in-Some
 returns-in-Some c t =
     let os = c.args.dir.now.objects in
     let o = object_seen c.in-Some.object.now (sd_at os c.args.from) in
-    subst (λ (x : Object). AllByRecursion (λ (held : Held). names c.args.number held.values ≡ false) x.values) (sym (at-of os c.args.from o (sym c.in-Some.ensures)))
-    (subst (λ (values : _). AllByRecursion (λ (held : Held). names c.args.number held.values ≡ false) (map held_seen values)) c.as_slice.ensures (c.all_lack.ensures t))
+    subst (λ (x : Object). AllByRecursion (λ (held : Held). names c.args.number held.values ≡ false) x.values)
+    (sym (at-of os c.args.from o (sym c.in-Some.ensures)))
+    (subst (λ (values : _). AllByRecursion (λ (held : Held). names c.args.number held.values ≡ false)
+    (map held_seen values)) c.as_slice.ensures (c.all_lack.ensures t))

@@ -10,4 +10,5 @@ returns-then-not-is_live c =
 pub returns : goal.returns
 returns c =
     let rights = c.args.self.now in
-    c.parts_written.ensures ∙ sym (parts_by rights.dir.now rights.token.now rights.number (sym c.if-not-is_live.ensures) rights.written.now)
+    c.parts_written.ensures ∙ sym (parts_by rights.dir.now rights.token.now rights.number
+    (sym c.if-not-is_live.ensures) rights.written.now)

@@ -9,5 +9,7 @@ use Rattle.ad_dir.proofs.dir.Dir.child_named.Goals as goal
 pub returns : goal.returns
 returns c =
     c.with_name.ensures
-    ∙ name_found c.self.inside.index.names.entries (objects_in c.self.inside.objects.entries) c.args.parent c.args.name.now c.self.invariant.standing.rise c.self.invariant.indexed.names
-    ∙ ap (λ (dir : Directory). option_map (λ object. object.number) (child_named dir.objects c.args.parent c.args.name.now)) c.self.view_is
+    ∙ name_found c.self.inside.index.names.entries (objects_in c.self.inside.objects.entries) c.args.parent
+    c.args.name.now c.self.invariant.standing.rise c.self.invariant.indexed.names
+    ∙ ap (λ (dir : Directory). option_map (λ object. object.number)
+    (child_named dir.objects c.args.parent c.args.name.now)) c.self.view_is

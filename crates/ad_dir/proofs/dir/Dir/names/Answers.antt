@@ -5,4 +5,5 @@ use Rattle.ad_dir.proofs.dir.Dir.names.Goals as goal
 
 pub returns : goal.returns
 returns c =
-    subst (λ (dir : Directory). AreNames dir.objects c.self.inside.index.names.entries) c.self.view_is (record { exact = c.self.invariant.indexed.names; once = c.len-known.ensures.unique })
+    subst (λ (dir : Directory). AreNames dir.objects c.self.inside.index.names.entries) c.self.view_is
+    (record { exact = c.self.invariant.indexed.names; once = c.len-known.ensures.unique })

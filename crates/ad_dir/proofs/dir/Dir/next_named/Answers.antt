@@ -10,6 +10,8 @@ pub returns : goal.returns
 returns c =
     let i = c.self.inside in
     subst (λ (dir : Directory). IsNextNamed dir.objects c.args.key.now c.args.above c.next_holder.result) c.self.view_is
-    (next_so_named i.schema i.indexed.items i.links.entries (objects_in i.objects.entries) c.args.key.now c.args.above c.next_holder.result
+    (next_so_named i.schema i.indexed.items i.links.entries (objects_in i.objects.entries) c.args.key.now c.args.above
+    c.next_holder.result
     c.self.invariant.standing c.self.invariant.linked c.next_holder.ensures.above
-    (λ holder small more some. c.next_holder.ensures.least holder small more (subst (λ (m : ℕ). 0 < counted i.links.entries m holder) (sym c.mark_of_name.ensures) some)))
+    (λ holder small more some. c.next_holder.ensures.least holder small more
+    (subst (λ (m : ℕ). 0 < counted i.links.entries m holder) (sym c.mark_of_name.ensures) some)))

@@ -8,6 +8,8 @@ use Rattle.ad_dir.proofs.dir.Dir.next_with.Goals as goal
 pub returns : goal.returns
 returns c =
     let i = c.self.inside in
-    subst (λ (dir : Directory). IsNextWith dir.objects c.args.attr.0 c.args.key.now c.args.above c.next_with.result) c.self.view_is
+    subst (λ (dir : Directory). IsNextWith dir.objects c.args.attr.0 c.args.key.now c.args.above c.next_with.result)
+    c.self.view_is
     (c.next_with.ensures (objects_in i.objects.entries) c.self.invariant.standing
-    (subst (λ (flags : List Bool). AreCounted flags i.links.entries (objects_in i.objects.entries)) (sym c.as_slice-indexed.ensures.value) c.self.invariant.linked))
+    (subst (λ (flags : List Bool). AreCounted flags i.links.entries (objects_in i.objects.entries))
+    (sym c.as_slice-indexed.ensures.value) c.self.invariant.linked))

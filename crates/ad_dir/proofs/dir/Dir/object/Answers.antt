@@ -8,4 +8,6 @@ use Rattle.ad_dir.proofs.dir.Dir.object.Goals as goal
 
 pub returns : goal.returns
 returns c =
-    subst (λ (os : List Object). option_map (λ object. object_seen object.now (sd_at os c.args.number)) c.object.result ≡ object_of os c.args.number) (ap (λ (dir : Directory). dir.objects) c.self.view_is) c.object.ensures
+    subst (λ (os : List Object). option_map (λ object. object_seen object.now (sd_at os c.args.number))
+    c.object.result ≡ object_of os c.args.number) (ap (λ (dir : Directory). dir.objects) c.self.view_is)
+    c.object.ensures

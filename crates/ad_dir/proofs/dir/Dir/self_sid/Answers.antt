@@ -9,4 +9,6 @@ use Rattle.ad_dir.proofs.dir.Dir.self_sid.Goals as goal
 pub returns : goal.returns
 returns c =
     sid_told c.args.self.now c.args.number (option_copied c.sid.result)
-    (c.sid.ensures c.self.inside.schema c.self.invariant.sids ∙ ap (λ (dir : Directory). option_and_then (sid_in dir.schema) (object_of dir.objects c.args.number)) c.self.view_is)
+    (c.sid.ensures c.self.inside.schema c.self.invariant.sids
+    ∙ ap (λ (dir : Directory). option_and_then (sid_in dir.schema) (object_of dir.objects c.args.number))
+    c.self.view_is)

@@ -5,4 +5,5 @@ use Rattle.ad_dir.proofs.dir.Dir.sids.Goals as goal
 
 pub returns : goal.returns
 returns c =
-    subst (λ (dir : Directory). AreSids dir.schema dir.objects c.self.inside.index.sids.entries) c.self.view_is (record { exact = c.self.invariant.indexed.sids; once = c.len-known.ensures.unique })
+    subst (λ (dir : Directory). AreSids dir.schema dir.objects c.self.inside.index.sids.entries) c.self.view_is
+    (record { exact = c.self.invariant.indexed.sids; once = c.len-known.ensures.unique })

@@ -9,5 +9,6 @@ pub returns : goal.returns
 unfolding with_sid
 returns c =
     c.with_sid.ensures
-    ∙ sid_found c.self.inside.schema c.self.inside.index.sids.entries (objects_in c.self.inside.objects.entries) c.args.sid.now c.self.invariant.standing.rise c.self.invariant.indexed.sids
+    ∙ sid_found c.self.inside.schema c.self.inside.index.sids.entries (objects_in c.self.inside.objects.entries)
+    c.args.sid.now c.self.invariant.standing.rise c.self.invariant.indexed.sids
     ∙ ap (λ (dir : Directory). with_sid dir c.args.sid.now) c.self.view_is

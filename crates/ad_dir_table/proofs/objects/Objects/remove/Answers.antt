@@ -4,4 +4,5 @@ use Rattle.ad_dir_table.proofs.objects.Objects.remove.Goals as goal
 
 pub returns-clause-sids : goal.returns-clause-sids
 returns-clause-sids c = λ schema all.
-    c.remove.ensures.sids schema (subst (λ (entries : List Entry). HaveTheirSids schema entries) (ap (λ (h : Holding). h.entries) (sym c.self.view_is)) all)
+    c.remove.ensures.sids schema (subst (λ (entries : List Entry). HaveTheirSids schema entries)
+    (ap (λ (h : Holding). h.entries) (sym c.self.view_is)) all)

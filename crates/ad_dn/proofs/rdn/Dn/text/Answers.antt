@@ -9,11 +9,13 @@ use Rattle.ad_dn.proofs.rdn.Dn.text.Goals as goal
 pub returns-clause-spelled : goal.returns-clause-spelled
 returns-clause-spelled c =
     subst (SpellsDn c.args.self.now)
-    (ap rdns_text (sym c.as_slice.ensures.same) ∙ ap (λ (t : List ℕ). t ++ rdns_text c.as_slice.result.now) (sym c.new-text.ensures.items) ∙ sym c.in_ok-push_rdns.ensures)
+    (ap rdns_text (sym c.as_slice.ensures.same) ∙ ap (λ (t : List ℕ). t ++ rdns_text c.as_slice.result.now)
+    (sym c.new-text.ensures.items) ∙ sym c.in_ok-push_rdns.ensures)
     (rdns_spelled c.args.self.now.rdns c.as_slice.ensures.rdns)
 
 pub returns-clause-utf8 : goal.returns-clause-utf8
 returns-clause-utf8 c =
     subst IsUtf8
-    (ap rdns_text (sym c.as_slice.ensures.same) ∙ ap (λ (t : List ℕ). t ++ rdns_text c.as_slice.result.now) (sym c.new-text.ensures.items) ∙ sym c.in_ok-push_rdns.ensures)
+    (ap rdns_text (sym c.as_slice.ensures.same) ∙ ap (λ (t : List ℕ). t ++ rdns_text c.as_slice.result.now)
+    (sym c.new-text.ensures.items) ∙ sym c.in_ok-push_rdns.ensures)
     (rdns_utf8 c.args.self.now.rdns c.as_slice.ensures.rdns)

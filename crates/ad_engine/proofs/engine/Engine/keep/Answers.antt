@@ -10,37 +10,43 @@ use Rattle.ad_engine.proofs.Rewriting.{room_then, room_failed, as_behind, on_as,
 use Rattle.ad_engine.proofs.engine.Engine.keep.Goals as goal
 
 pub returns-then-is_empty-clause-directory : goal.returns-then-is_empty-clause-directory
-returns-then-is_empty-clause-directory g c = sym (none_made c.args.edits c.args.self.now.dir (is_empty c.args.edits (sym c.if-is_empty.ensures)))
+returns-then-is_empty-clause-directory g c
+    = sym (none_made c.args.edits c.args.self.now.dir (is_empty c.args.edits (sym c.if-is_empty.ensures)))
 
 pub returns-then-is_empty-clause-every_crash : goal.returns-then-is_empty-clause-every_crash
 returns-then-is_empty-clause-every_crash g c = lasts_still g.S.Site c.args.self.now.dir c.args.site.now
 
 pub returns-then-is_empty-clause-any_moment : goal.returns-then-is_empty-clause-any_moment
 returns-then-is_empty-clause-any_moment g c =
-    untouched_moments c.args.self.now.dir _ (g.S.Site.reads c.args.site.now) (g.S.Site.now c.args.site.now) (g.S.Site.left c.args.site.now)
+    untouched_moments c.args.self.now.dir _ (g.S.Site.reads c.args.site.now) (g.S.Site.now c.args.site.now)
+    (g.S.Site.left c.args.site.now)
     (λ t images out left. g.met.S.Site.left_until c.args.site.now t images out left)
 
 pub returns-then-is_empty-clause-bound : goal.returns-then-is_empty-clause-bound
 returns-then-is_empty-clause-bound g c = λ some. absurd (some (is_empty c.args.edits (sym c.if-is_empty.ensures)))
 
 pub returns-then-is_empty-clause-outside : goal.returns-then-is_empty-clause-outside
-returns-then-is_empty-clause-outside g c = touches_not g.S.Site c.args.site.now (λ t images out left. g.met.S.Site.left_until c.args.site.now t images out left)
+returns-then-is_empty-clause-outside g c = touches_not g.S.Site c.args.site.now
+    (λ t images out left. g.met.S.Site.left_until c.args.site.now t images out left)
 
 pub returns-in_err-make_room-clause-any_moment : goal.returns-in_err-make_room-clause-any_moment
 returns-in_err-make_room-clause-any_moment g c =
     let s = g.S.Site in
-    room_failed c.args.self.now.dir (made_by c.args.edits c.args.self.now.dir) (s.reads c.args.site.now) (s.now c.args.site.now) (s.now c.make_room.new.site)
+    room_failed c.args.self.now.dir (made_by c.args.edits c.args.self.now.dir) (s.reads c.args.site.now)
+    (s.now c.args.site.now) (s.now c.make_room.new.site)
     (s.left c.args.site.now) (s.left c.make_room.new.site) c.in_err-make_room.ensures.any_moment
 
 pub returns-in_err-make_room-clause-untouched : goal.returns-in_err-make_room-clause-untouched
 returns-in_err-make_room-clause-untouched g c = λ none. absurd (is_full c.args.edits (sym c.if-is_empty.ensures) none)
 
 pub commit_edits-requires-clause-edits : goal.commit_edits-requires-clause-edits
-commit_edits-requires-clause-edits g c = subst (λ (d : Directory). MayKeep c.args.edits d) (sym c.in_ok-make_room.ensures.dir) c.requires.edits
+commit_edits-requires-clause-edits g c = subst (λ (d : Directory). MayKeep c.args.edits d)
+    (sym c.in_ok-make_room.ensures.dir) c.requires.edits
 
 pub returns-clause-directory : goal.returns-clause-directory
 returns-clause-directory g c =
-    subst (λ (d : Directory). OnOk c.commit_edits.result (c.commit_edits.new.self.dir ≡ made_by c.args.edits d)) c.in_ok-make_room.ensures.dir c.commit_edits.ensures.directory
+    subst (λ (d : Directory). OnOk c.commit_edits.result (c.commit_edits.new.self.dir ≡ made_by c.args.edits d))
+    c.in_ok-make_room.ensures.dir c.commit_edits.ensures.directory
 
 pub returns-clause-every_crash : goal.returns-clause-every_crash
 returns-clause-every_crash g c =
@@ -48,17 +54,22 @@ returns-clause-every_crash g c =
     let new = c.commit_edits.new.self.dir in
     on_ok_weaker c.commit_edits.result
     (λ lasts. on_as s c.args.self.now.dir new c.args.site.now c.commit_edits.new.site
-    (as_behind s new c.args.site.now c.make_room.new.site c.commit_edits.new.site c.in_ok-make_room.ensures.outside.known lasts)) c.commit_edits.ensures.every_crash
+    (as_behind s new c.args.site.now c.make_room.new.site c.commit_edits.new.site
+    c.in_ok-make_room.ensures.outside.known lasts)) c.commit_edits.ensures.every_crash
 
 pub returns-clause-any_moment : goal.returns-clause-any_moment
 returns-clause-any_moment g c =
     let s = g.S.Site in
-    room_then c.args.self.now.dir c.make_room.new.self.dir (made_by c.args.edits) (s.reads c.args.site.now) (s.reads c.make_room.new.site)
-    (s.now c.args.site.now) (s.now c.make_room.new.site) (s.now c.commit_edits.new.site) (s.left c.args.site.now) (s.left c.make_room.new.site) (s.left c.commit_edits.new.site)
-    c.in_ok-make_room.ensures.dir c.in_ok-make_room.ensures.outside.known c.in_ok-make_room.ensures.any_moment c.commit_edits.ensures.any_moment
+    room_then c.args.self.now.dir c.make_room.new.self.dir (made_by c.args.edits) (s.reads c.args.site.now)
+    (s.reads c.make_room.new.site)
+    (s.now c.args.site.now) (s.now c.make_room.new.site) (s.now c.commit_edits.new.site) (s.left c.args.site.now)
+    (s.left c.make_room.new.site) (s.left c.commit_edits.new.site)
+    c.in_ok-make_room.ensures.dir c.in_ok-make_room.ensures.outside.known c.in_ok-make_room.ensures.any_moment
+    c.commit_edits.ensures.any_moment
 
 pub returns-clause-bound : goal.returns-clause-bound
-returns-clause-bound g c = on_ok_weaker c.commit_edits.result (λ bound some. bound c.in_ok-make_room.ensures.room) c.commit_edits.ensures.bound
+returns-clause-bound g c = on_ok_weaker c.commit_edits.result (λ bound some. bound c.in_ok-make_room.ensures.room)
+    c.commit_edits.ensures.bound
 
 pub returns-clause-untouched : goal.returns-clause-untouched
 returns-clause-untouched g c = λ none. absurd (is_full c.args.edits (sym c.if-is_empty.ensures) none)
@@ -71,9 +82,11 @@ returns-clause-unspent g c = c.commit_edits.ensures.unspent ∙ c.in_ok-make_roo
 
 pub returns-clause-outside : goal.returns-clause-outside
 returns-clause-outside g c =
-    touches_on g.S.Site c.args.site.now c.make_room.new.site c.commit_edits.new.site c.in_ok-make_room.ensures.outside c.commit_edits.ensures.outside
+    touches_on g.S.Site c.args.site.now c.make_room.new.site c.commit_edits.new.site c.in_ok-make_room.ensures.outside
+    c.commit_edits.ensures.outside
 
 pub returns-clause-cause : goal.returns-clause-cause
 returns-clause-cause g c = λ is.
-    rises_behind (g.S.Site.slot_faults c.args.site.now) (g.S.Site.slot_faults c.make_room.new.site) (g.S.Site.slot_faults c.commit_edits.new.site)
+    rises_behind (g.S.Site.slot_faults c.args.site.now) (g.S.Site.slot_faults c.make_room.new.site)
+    (g.S.Site.slot_faults c.commit_edits.new.site)
     c.in_ok-make_room.ensures.outside.never_falls (c.commit_edits.ensures.cause is)

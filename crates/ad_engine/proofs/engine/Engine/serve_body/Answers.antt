@@ -10,12 +10,14 @@ pub returns-in_err-serve_token-in-Token-clause-serves : goal.returns-in_err-serv
 returns-in_err-serve_token-in-Token-clause-serves g c =
     let p = err_from_is_err_and c.from_residual.result c.from_residual.ensures.1 in
     failed_before g.S.Site _ _ c.args.self.now _ c.args.site.now c.from_residual.result p.0
-    (λ t images out left. g.met.S.Site.left_until c.args.site.now t images out left) c.serve_token.ensures.unspent p.1 p.2
+    (λ t images out left. g.met.S.Site.left_until c.args.site.now t images out left) c.serve_token.ensures.unspent p.1
+    p.2
 
 pub returns-in_ok-serve_token-in-Token-clause-output : goal.returns-in_ok-serve_token-in-Token-clause-output
 returns-in_ok-serve_token-in-Token-clause-output g c =
     c.in_ok-serve_token-in-Token.ensures.output
-    ∙ ap (λ (b : FrameBody). (body_answered c.args.self.now.dir c.args.self.now.tokens c.args.connection b).output) (sym c.in-Token.is)
+    ∙ ap (λ (b : FrameBody). (body_answered c.args.self.now.dir c.args.self.now.tokens c.args.connection b).output)
+    (sym c.in-Token.is)
 
 pub returns-in_ok-serve_token-in-Token-clause-serves : goal.returns-in_ok-serve_token-in-Token-clause-serves
 returns-in_ok-serve_token-in-Token-clause-serves g c =
@@ -24,22 +26,26 @@ returns-in_ok-serve_token-in-Token-clause-serves g c =
     served_as g.S.Site _ _ c.args.self.now c.serve_token.new.self c.args.site.now c.args.site.now _
     (ap (λ (b : FrameBody). body_answered self.dir self.tokens c.args.connection b) (sym c.in-Token.is))
     (kept_still g.S.Site _ _ c.args.self.now c.serve_token.new.self c.args.site.now _
-    (λ t images out left. g.met.S.Site.left_until c.args.site.now t images out left) c.requires refl made.dir made.store made.unspent made.tokens)
+    (λ t images out left. g.met.S.Site.left_until c.args.site.now t images out left) c.requires refl made.dir
+    made.store made.unspent made.tokens)
 
 pub returns-in-Message-clause-output : goal.returns-in-Message-clause-output
 returns-in-Message-clause-output g c =
     let dir = c.args.self.now.dir in
     let tokens = c.args.self.now.tokens in
     subst (λ (a : Answered). IfOk c.serve_message.result (λ o. o.items ≡ a.output))
-    (ap (λ (bytes : List ℕ). message_answered dir tokens c.args.connection bytes) c.as_slice.ensures ∙ ap (λ (b : FrameBody). body_answered dir tokens c.args.connection b) (sym c.in-Message.is))
+    (ap (λ (bytes : List ℕ). message_answered dir tokens c.args.connection bytes) c.as_slice.ensures
+    ∙ ap (λ (b : FrameBody). body_answered dir tokens c.args.connection b) (sym c.in-Message.is))
     c.serve_message.ensures.output
 
 pub returns-in-Message-clause-serves : goal.returns-in-Message-clause-serves
 returns-in-Message-clause-serves g c =
     let dir = c.args.self.now.dir in
     let tokens = c.args.self.now.tokens in
-    served_as g.S.Site _ _ c.args.self.now c.serve_message.new.self c.args.site.now c.serve_message.new.site c.serve_message.result
-    (ap (λ (bytes : List ℕ). message_answered dir tokens c.args.connection bytes) c.as_slice.ensures ∙ ap (λ (b : FrameBody). body_answered dir tokens c.args.connection b) (sym c.in-Message.is))
+    served_as g.S.Site _ _ c.args.self.now c.serve_message.new.self c.args.site.now c.serve_message.new.site
+    c.serve_message.result
+    (ap (λ (bytes : List ℕ). message_answered dir tokens c.args.connection bytes) c.as_slice.ensures
+    ∙ ap (λ (b : FrameBody). body_answered dir tokens c.args.connection b) (sym c.in-Message.is))
     c.serve_message.ensures.serves
 
 pub returns-in-Steps-clause-output : goal.returns-in-Steps-clause-output
@@ -54,7 +60,8 @@ pub returns-in-Steps-clause-serves : goal.returns-in-Steps-clause-serves
 returns-in-Steps-clause-serves g c =
     let dir = c.args.self.now.dir in
     let tokens = c.args.self.now.tokens in
-    served_as g.S.Site _ _ c.args.self.now c.serve_steps.new.self c.args.site.now c.serve_steps.new.site c.serve_steps.result
+    served_as g.S.Site _ _ c.args.self.now c.serve_steps.new.self c.args.site.now c.serve_steps.new.site
+    c.serve_steps.result
     (ap (λ (b : FrameBody). body_answered dir tokens c.args.connection b) (sym c.in-Steps.is))
     c.serve_steps.ensures.serves
 

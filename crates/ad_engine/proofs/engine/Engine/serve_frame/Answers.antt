@@ -4,8 +4,10 @@ use Rattle.ad_engine.proofs.engine.Engine.serve_frame.Goals as goal
 
 pub returns-then-self-clause-any_moment : goal.returns-then-self-clause-any_moment
 returns-then-self-clause-any_moment g c =
-    untouched_moments c.args.self.now.dir _ (g.S.Site.reads c.args.site.now) (g.S.Site.now c.args.site.now) (g.S.Site.left c.args.site.now)
+    untouched_moments c.args.self.now.dir _ (g.S.Site.reads c.args.site.now) (g.S.Site.now c.args.site.now)
+    (g.S.Site.left c.args.site.now)
     (λ t images out left. g.met.S.Site.left_until c.args.site.now t images out left)
 
 pub returns-then-self-clause-outside : goal.returns-then-self-clause-outside
-returns-then-self-clause-outside g c = touches_not g.S.Site c.args.site.now (λ t images out left. g.met.S.Site.left_until c.args.site.now t images out left)
+returns-then-self-clause-outside g c = touches_not g.S.Site c.args.site.now
+    (λ t images out left. g.met.S.Site.left_until c.args.site.now t images out left)

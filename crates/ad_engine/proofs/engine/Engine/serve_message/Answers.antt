@@ -6,7 +6,8 @@ use Rattle.ad_engine.specs.Messages.{message_decided}
 use Rattle.ad_engine.specs.Output.{output_frame}
 use Rattle.ad_engine.specs.Tokens.{without_token}
 use Rattle.ad_engine.specs.Served.{made_by}
-use Rattle.ad_engine.proofs.Answering.{failed_before, failed_part, kept_part, bound_kept, same_edits, may_keep, makes_change, changes_none}
+use Rattle.ad_engine.proofs.Answering.{failed_before, failed_part, kept_part, bound_kept, same_edits, may_keep}
+use Rattle.ad_engine.proofs.Answering.{makes_change, changes_none}
 use Rattle.ad_engine.proofs.engine.Engine.serve_message.Goals as goal
 
 pub returns-in_err-decided-clause-serves : goal.returns-in_err-decided-clause-serves
@@ -23,8 +24,11 @@ returns-in_err-output-clause-serves g c =
 
 pub keep-requires-clause-edits : goal.keep-requires-clause-edits
 keep-requires-clause-edits g c =
-    may_keep c.args.self.now.dir (message_decided c.args.self.now.dir c.token-token.result.now c.args.bytes.now).change c.edits_of.result c.requires.sound
-    (same_edits c.args.self.now.dir (message_decided c.args.self.now.dir c.token-token.result.now c.args.bytes.now).change c.in_ok-decided.decided.edits c.edits_of.result c.edits_of.ensures c.in_ok-decided.ensures.edits)
+    may_keep c.args.self.now.dir (message_decided c.args.self.now.dir c.token-token.result.now
+    c.args.bytes.now).change c.edits_of.result c.requires.sound
+    (same_edits c.args.self.now.dir (message_decided c.args.self.now.dir c.token-token.result.now
+    c.args.bytes.now).change c.in_ok-decided.decided.edits c.edits_of.result c.edits_of.ensures
+    c.in_ok-decided.ensures.edits)
 
 pub returns-in_err-keep-clause-serves : goal.returns-in_err-keep-clause-serves
 returns-in_err-keep-clause-serves g c =
@@ -32,11 +36,18 @@ returns-in_err-keep-clause-serves g c =
     let change = (message_decided dir c.token-token.result.now c.args.bytes.now).change in
     let p = err_from_is_err_and c.from_residual-in_err-keep.result c.from_residual-in_err-keep.ensures.1 in
     let part = c.in_err-keep.ensures in
-    failed_part g.S.Site (made_by c.edits_of.result dir) _ _ c.args.self.now _ c.args.site.now c.keep.new.site c.in_err-keep.field-0.0 p.0
+    failed_part g.S.Site (made_by c.edits_of.result dir) _ _ c.args.self.now _ c.args.site.now c.keep.new.site
+    c.in_err-keep.field-0.0 p.0
     c.from_residual-in_err-keep.result part.any_moment
-    (makes_change dir change c.edits_of.result (same_edits c.args.self.now.dir (message_decided c.args.self.now.dir c.token-token.result.now c.args.bytes.now).change c.in_ok-decided.decided.edits c.edits_of.result c.edits_of.ensures c.in_ok-decided.ensures.edits)
+    (makes_change dir change c.edits_of.result
+    (same_edits c.args.self.now.dir (message_decided c.args.self.now.dir c.token-token.result.now
+    c.args.bytes.now).change c.in_ok-decided.decided.edits c.edits_of.result c.edits_of.ensures
+    c.in_ok-decided.ensures.edits)
     ∙ ap (λ (t : Token). unwrap_or (message_decided dir t c.args.bytes.now).change dir) c.token-token.ensures)
-    (λ none. part.untouched (changes_none dir change c.edits_of.result (same_edits c.args.self.now.dir (message_decided c.args.self.now.dir c.token-token.result.now c.args.bytes.now).change c.in_ok-decided.decided.edits c.edits_of.result c.edits_of.ensures c.in_ok-decided.ensures.edits)
+    (λ none. part.untouched (changes_none dir change c.edits_of.result
+    (same_edits c.args.self.now.dir (message_decided c.args.self.now.dir c.token-token.result.now
+    c.args.bytes.now).change c.in_ok-decided.decided.edits c.edits_of.result c.edits_of.ensures
+    c.in_ok-decided.ensures.edits)
     (ap (λ (t : Token). unwrap_or (message_decided dir t c.args.bytes.now).change dir) c.token-token.ensures ∙ none)))
     part.unspent part.faults part.outside part.cause p.1 p.2
 
@@ -45,23 +56,38 @@ returns-clause-output g c =
     let dir = c.args.self.now.dir in
     c.in_ok-output.ensures
     ∙ ap (λ (b : List ℕ). output_frame 0x82 c.args.connection b)
-    (c.as_slice.ensures ∙ c.in_ok-decided.ensures.reply ∙ ap (λ (t : Token). (message_decided dir t c.args.bytes.now).reply) c.token-token.ensures)
+    (c.as_slice.ensures ∙ c.in_ok-decided.ensures.reply
+    ∙ ap (λ (t : Token). (message_decided dir t c.args.bytes.now).reply) c.token-token.ensures)
 
 pub returns-clause-serves : goal.returns-clause-serves
 returns-clause-serves g c =
     let dir = c.args.self.now.dir in
     let change = (message_decided dir c.token-token.result.now c.args.bytes.now).change in
     let part = c.in_ok-keep.ensures in
-    kept_part g.S.Site (made_by c.edits_of.result dir) _ _ c.args.self.now c.keep.new.self _ c.args.site.now c.keep.new.site _ part.directory
-    (makes_change dir change c.edits_of.result (same_edits c.args.self.now.dir (message_decided c.args.self.now.dir c.token-token.result.now c.args.bytes.now).change c.in_ok-decided.decided.edits c.edits_of.result c.edits_of.ensures c.in_ok-decided.ensures.edits)
+    kept_part g.S.Site (made_by c.edits_of.result dir) _ _ c.args.self.now c.keep.new.self _ c.args.site.now
+    c.keep.new.site _ part.directory
+    (makes_change dir change c.edits_of.result
+    (same_edits c.args.self.now.dir (message_decided c.args.self.now.dir c.token-token.result.now
+    c.args.bytes.now).change c.in_ok-decided.decided.edits c.edits_of.result c.edits_of.ensures
+    c.in_ok-decided.ensures.edits)
     ∙ ap (λ (t : Token). unwrap_or (message_decided dir t c.args.bytes.now).change dir) c.token-token.ensures)
     part.stands part.every_crash part.any_moment
-    (λ none. part.untouched (changes_none dir change c.edits_of.result (same_edits c.args.self.now.dir (message_decided c.args.self.now.dir c.token-token.result.now c.args.bytes.now).change c.in_ok-decided.decided.edits c.edits_of.result c.edits_of.ensures c.in_ok-decided.ensures.edits)
+    (λ none. part.untouched (changes_none dir change c.edits_of.result
+    (same_edits c.args.self.now.dir (message_decided c.args.self.now.dir c.token-token.result.now
+    c.args.bytes.now).change c.in_ok-decided.decided.edits c.edits_of.result c.edits_of.ensures
+    c.in_ok-decided.ensures.edits)
     (ap (λ (t : Token). unwrap_or (message_decided dir t c.args.bytes.now).change dir) c.token-token.ensures ∙ none)))
     part.unspent part.outside refl refl refl
     (c.clear_if.ensures
-    ∙ ap (λ (ts : List (Option Token)). if c.in_ok-decided.decided.drops then without_token c.args.connection ts else ts) part.tokens
+    ∙ ap (λ (ts : List (Option Token)). if c.in_ok-decided.decided.drops then without_token c.args.connection ts
+    else ts) part.tokens
     ∙ ap (λ (b : Bool). if b then without_token c.args.connection c.args.self.now.tokens else c.args.self.now.tokens)
-    (c.in_ok-decided.ensures.drops ∙ ap (λ (t : Token). (message_decided dir t c.args.bytes.now).drops) c.token-token.ensures))
-    (bound_kept c.edits_of.result dir _ _ (makes_change dir change c.edits_of.result (same_edits c.args.self.now.dir (message_decided c.args.self.now.dir c.token-token.result.now c.args.bytes.now).change c.in_ok-decided.decided.edits c.edits_of.result c.edits_of.ensures c.in_ok-decided.ensures.edits)
-    ∙ ap (λ (t : Token). unwrap_or (message_decided dir t c.args.bytes.now).change dir) c.token-token.ensures) part.bound)
+    (c.in_ok-decided.ensures.drops ∙ ap (λ (t : Token). (message_decided dir t c.args.bytes.now).drops)
+    c.token-token.ensures))
+    (bound_kept c.edits_of.result dir _ _
+    (makes_change dir change c.edits_of.result
+    (same_edits c.args.self.now.dir (message_decided c.args.self.now.dir c.token-token.result.now
+    c.args.bytes.now).change c.in_ok-decided.decided.edits c.edits_of.result c.edits_of.ensures
+    c.in_ok-decided.ensures.edits)
+    ∙ ap (λ (t : Token). unwrap_or (message_decided dir t c.args.bytes.now).change dir) c.token-token.ensures)
+    part.bound)

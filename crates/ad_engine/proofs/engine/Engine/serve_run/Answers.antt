@@ -2,7 +2,8 @@ use Rattle.std.proofs.Common.{◌∙◌, ℕ, List, refl, ap}
 use Rattle.std.proofs.lemmas.Result.{err_from_is_err_and}
 use Rattle.ad_engine.specs.Output.{output_frame}
 use Rattle.ad_engine.specs.Served.{made_by}
-use Rattle.ad_engine.proofs.Answering.{failed_before, failed_part, kept_part, bound_kept, run_edits_are, may_run, run_changes_none}
+use Rattle.ad_engine.proofs.Answering.{failed_before, failed_part, kept_part, bound_kept, run_edits_are, may_run}
+use Rattle.ad_engine.proofs.Answering.{run_changes_none}
 use Rattle.ad_engine.proofs.engine.Engine.serve_run.Goals as goal
 
 pub returns-in_err-decided-clause-serves : goal.returns-in_err-decided-clause-serves
@@ -19,28 +20,38 @@ returns-in_err-output-clause-serves g c =
 
 pub keep-requires-clause-edits : goal.keep-requires-clause-edits
 keep-requires-clause-edits g c = may_run c.args.self.now.dir _ c.edits_of.result
-    (run_edits_are c.args.self.now.dir c.in_ok-decided.decided c.edits_of.result c.edits_of.ensures c.in_ok-decided.ensures)
+    (run_edits_are c.args.self.now.dir c.in_ok-decided.decided c.edits_of.result c.edits_of.ensures
+    c.in_ok-decided.ensures)
 
 pub returns-in_err-keep-clause-serves : goal.returns-in_err-keep-clause-serves
 returns-in_err-keep-clause-serves g c =
     let dir = c.args.self.now.dir in
     let p = err_from_is_err_and c.from_residual-in_err-keep.result c.from_residual-in_err-keep.ensures.1 in
     let part = c.in_err-keep.ensures in
-    failed_part g.S.Site (made_by c.edits_of.result dir) _ _ c.args.self.now _ c.args.site.now c.keep.new.site c.in_err-keep.field-0.0 p.0
-    c.from_residual-in_err-keep.result part.any_moment (run_edits_are dir c.in_ok-decided.decided c.edits_of.result c.edits_of.ensures c.in_ok-decided.ensures).make
-    (λ none. part.untouched (run_changes_none dir c.in_ok-decided.decided c.edits_of.result c.edits_of.ensures c.in_ok-decided.ensures none))
+    failed_part g.S.Site (made_by c.edits_of.result dir) _ _ c.args.self.now _ c.args.site.now c.keep.new.site
+    c.in_err-keep.field-0.0 p.0
+    c.from_residual-in_err-keep.result part.any_moment
+    (run_edits_are dir c.in_ok-decided.decided c.edits_of.result c.edits_of.ensures c.in_ok-decided.ensures).make
+    (λ none. part.untouched (run_changes_none dir c.in_ok-decided.decided c.edits_of.result c.edits_of.ensures
+    c.in_ok-decided.ensures none))
     part.unspent part.faults part.outside part.cause p.1 p.2
 
 pub returns-clause-output : goal.returns-clause-output
 returns-clause-output g c =
-    c.in_ok-output.ensures ∙ ap (λ (b : List ℕ). output_frame 0x84 c.args.connection b) (c.as_slice.ensures ∙ c.in_ok-decided.ensures.reply)
+    c.in_ok-output.ensures ∙ ap (λ (b : List ℕ). output_frame 0x84 c.args.connection b)
+    (c.as_slice.ensures ∙ c.in_ok-decided.ensures.reply)
 
 pub returns-clause-serves : goal.returns-clause-serves
 returns-clause-serves g c =
     let dir = c.args.self.now.dir in
     let part = c.in_ok-keep.ensures in
-    kept_part g.S.Site (made_by c.edits_of.result dir) _ _ c.args.self.now c.keep.new.self _ c.args.site.now c.keep.new.site _ part.directory
-    (run_edits_are dir c.in_ok-decided.decided c.edits_of.result c.edits_of.ensures c.in_ok-decided.ensures).make part.stands part.every_crash part.any_moment
-    (λ none. part.untouched (run_changes_none dir c.in_ok-decided.decided c.edits_of.result c.edits_of.ensures c.in_ok-decided.ensures none))
+    kept_part g.S.Site (made_by c.edits_of.result dir) _ _ c.args.self.now c.keep.new.self _ c.args.site.now
+    c.keep.new.site _ part.directory
+    (run_edits_are dir c.in_ok-decided.decided c.edits_of.result c.edits_of.ensures c.in_ok-decided.ensures).make
+    part.stands part.every_crash part.any_moment
+    (λ none. part.untouched (run_changes_none dir c.in_ok-decided.decided c.edits_of.result c.edits_of.ensures
+    c.in_ok-decided.ensures none))
     part.unspent part.outside refl refl refl part.tokens
-    (bound_kept c.edits_of.result dir _ _ (run_edits_are dir c.in_ok-decided.decided c.edits_of.result c.edits_of.ensures c.in_ok-decided.ensures).make part.bound)
+    (bound_kept c.edits_of.result dir _ _
+    (run_edits_are dir c.in_ok-decided.decided c.edits_of.result c.edits_of.ensures c.in_ok-decided.ensures).make
+    part.bound)

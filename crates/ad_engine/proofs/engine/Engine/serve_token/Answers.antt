@@ -4,4 +4,5 @@ use Rattle.ad_engine.specs.Tokens.{with_token}
 use Rattle.ad_engine.proofs.engine.Engine.serve_token.Goals as goal
 
 pub returns-clause-tokens : goal.returns-clause-tokens
-returns-clause-tokens c = c.in_ok-set.ensures ∙ ap (λ (t : Token). with_token c.args.connection t c.args.self.now.tokens) c.in_ok-token.ensures
+returns-clause-tokens c = c.in_ok-set.ensures
+    ∙ ap (λ (t : Token). with_token c.args.connection t c.args.self.now.tokens) c.in_ok-token.ensures

@@ -7,10 +7,17 @@ use Rattle.ad_ids.proofs.sid.Sid.may_be_well_known.Goals as goal
 pub returns-then-bytes-ge8 : goal.returns-then-bytes-ge8
 unfolding sid_bytes
 returns-then-bytes-ge8 c = λ authority word e.
-    let b = begun (record { authority = authority; sub_authorities = word ∷ [] }) c.args.bytes.now (λ i. omega (arith, c.type_inv.bytes i)) e in
+    let b = begun (record { authority = authority; sub_authorities = word ∷ [] }) c.args.bytes.now
+    (λ i. omega (arith, c.type_inv.bytes i)) e in
     eq-eqb _ _ (ap (λ (t : List ℕ). slice_index_or t 1 0) b.parts)
 
 pub returns-else-bytes-ge8 : goal.returns-else-bytes-ge8
 returns-else-bytes-ge8 c = λ authority word e.
-    let b = begun (record { authority = authority; sub_authorities = word ∷ [] }) c.args.bytes.now (λ i. omega (arith, c.type_inv.bytes i)) e in
-    absurd (omega (arith, c.if-bytes-ge8.false, begun_long (record { authority = authority; sub_authorities = word ∷ [] }) c.args.bytes.now b))
+    let b = begun (record { authority = authority; sub_authorities = word ∷ [] }) c.args.bytes.now
+    (λ i. omega (arith, c.type_inv.bytes i)) e in
+    absurd (omega (
+      arith,
+      c.if-bytes-ge8.false,
+      begun_long
+          (record { authority = authority; sub_authorities = word ∷ [] }) c.args.bytes.now b,
+    ))

@@ -8,8 +8,10 @@ returns-in-None-clause-err c = record {
   within = c.loop-place-test.true;
   last = c.loop-place.state;
   steps = c.loop-place.invariant;
-  stops = step_more step (Some start) c.args.text.now c.loop-place.place c.loop-place.state c.loop-place-test.true c.loop-place.invariant ∙ sym c.in-None.ensures;
+  stops = step_more step (Some start) c.args.text.now c.loop-place.place c.loop-place.state c.loop-place-test.true
+      c.loop-place.invariant ∙ sym c.in-None.ensures;
 }
 
 pub loop-place-preserved : goal.loop-place-preserved
-loop-place-preserved c = step_more step (Some start) c.args.text.now c.loop-place.place c.loop-place.state c.loop-place-test.true c.loop-place.invariant ∙ sym c.in-Some.ensures
+loop-place-preserved c = step_more step (Some start) c.args.text.now c.loop-place.place c.loop-place.state
+    c.loop-place-test.true c.loop-place.invariant ∙ sym c.in-Some.ensures

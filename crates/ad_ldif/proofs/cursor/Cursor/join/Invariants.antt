@@ -4,8 +4,10 @@ use Rattle.ad_ldif.proofs.cursor.Cursor.join.Given as goal
 
 abbrev pub invariant-loop-self : goal.invariant-loop-self
 invariant-loop-self l = record {
-  lines : logical true l.fn.self.number (physical l.fn.self.rest.now) ≡ logical true l.self.number (physical l.self.rest.now);
-  text : l.fn.text.items ++ continuation (physical l.fn.self.rest.now) ≡ l.text.items ++ continuation (physical l.self.rest.now);
+  lines : logical true l.fn.self.number (physical l.fn.self.rest.now) ≡ logical true l.self.number
+      (physical l.self.rest.now);
+  text : l.fn.text.items ++ continuation (physical l.fn.self.rest.now) ≡ l.text.items
+      ++ continuation (physical l.self.rest.now);
   shorter : length l.self.rest.now ≤ length l.fn.self.rest.now;
 }
 

@@ -4,7 +4,8 @@ use Rattle.ad_ldif.proofs.cursor.Cursor.skip_continuations.Given as goal
 
 abbrev pub invariant-loop-self : goal.invariant-loop-self
 invariant-loop-self l = record {
-  lines : logical true l.fn.self.number (physical l.fn.self.rest.now) ≡ logical true l.self.number (physical l.self.rest.now);
+  lines : logical true l.fn.self.number (physical l.fn.self.rest.now) ≡ logical true l.self.number
+      (physical l.self.rest.now);
   shorter : length l.self.rest.now ≤ length l.fn.self.rest.now;
 }
 

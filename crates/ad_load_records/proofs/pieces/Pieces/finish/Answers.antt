@@ -14,12 +14,21 @@ returns-in-Some-clause-records c = λ _.
 pub returns-in_err-read_all-clause-records : goal.returns-in_err-read_all-clause-records
 returns-in_err-read_all-clause-records c =
     let p = err_from_is_err_and c.from_residual.result c.from_residual.ensures.1 in
-    rw (p.1, p.2) (λ m. rw (sym c.self.view_is) (open_end _ _ (ap (option_map (λ s. at s.0 s.1)) c.in_default.is) c.self.inside.few c.as_slice.ensures.value ∙ c.in_err-read_all.ensures.fault m))
+    rw (p.1, p.2) (λ m. rw (sym c.self.view_is)
+    (open_end _ _ (ap (option_map (λ s. at s.0 s.1)) c.in_default.is) c.self.inside.few c.as_slice.ensures.value
+    ∙ c.in_err-read_all.ensures.fault m))
 
 pub returns-clause-records : goal.returns-clause-records
 returns-clause-records c =
-    rw (sym c.self.view_is) (open_end _ _ (ap (option_map (λ s. at s.0 s.1)) c.in_default.is) c.self.inside.few c.as_slice.ensures.value ∙ c.in_ok-read_all.ensures.read)
+    rw (sym c.self.view_is) (open_end _ _ (ap (option_map (λ s. at s.0 s.1)) c.in_default.is) c.self.inside.few
+    c.as_slice.ensures.value ∙ c.in_ok-read_all.ensures.read)
 
 pub returns-clause-few : goal.returns-clause-few
 returns-clause-few c =
-    omega (arith, records_few seen _ _ _ _ c.in_ok-read_all.ensures.read, ap length c.as_slice.ensures.value, c.self.inside.records, c.self.inside.few)
+    omega (
+      arith,
+      records_few seen _ _ _ _ c.in_ok-read_all.ensures.read,
+      ap length c.as_slice.ensures.value,
+      c.self.inside.records,
+      c.self.inside.few,
+    )

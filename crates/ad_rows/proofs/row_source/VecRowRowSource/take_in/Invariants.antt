@@ -7,4 +7,5 @@ use Rattle.ad_rows.proofs.row_source.VecRowRowSource.take_in.Given as goal
 -- what all rows give is what those that are left give
 abbrev pub invariant-loop-row : goal.invariant-loop-row
 invariant-loop-row l = IsStillTaken (option_copied l.schema) l.fn.taken l.taken
-    × (with_rows (option_copied l.schema) (parts_of l.taken) l.row-iterator.rest.items ≡ with_rows (option_copied l.schema) (parts_of l.fn.taken) l.fn.self.items)
+    × (with_rows (option_copied l.schema) (parts_of l.taken) l.row-iterator.rest.items
+    ≡ with_rows (option_copied l.schema) (parts_of l.fn.taken) l.fn.self.items)

@@ -10,4 +10,7 @@ pub returns-clause-noted : goal.returns-clause-noted
 returns-clause-noted c =
     let old = rows_noted c.self.inside.noted.entries in
     let new = rows_noted c.put.new.noted.entries in
-    on_ok_two c.put.result (λ found rise edits before. edits_more edits (edit_seen c.args.edit.now) c.in_ok-row.row old new c.in_ok-row.ensures rise found (subst (λ (rows : List Row). AreRowsOfEdits edits rows) (sym c.self.view_is) before)) c.put.ensures.rows c.put.ensures.rise
+    on_ok_two c.put.result (λ found rise edits before. edits_more edits (edit_seen c.args.edit.now) c.in_ok-row.row
+    old new c.in_ok-row.ensures rise found
+    (subst (λ (rows : List Row). AreRowsOfEdits edits rows) (sym c.self.view_is) before)) c.put.ensures.rows
+    c.put.ensures.rise

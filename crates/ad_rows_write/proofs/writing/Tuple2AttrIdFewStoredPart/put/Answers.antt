@@ -12,5 +12,7 @@ returns c =
     let old = c.args.into.now.items in
     let mid = c.put4.new.into.items in
     let new = c.put_list.new.into.items in
-    on_ok_weaker c.put_list.result (λ values. puts_then (SpellsBe 4) held.0.0 (SpellsList SpellsStored (map stored_seen held.1)) old mid new c.in_ok-put4.ensures
-    (puts_mapped SpellsStored stored_seen c.as_slice.result.now held.1 mid new c.as_slice.ensures values)) c.put_list.ensures
+    on_ok_weaker c.put_list.result (λ values. puts_then (SpellsBe 4) held.0.0
+    (SpellsList SpellsStored (map stored_seen held.1)) old mid new c.in_ok-put4.ensures
+    (puts_mapped SpellsStored stored_seen c.as_slice.result.now held.1 mid new c.as_slice.ensures values))
+    c.put_list.ensures

@@ -7,4 +7,5 @@ use Rattle.ad_schema.proofs.schema.Schema.class.Goals as goal
 pub returns-in-Some-clause-in_range : goal.returns-in-Some-clause-in_range
 returns-in-Some-clause-in_range c =
     subst (λ (rs : List SchemaRecord). c.in-Some.id < length (classes_of rs)) c.self.view_is
-    (class_within c.self.inside.records.items c.self.inside.class_names c.args.name.now c.in-Some.id c.self.invariant.links.class_names_are (sym c.find.ensures ∙ c.in-Some.is))
+    (class_within c.self.inside.records.items c.self.inside.class_names c.args.name.now c.in-Some.id
+    c.self.invariant.links.class_names_are (sym c.find.ensures ∙ c.in-Some.is))

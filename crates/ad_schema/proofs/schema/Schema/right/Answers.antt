@@ -10,5 +10,6 @@ pub returns : goal.returns
 returns c =
     c.right_at.ensures
     ∙ ap (option_and_then (slice_get c.as_slice.result.now)) c.find_exact.ensures
-    ∙ right_is c.self.inside.records.items c.self.inside.right_keys c.as_slice.result.now c.args.guid.now c.self.invariant.links.right_keys_are (c.as_slice.ensures.value ∙ c.self.invariant.infos.rights_are)
+    ∙ right_is c.self.inside.records.items c.self.inside.right_keys c.as_slice.result.now c.args.guid.now
+    c.self.invariant.links.right_keys_are (c.as_slice.ensures.value ∙ c.self.invariant.infos.rights_are)
     ∙ ap (λ (rs : List SchemaRecord). right_of rs c.args.guid.now) c.self.view_is

@@ -8,7 +8,8 @@ pub invariant_of-result : goal.invariant_of-result
 invariant_of-result c = record { normal = spelled_normal c.args.bytes.now c.requires.0 c.requires.1 }
 
 pub returns-clause-normal : goal.returns-clause-normal
-returns-clause-normal c = subst (λ (v : Sd). SpellsNormal v c.args.bytes.now) (sym (spelled_in c.args.bytes.now c.requires.0 c.requires.1)) c.requires.1
+returns-clause-normal c = subst (λ (v : Sd). SpellsNormal v c.args.bytes.now)
+    (sym (spelled_in c.args.bytes.now c.requires.0 c.requires.1)) c.requires.1
 
 pub returns-clause-only : goal.returns-clause-only
 returns-clause-only c = λ sd s. spelled_in c.args.bytes.now sd s

@@ -9,31 +9,39 @@ pub returns-then-self-clause-any_moment : goal.returns-then-self-clause-any_mome
 returns-then-self-clause-any_moment g c =
     let s = g.S.Site in
     let site = c.args.site.now in
-    nothing_done c.args.self.now (λ bodies. OldOrWhole bodies c.args.body.now) (s.reads site) (s.now site) (s.left site) (λ t images out left. g.met.S.Site.left_until site t images out left)
+    nothing_done c.args.self.now (λ bodies. OldOrWhole bodies c.args.body.now) (s.reads site) (s.now site)
+    (s.left site) (λ t images out left. g.met.S.Site.left_until site t images out left)
 
 pub returns-in_err-bytes-clause-any_moment : goal.returns-in_err-bytes-clause-any_moment
 returns-in_err-bytes-clause-any_moment g c =
     let s = g.S.Site in
     let site = c.args.site.now in
-    nothing_done c.args.self.now (λ bodies. OldOrWhole bodies c.args.body.now) (s.reads site) (s.now site) (s.left site) (λ t images out left. g.met.S.Site.left_until site t images out left)
+    nothing_done c.args.self.now (λ bodies. OldOrWhole bodies c.args.body.now) (s.reads site) (s.now site)
+    (s.left site) (λ t images out left. g.met.S.Site.left_until site t images out left)
 
 pub returns-clause-every_crash : goal.returns-clause-every_crash
 returns-clause-every_crash g c =
     let s = g.S.Site in
     let new = c.replace.new.site in
-    every_crash c.args.self.now c.replace.new.self (λ bodies. c.args.body.now ∷ []) (s.reads c.args.site.now) (s.reads new) (s.now new) (s.left new)
-    (at_ok c.replace.result (sym c.if-is_err.ensures.value) c.replace.ensures.rewritten) (at_ok c.replace.result (sym c.if-is_err.ensures.value) c.replace.ensures.lasts)
+    every_crash c.args.self.now c.replace.new.self (λ bodies. c.args.body.now ∷ []) (s.reads c.args.site.now)
+    (s.reads new) (s.now new) (s.left new)
+    (at_ok c.replace.result (sym c.if-is_err.ensures.value) c.replace.ensures.rewritten)
+    (at_ok c.replace.result (sym c.if-is_err.ensures.value) c.replace.ensures.lasts)
 
 pub returns-then-self-clause-outside : goal.returns-then-self-clause-outside
-returns-then-self-clause-outside g c = touches_not g.S.Site c.args.site.now (λ t images out left. g.met.S.Site.left_until c.args.site.now t images out left)
+returns-then-self-clause-outside g c = touches_not g.S.Site c.args.site.now
+    (λ t images out left. g.met.S.Site.left_until c.args.site.now t images out left)
 
 pub returns-in_err-bytes-clause-outside : goal.returns-in_err-bytes-clause-outside
-returns-in_err-bytes-clause-outside g c = touches_not g.S.Site c.args.site.now (λ t images out left. g.met.S.Site.left_until c.args.site.now t images out left)
+returns-in_err-bytes-clause-outside g c = touches_not g.S.Site c.args.site.now
+    (λ t images out left. g.met.S.Site.left_until c.args.site.now t images out left)
 
 pub returns-clause-stands : goal.returns-clause-stands
 returns-clause-stands g c =
     let s = g.S.Site in
     let old = c.args.site.now in
     let new = c.replace.new.site in
-    stands_after c.args.self.now c.replace.new.self (λ bodies. c.args.body.now ∷ []) (s.reads old) (s.reads new) (s.now old) (s.now new) (s.left old) (s.left new) c.if-self.false c.requires.stands
-    (at_ok c.replace.result (sym c.if-is_err.ensures.value) c.replace.ensures.rewritten) (at_ok c.replace.result (sym c.if-is_err.ensures.value) c.replace.ensures.lasts)
+    stands_after c.args.self.now c.replace.new.self (λ bodies. c.args.body.now ∷ []) (s.reads old) (s.reads new)
+    (s.now old) (s.now new) (s.left old) (s.left new) c.if-self.false c.requires.stands
+    (at_ok c.replace.result (sym c.if-is_err.ensures.value) c.replace.ensures.rewritten)
+    (at_ok c.replace.result (sym c.if-is_err.ensures.value) c.replace.ensures.lasts)

@@ -13,7 +13,9 @@ invariant_of-self c =
     let stands = c.in-Some.ensures in
     let is = c.start_again.ensures c.args.parent stands in (
       subst AreDistinct (sym is) (distinct-marked items c.args.parent c.self.invariant.0),
-      subst (AreKnownIf c.prepare.new.self.numbers) (sym is) (known-marked c.prepare.new.self.numbers c.args.parent items (stands_pending c.args.parent c.in-Some.place items stands) c.prepare.ensures),
+      subst (AreKnownIf c.prepare.new.self.numbers) (sym is)
+          (known-marked c.prepare.new.self.numbers c.args.parent items
+          (stands_pending c.args.parent c.in-Some.place items stands) c.prepare.ensures),
     )
 
 pub invariant_of-self-in-None : goal.invariant_of-self-in-None
@@ -22,7 +24,8 @@ invariant_of-self-in-None c =
     let is = c.in_ok-put_last-in-None.ensures.ok in
     let last = push-marked c.args.parent items c.in-None.ensures in (
       subst AreDistinct (sym (is ∙ last)) (distinct-marked items c.args.parent c.self.invariant.0),
-      subst (AreKnownIf c.put_last-in-None.new.self.numbers) (sym is) (c.put_last-in-None.ensures items (from_the_start c.args.parent) refl c.prepare.ensures),
+      subst (AreKnownIf c.put_last-in-None.new.self.numbers) (sym is)
+          (c.put_last-in-None.ensures items (from_the_start c.args.parent) refl c.prepare.ensures),
     )
 
 pub returns-in_ok-put_last-in-None-clause-ok : goal.returns-in_ok-put_last-in-None-clause-ok

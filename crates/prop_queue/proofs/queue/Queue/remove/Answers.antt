@@ -14,9 +14,11 @@ invariant_of-self c =
     let known = known-without c.self.inside.index.numbers c.args.parent items c.self.invariant.1 in (
       subst AreDistinct (sym is) (distinct-without items c.args.parent c.self.invariant.0),
       c.take_off.ensures c.take_out.new.entries.items
-          (subst (λ (queue : List Pending). is_pending c.args.parent queue ≡ false) (sym is) (absent-without c.args.parent items))
+          (subst (λ (queue : List Pending). is_pending c.args.parent queue ≡ false) (sym is)
+          (absent-without c.args.parent items))
           (subst (AreKnownIf c.self.inside.index.numbers) (sym is) known),
     )
 
 pub returns-in_default : goal.returns-in_default
-returns-in_default c = subst (λ (queue : List Pending). queue ≡ without c.args.parent queue) c.self.view_is (sym (without-absent c.args.parent c.self.inside.entries.items c.in_default.ensures))
+returns-in_default c = subst (λ (queue : List Pending). queue ≡ without c.args.parent queue) c.self.view_is
+    (sym (without-absent c.args.parent c.self.inside.entries.items c.in_default.ensures))

@@ -12,22 +12,26 @@ use Rattle.row_store.proofs.Stores.{map_both, map_two, rewritten, any_moment_who
 use Rattle.row_store.proofs.store.Store.snapshot.Goals as goal
 
 pub returns-then-is_spent-clause-outside : goal.returns-then-is_spent-clause-outside
-returns-then-is_spent-clause-outside g c = touches_not g.S.Site c.args.site.now (λ t images out left. g.met.S.Site.left_until c.args.site.now t images out left)
+returns-then-is_spent-clause-outside g c = touches_not g.S.Site c.args.site.now
+    (λ t images out left. g.met.S.Site.left_until c.args.site.now t images out left)
 
 pub returns-in_err-body-clause-outside : goal.returns-in_err-body-clause-outside
-returns-in_err-body-clause-outside g c = touches_not g.S.Site c.args.site.now (λ t images out left. g.met.S.Site.left_until c.args.site.now t images out left)
+returns-in_err-body-clause-outside g c = touches_not g.S.Site c.args.site.now
+    (λ t images out left. g.met.S.Site.left_until c.args.site.now t images out left)
 
 pub returns-then-is_spent-clause-any_moment : goal.returns-then-is_spent-clause-any_moment
 returns-then-is_spent-clause-any_moment g c =
     let s = g.S.Site in
     let site = c.args.site.now in
-    no_snapshot c.args.self.now (s.reads site) (s.now site) (s.left site) (λ t images out left. g.met.S.Site.left_until site t images out left)
+    no_snapshot c.args.self.now (s.reads site) (s.now site) (s.left site)
+    (λ t images out left. g.met.S.Site.left_until site t images out left)
 
 pub returns-in_err-body-clause-any_moment : goal.returns-in_err-body-clause-any_moment
 returns-in_err-body-clause-any_moment g c =
     let s = g.S.Site in
     let site = c.args.site.now in
-    no_snapshot c.args.self.now (s.reads site) (s.now site) (s.left site) (λ t images out left. g.met.S.Site.left_until site t images out left)
+    no_snapshot c.args.self.now (s.reads site) (s.now site) (s.left site)
+    (λ t images out left. g.met.S.Site.left_until site t images out left)
 
 pub returns-in_err-rewrite_in-clause-any_moment : goal.returns-in_err-rewrite_in-clause-any_moment
 returns-in_err-rewrite_in-clause-any_moment g c =
@@ -38,9 +42,12 @@ returns-in_err-rewrite_in-clause-any_moment g c =
     let body = drop 22 c.in_ok-body.body.items in
     let spelled = c.in_ok-body.ensures.spelled in
     map_two (λ held. (table : Table) → HoldsTable c.args.self.now held table → SameTable (table_of rows) table)
-    (λ held. (bodies : List (List ℕ)) → RestsIn c.args.self.now.log held bodies → Leaves (s.now old) (s.now new) (s.left old) (s.left new) (λ images. Began (s.now old) (s.left old) images ⊎ OldOrWhole bodies body images))
-    (λ held. (table : Table) → HoldsTable c.args.self.now held table → Leaves (s.now old) (s.now new) (s.left old) (s.left new) (λ images. Began (s.now old) (s.left old) images ⊎ HasTable images table)) (s.reads old)
-    (λ held same each. any_moment_whole c.args.self.now rows body held (s.now old) (s.now new) (s.left old) (s.left new) spelled same each) c.requires.table c.rewrite_in.ensures.any_moment
+    (λ held. (bodies : List (List ℕ)) → RestsIn c.args.self.now.log held bodies → Leaves (s.now old) (s.now new)
+    (s.left old) (s.left new) (λ images. Began (s.now old) (s.left old) images ⊎ OldOrWhole bodies body images))
+    (λ held. (table : Table) → HoldsTable c.args.self.now held table → Leaves (s.now old) (s.now new) (s.left old)
+    (s.left new) (λ images. Began (s.now old) (s.left old) images ⊎ HasTable images table)) (s.reads old)
+    (λ held same each. any_moment_whole c.args.self.now rows body held (s.now old) (s.now new) (s.left old)
+    (s.left new) spelled same each) c.requires.table c.rewrite_in.ensures.any_moment
 
 pub returns-clause-any_moment : goal.returns-clause-any_moment
 returns-clause-any_moment g c =
@@ -51,9 +58,12 @@ returns-clause-any_moment g c =
     let body = drop 22 c.in_ok-body.body.items in
     let spelled = c.in_ok-body.ensures.spelled in
     map_two (λ held. (table : Table) → HoldsTable c.args.self.now held table → SameTable (table_of rows) table)
-    (λ held. (bodies : List (List ℕ)) → RestsIn c.args.self.now.log held bodies → Leaves (s.now old) (s.now new) (s.left old) (s.left new) (λ images. Began (s.now old) (s.left old) images ⊎ OldOrWhole bodies body images))
-    (λ held. (table : Table) → HoldsTable c.args.self.now held table → Leaves (s.now old) (s.now new) (s.left old) (s.left new) (λ images. Began (s.now old) (s.left old) images ⊎ HasTable images table)) (s.reads old)
-    (λ held same each. any_moment_whole c.args.self.now rows body held (s.now old) (s.now new) (s.left old) (s.left new) spelled same each) c.requires.table c.rewrite_in.ensures.any_moment
+    (λ held. (bodies : List (List ℕ)) → RestsIn c.args.self.now.log held bodies → Leaves (s.now old) (s.now new)
+    (s.left old) (s.left new) (λ images. Began (s.now old) (s.left old) images ⊎ OldOrWhole bodies body images))
+    (λ held. (table : Table) → HoldsTable c.args.self.now held table → Leaves (s.now old) (s.now new) (s.left old)
+    (s.left new) (λ images. Began (s.now old) (s.left old) images ⊎ HasTable images table)) (s.reads old)
+    (λ held same each. any_moment_whole c.args.self.now rows body held (s.now old) (s.now new) (s.left old)
+    (s.left new) spelled same each) c.requires.table c.rewrite_in.ensures.any_moment
 
 pub returns-clause-kept : goal.returns-clause-kept
 returns-clause-kept g c =
@@ -64,8 +74,12 @@ returns-clause-kept g c =
     let body = drop 22 c.in_ok-body.body.items in
     let spelled = c.in_ok-body.ensures.spelled in
     let after : Store = record { alloc = c.args.self.now.alloc; log = c.rewrite_in.new.self } in
-    map_both (λ before held. (bodies : List (List ℕ)) → RestsIn c.args.self.now.log before bodies → RestsIn c.rewrite_in.new.self held (body ∷ [])) (λ before held. (table : Table) → HoldsTable c.args.self.now before table → SameTable (table_of rows) table → HoldsTable after held table) (s.reads old) (s.reads new)
-    (λ before held adds. rewritten c.args.self.now after rows body before held spelled adds) c.in_ok-rewrite_in.ensures.rewritten
+    map_both (λ before held. (bodies : List (List ℕ)) → RestsIn c.args.self.now.log before bodies
+    → RestsIn c.rewrite_in.new.self held (body ∷ []))
+    (λ before held. (table : Table) → HoldsTable c.args.self.now before table → SameTable (table_of rows) table
+    → HoldsTable after held table) (s.reads old) (s.reads new)
+    (λ before held adds. rewritten c.args.self.now after rows body before held spelled adds)
+    c.in_ok-rewrite_in.ensures.rewritten
 
 pub returns-clause-every_crash : goal.returns-clause-every_crash
 returns-clause-every_crash g c =
@@ -76,9 +90,12 @@ returns-clause-every_crash g c =
     let body = drop 22 c.in_ok-body.body.items in
     let spelled = c.in_ok-body.ensures.spelled in
     map_two (λ held. (table : Table) → HoldsTable c.args.self.now held table → SameTable (table_of rows) table)
-    (λ held. (bodies : List (List ℕ)) → RestsIn c.args.self.now.log held bodies → (images : Images) (out : List ℕ) → s.left new (s.now new) images out → HasBodies images (body ∷ []))
-    (λ held. (table : Table) → HoldsTable c.args.self.now held table → (images : Images) (out : List ℕ) → s.left new (s.now new) images out → HasTable images table) (s.reads old)
-    (λ held same every table holds images out left. has_same rows body images table spelled (same table holds) (every holds.bodies holds.rests images out left)) c.requires.table c.in_ok-rewrite_in.ensures.every_crash
+    (λ held. (bodies : List (List ℕ)) → RestsIn c.args.self.now.log held bodies → (images : Images) (out : List ℕ)
+    → s.left new (s.now new) images out → HasBodies images (body ∷ []))
+    (λ held. (table : Table) → HoldsTable c.args.self.now held table → (images : Images) (out : List ℕ)
+    → s.left new (s.now new) images out → HasTable images table) (s.reads old)
+    (λ held same every table holds images out left. has_same rows body images table spelled (same table holds)
+    (every holds.bodies holds.rests images out left)) c.requires.table c.in_ok-rewrite_in.ensures.every_crash
 
 pub returns-clause-counts : goal.returns-clause-counts
 returns-clause-counts g c =

@@ -6,7 +6,8 @@ pub returns-clause-every_crash : goal.returns-clause-every_crash
 returns-clause-every_crash g c =
     let s = g.S.Site in
     let new = c.sync.new.site in
-    lasting c.args.self.now (s.reads c.args.site.now) (s.reads new) (s.now new) (s.left new) c.in_ok-sync.ensures.outside.held c.in_ok-sync.ensures.lasts
+    lasting c.args.self.now (s.reads c.args.site.now) (s.reads new) (s.now new) (s.left new)
+    c.in_ok-sync.ensures.outside.held c.in_ok-sync.ensures.lasts
 
 pub returns-clause-kept : goal.returns-clause-kept
 returns-clause-kept g c = λ held table holds.

@@ -15,5 +15,7 @@ returns-clause-spelled c =
     let fits : count < 2 ^ 64 = omega (arith, few count bytes.items c.self.invariant, bytes.ok, bytes.small) in
     let long : bytes.len ≡ length bytes.items = omega (arith, bytes.ok) in
     let within : 30 ≤ bytes.len = omega (arith, bytes.ok, c.self.invariant.room) in
-    let put = count_put bytes.len bytes.items c.deref_mut.result.now new (be_bytes 8 count) long within c.deref_mut.ensures.value (length-be_bytes 8 count) c.put_count.ensures in
-    subst (λ (rows : List Row). SpellsBatch rows body) c.self.view_is (counted count bytes.items body c.self.invariant fits put)
+    let put = count_put bytes.len bytes.items c.deref_mut.result.now new (be_bytes 8 count) long within
+    c.deref_mut.ensures.value (length-be_bytes 8 count) c.put_count.ensures in
+    subst (λ (rows : List Row). SpellsBatch rows body) c.self.view_is
+    (counted count bytes.items body c.self.invariant fits put)
