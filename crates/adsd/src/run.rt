@@ -327,58 +327,41 @@ fn second_more(words: &[String]) -> &str
 /// - `sddl`: the input is the text of a security descriptor, and what is emitted are its bytes in hexadecimal and its
 ///   canonical text, a line each. What is no such text is refused by a line that says where it goes wrong.
 /// - `change`: the input are change records of LDIF, and what is emitted is one frame for each, in order, with the
-///   message that
-///   does what the record says. What is no such text is refused by a line that says where and why.
+///   message that does what the record says. What is no such text is refused by a line that says where and why.
 /// - `load STORE`: the input is LDIF, whose directory is stored in two empty slots, and what is emitted is the number
-///   of its objects.
-///   What is the text of no directory is refused by a line that says where and why.
+///   of its objects. What is the text of no directory is refused by a line that says where and why.
 /// - `serve STORE`: the input are frames, and what is emitted is one output frame for each, after the commit of what
-///   it
-///   changes and before the next one is read. The slots are synced first: until then nothing is emitted, and from
-///   then on
-///   a crash at any moment leaves a store that represents the directory after a prefix of the frames, among which is
-///   each
-///   of whose answer a byte was emitted.
+///   it changes and before the next one is read. The slots are synced first: until then nothing is emitted, and from
+///   then on a crash at any moment leaves a store that represents the directory after a prefix of the frames, among
+///   which is each of whose answer a byte was emitted.
 /// - `settle STORE`: steps of propagation are made until nothing is pending, and what is emitted is how many there
-///   were.
-///   The input isn't read. The slots are synced first: until then nothing is emitted, and from then on a crash at any
-///   moment leaves a store that represents the directory after some number of steps. Slots that represent no
-///   directory
-///   are refused as by `check`.
+///   were. The input isn't read. The slots are synced first: until then nothing is emitted, and from then on a crash
+///   at any moment leaves a store that represents the directory after some number of steps. Slots that represent no
+///   directory are refused as by `check`.
 /// - `check STORE`: what is emitted are four numbers of the directory that the store represents. The input isn't
-///   read, and no slot is
-///   written. Slots that represent no directory are refused by a line that says why.
+///   read, and no slot is written. Slots that represent no directory are refused by a line that says why.
 /// - `audit STORE`: the input are frames, which are run on a directory in memory that begins as the store's, and what
-///   is emitted are
-///   the lines that these accesses leave in the security log, frame by frame. No slot is written.
+///   is emitted are the lines that these accesses leave in the security log, frame by frame. No slot is written.
 /// - `grants STORE`: the input are lines that grant, deny and revoke, and what is emitted is one frame for each, in
-///   order, with the
-///   message that gives the object its new list. What is no such line is refused by a line that says where and why.
-///   No slot is
-///   written, and slots that represent no directory are refused as by `check`.
+///   order, with the message that gives the object its new list. What is no such line is refused by a line that says
+///   where and why. No slot is written, and slots that represent no directory are refused as by `check`.
 /// - `list STORE DN`: what is emitted is what stands in the descriptor of the object of the directory that has this
-///   name, line by line.
-///   The input isn't read, and no slot is written. Where no object has the name, or the text is no name's, a line
-///   says so, and
-///   slots that represent no directory are refused as by `check`.
+///   name, line by line. The input isn't read, and no slot is written. Where no object has the name, or the text is
+///   no name's, a line says so, and slots that represent no directory are refused as by `check`.
 /// - `effective STORE DN`: the input is a token, and what is emitted is what it may do at the object that has this
-///   name, line by line.
-///   No slot is written. Where no object has the name the input isn't read, and a line says so as by `list`.
+///   name, line by line. No slot is written. Where no object has the name the input isn't read, and a line says so as
+///   by `list`.
 /// - `token STORE NAME SID..`: what is emitted is the token that the directory gives the object of this name, with
-///   the further
-///   identifiers, line by line. The input isn't read, and no slot is written. Where there is none a line says why,
-///   and slots that represent
-///   no directory are refused as by `check`.
+///   the further identifiers, line by line. The input isn't read, and no slot is written. Where there is none a line
+///   says why, and slots that represent no directory are refused as by `check`.
 /// - `who STORE RIGHT NAME`: what is emitted is a line for each principal to whose token the right is granted on the
-///   object of this
-///   name, with what decides. All else is as by `token`.
+///   object of this name, with what decides. All else is as by `token`.
 /// - `can STORE NAME RIGHT BASE`: what is emitted is a line for each object at or below BASE on which the right is
-///   granted to the token
-///   of the object of this name, with what decides. BASE may be left out, and is the root then. All else is as by
-///   `token`.
+///   granted to the token of the object of this name, with what decides. BASE may be left out, and is the root then.
+///   All else is as by `token`.
 /// - `sample STORE N`: the sample of size N is loaded into two empty slots and its frames are served there, and what
-///   is emitted are eight
-///   numbers of what came of it. N is a decimal number from 1 to 1,000 without leading zero. The input isn't read.
+///   is emitted are eight numbers of what came of it. N is a decimal number from 1 to 1,000 without leading zero. The
+///   input isn't read.
 ///
 /// The statuses are 0 where the command was done and its input read to the end, 1 where the input isn't of the
 /// command's form, 2 where the words aren't one of the forms, 3 where the slots represent no directory, or for `load`
