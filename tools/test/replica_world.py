@@ -85,14 +85,22 @@ class Host:
         pid, own = str(self.running.pid), os.readlink("/proc/self/ns/net")
         while os.readlink(f"/proc/{pid}/ns/net") == own:
             time.sleep(0.005)
-        Host.count += 1
-        self.link = f"v{Host.count}"
         # (the same address as before, since others keep it for a while)
         own = f"02:00:00:00:00:{self.at:02x}"
+        self.unlink()
+        Host.count += 1
+        self.link = f"v{Host.count}"
         called("ip", "link", "add", self.link, "type", "veth", "peer", "name", "eth0", "address", own, "netns", pid)
         called("ip", "link", "set", self.link, "master", "br0", "up")
         inside = "ip link set lo up; ip addr add %s/24 dev eth0; ip link set eth0 up" % self.address
         called("nsenter", "-t", pid, "-n", "sh", "-c", inside)
+
+    def unlink(self):
+        """Takes away the link that it had. The system keeps a network for a while after its last process has ended, and
+        two of one address would get each other's connections."""
+        if self.link is not None:
+            subprocess.run(["ip", "link", "del", self.link], stderr=subprocess.DEVNULL)
+            self.link = None
 
     def is_running(self):
         return self.running is not None and self.running.poll() is None
@@ -202,7 +210,12 @@ class Replica(Host):
         return positions().Positions(self.store).read().entry
 
     def client(self, name="admin", password="adm1n"):
-        made = Far(self.address, self.port)
+        try:
+            made = Far(self.address, self.port)
+        except ConnectionRefusedError as why:
+            state = "runs" if self.is_running() else "has ended"
+            told = f"replica {self.name} {state} and refuses a connection; its log ends so: {self.said()[-2000:]}"
+            raise ConnectionRefusedError(told) from why
         if name and made.bind(name, password) != "# bind: 0 success":
             made.close()
             raise ConnectionError("not bound")
@@ -263,6 +276,7 @@ class World:
     def __exit__(self, *_):
         for one in (*self.by_name.values(), *self.members):
             one.kill()
+            one.unlink()
         time.sleep(0.1)
         if is_apart():
             for one in self.by_name.values():
