@@ -1,5 +1,5 @@
 -- What a directory keeps stays right where an object gets another descriptor.
-use Rattle.std.proofs.Common.{◌≡◌, ℕ, ◌+◌, true, List, [], Option, Some, None, Result, Ok, Err, inl, inr, refl, sym}
+use Rattle.std.proofs.Common.{◌≡◌, ℕ, ◌+◌, true, List, Option, Some, None, Result, Ok, Err, inl, inr, refl, sym}
 use Rattle.std.proofs.Common.{subst, ap, ◌∙◌, arith}
 use Rattle.std.specs.Prelude.{OnOk, OnErr, Bool}
 use Rattle.std.specs.Option.{option_map_or, option_and_then}
@@ -19,7 +19,7 @@ use Rattle.ad_dir_table.specs.Entry.{Entry, objects_in}
 use Rattle.ad_dir_table.specs.Exact.{name_of}
 use Rattle.ad_dir_table.specs.KeyChanges.{Edits}
 use Rattle.ad_dir_table.specs.Lists.{Moves}
-use Rattle.ad_dir_table.specs.Indexed.{IsIndexed, HasOwnKeys, AreChanges, AreEdited, parent_of, was}
+use Rattle.ad_dir_table.specs.Indexed.{IsIndexed, HasOwnKeys, AreChanges, parent_of}
 use Rattle.ad_dir_table.proofs.IndexLaws.{put_indexed}
 use Rattle.ad_dir_links.specs.Counted.{IsCounted, AreCounted}
 use Rattle.ad_dir.specs.Conditions.{with_sd}
@@ -31,8 +31,8 @@ pub either_holds : {A E : Type 0} (r : Result A E) (P : List Object → Type 0) 
     → OnOk r (objects_in after ≡ put o (objects_in before)) → OnErr r (after ≡ before) → P (objects_in before)
     → P (put o (objects_in before)) → P (objects_in after)
 either_holds (Ok x) P before after o ok err old new = subst P (sym ok) new
-either_holds (Err e) P before after o ok err old new = subst (λ (entries : List Entry). P (objects_in entries)) (sym err)
-    old
+either_holds (Err e) P before after o ok err old new =
+    subst (λ (entries : List Entry). P (objects_in entries)) (sym err) old
 
 -- no key changes
 abbrev none : Changes
@@ -82,8 +82,8 @@ module _ (schema : List SchemaRecord) (objects : List Object) (number : ℕ) (sd
     parents = inl (record { same = ap (option_and_then parent_of) here; no_put = refl; no_take = refl });
   }
 
-  pub described_indexed : (index : Index) → Rise objects → HasOwnKeys schema objects now → IsIndexed schema index objects
-      → IsIndexed schema index (put now objects)
+  pub described_indexed : (index : Index) → Rise objects → HasOwnKeys schema objects now
+      → IsIndexed schema index objects → IsIndexed schema index (put now objects)
   described_indexed index rise own indexed =
       put_indexed schema index index none now objects rise own no_changes
       (record { names = no_edit now.number _; sids = no_edit now.number _; children = no_move now.number _ }) indexed

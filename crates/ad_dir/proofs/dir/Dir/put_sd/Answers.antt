@@ -1,6 +1,5 @@
-use Rattle.std.proofs.Common.{◌≡◌, ◌∙◌, ℕ, Bool, List, true, sym, ap, subst}
+use Rattle.std.proofs.Common.{◌≡◌, ◌∙◌, true, sym, ap, subst}
 use Rattle.ad_sd.specs.declared.parts.Sd.{Sd}
-use Rattle.ad_sd.specs.SdIn.{sd_in}
 use Rattle.ad_sd.specs.Normal.{SpellsNormal}
 use Rattle.ad_sd.proofs.NormalReader.{spelled_in}
 use Rattle.ad_dir_model.specs.Object.{Object}
