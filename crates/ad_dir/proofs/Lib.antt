@@ -9,5 +9,6 @@ pub mod Few
 pub mod AllMay
 pub mod Loading
 pub mod WeighingLaws
+pub mod Describing
 mod HolderLaws
 mod HolderLists

@@ -3,6 +3,7 @@ use Rattle.std.specs.Prelude.{◌≡◌, ◌≢◌, ℕ, ◌-◌, ◌^◌, ◌<�
 use Rattle.std.specs.List.{AllByRecursion}
 use Rattle.prop_queue.specs.declared.pending.Pending.{Pending}
 use Rattle.prop_queue.specs.Pending.{is_pending, AreDistinct}
+use Rattle.ad_sd.specs.declared.parts.Sd.{Sd}
 use Rattle.ad_sd.specs.Normal.{SpellsNormal}
 use Rattle.ad_sd.specs.SdIn.{sd_in}
 use Rattle.ad_dir_objects.specs.declared.edit.Edit.{Edit as EditIn}
@@ -13,6 +14,10 @@ use Rattle.ad_dir_model.specs.Objects.{object_of, is_live, parent_at, put}
 use Rattle.ad_dir_model.specs.Tree.{root, IsPlaced}
 use Rattle.ad_dir_model.specs.Directory.{Directory, Edit, put_object, remove_object, put_queue, put_meta}
 use Rattle.ad_dir_model.specs.Conditions.{Fits}
+
+-- the object with another descriptor, and nothing else of it changed
+abbrev pub with_sd : Sd → Object → Object
+with_sd sd o = record o { sd = sd }
 
 -- the bytes are the normal bytes of the descriptor that they are read as
 abbrev pub IsNormal : List ℕ → Type 0

@@ -6,8 +6,9 @@ ghost use Rattle.std.specs.Str.{IsUtf8};
 ghost use Rattle.ad_dir_model.specs.Identity.{self_sid, with_sid};
 ghost use Rattle.ad_dir_model.specs.Names.{child_named};
 ghost use Rattle.ad_sd.specs.Seen.{seen};
-ghost use Rattle.ad_dir_model.specs.Objects.{object_of, is_live, sd_at, children, next_child, numbers};
-ghost use Rattle.ad_dir_model.specs.Directory.{edited};
+ghost use Rattle.ad_dir_model.specs.Objects.{object_at, object_of, is_live, sd_at, children, next_child};
+ghost use Rattle.ad_dir_model.specs.Objects.{numbers};
+ghost use Rattle.ad_dir_model.specs.Directory.{edited, put_object};
 ghost use Rattle.ad_dir_model.specs.Weight.{weight};
 ghost use Rattle.prop_queue.specs.Pending.{AreDistinct};
 ghost use Rattle.ad_dir_table.specs.Entry.{objects_in};
@@ -18,7 +19,7 @@ ghost use Rattle.ad_dir.specs.Holders.{IsNextHolder};
 ghost use Rattle.ad_dir.specs.Values.{IsNextWith, IsNextNamed};
 ghost use Rattle.ad_dir.specs.Standing.{AreStanding};
 ghost use Rattle.ad_dir.specs.Listing.{next_number, descriptor_count};
-ghost use Rattle.ad_dir.specs.Conditions.{MayApply};
+ghost use Rattle.ad_dir.specs.Conditions.{MayApply, MayPut, with_sd};
 ghost use Rattle.ad_dir_objects.specs.declared.edit.Edit.TheVariants as Edit;
 
 use crate::weight::{if_put, weight_of_all, weight_with, weight_without};
@@ -391,6 +392,22 @@ impl Dir {
                 Ok(())
             }
         }
+    }
+
+    /// Gives a live object this descriptor: the edit that puts the object with it. Nothing else of the object is
+    /// looked at.
+    ///
+    /// # Errors
+    ///
+    /// Out of memory. The directory stays as it was.
+    pub fn put_sd(&mut self, number: u32, sd: &NormalSd) -> Result<(), AllocError>
+        requires live { is_live self.old.objects number ≡ true }
+        requires may { MayPut self.old (with_sd sd.now (object_at self.old.objects number)) }
+        ensures ok { OnOk result (self.new
+            ≡ edited (put_object (with_sd sd.now (object_at self.old.objects number))) self.old) }
+        ensures err { OnErr result (self.new ≡ self.old) }
+    {
+        self.objects.put_sd(number, sd.as_bytes())
     }
 
     fn put_object(&mut self, object: Object, bytes: Vec<u8>) -> Result<(), AllocError>

@@ -4,7 +4,7 @@ use Rattle.std.proofs.Common.{None, refl, sym, subst, ap, ◌∙◌, if◌then�
 use Rattle.std.specs.Prelude.{option_map}
 use Rattle.std.specs.Option.{IfSome, IfNone}
 use Rattle.std.specs.List.{AllByRecursion}
-use Rattle.std.specs.Map.{lookup, remove_entry, keys_of}
+use Rattle.std.specs.Map.{lookup, set_value, remove_entry, keys_of}
 use Rattle.std.specs.BTreeMap.{insert_entry, is_at}
 use Rattle.std.specs.List.Sorted.{IsStrictlySortedBy}
 use Rattle.std.specs.Ordering.{nat_cmp, is_eq, match_ordering}
@@ -12,6 +12,7 @@ use Rattle.std.specs.declared.cmp.Ordering.{Ordering}
 use Rattle.std.specs.declared.cmp.Ordering.TheVariants.{Less, Equal, Greater}
 use Rattle.std.proofs.lemmas.Bool.{cases_Bool, eq-eqb}
 use Rattle.std.proofs.lemmas.Bool.Decides.{nat_tests}
+use Rattle.std.proofs.lemmas.Option.{none-some}
 use Rattle.ad_schema.specs.declared.line.SchemaRecord.{SchemaRecord}
 use Rattle.ad_sd.specs.SdIn.{sd_in}
 use Rattle.ad_sd.specs.Normal.{SpellsNormal}
@@ -59,6 +60,47 @@ none_at n [] above = refl
 none_at n (entry ∷ entries) above =
     ap (λ (o : Ordering). cond (is_eq o) (Some entry.1) (lookup (is_at (nat_cmp n)) entries)) above.0
     ∙ none_at n entries above.1
+
+-- what is written at a number that stands there is put in its place
+pub set_inserted : (n : ℕ) (kept was : Kept) (entries : List (ℕ × Kept)) → IsStrictlySortedBy nat_cmp
+    (keys_of entries) → lookup (is_at (nat_cmp n)) entries ≡ Some was
+    → set_value (is_at (nat_cmp n)) entries kept ≡ insert_entry nat_cmp entries n kept
+unfolding IsStrictlySortedBy
+set_inserted n kept was [] sorted found = absurd (none-some was found)
+set_inserted n kept was (entry ∷ entries) sorted found = by_case (nat_cmp n entry.0) refl
+    (set_inserted n kept was entries sorted.1)
+  where
+    step : (o : Ordering) → nat_cmp n entry.0 ≡ o
+        → cond (is_eq o) ((entry.0, kept) ∷ entries) (entry ∷ set_value (is_at (nat_cmp n)) entries kept)
+        ≡ match_ordering o ((n, kept) ∷ entry ∷ entries) ((entry.0, kept) ∷ entries)
+        (entry ∷ insert_entry nat_cmp entries n kept)
+        → set_value (is_at (nat_cmp n)) (entry ∷ entries) kept ≡ insert_entry nat_cmp (entry ∷ entries) n kept
+    step o is e =
+        subst (λ (p : Ordering). cond (is_eq p) ((entry.0, kept) ∷ entries)
+        (entry ∷ set_value (is_at (nat_cmp n)) entries kept)
+        ≡ match_ordering p ((n, kept) ∷ entry ∷ entries) ((entry.0, kept) ∷ entries)
+        (entry ∷ insert_entry nat_cmp entries n kept)) (sym is) e
+
+    found_as : (o : Ordering) → nat_cmp n entry.0 ≡ o
+        → cond (is_eq o) (Some entry.1) (lookup (is_at (nat_cmp n)) entries) ≡ Some was
+    found_as o is =
+        subst (λ (p : Ordering). cond (is_eq p) (Some entry.1) (lookup (is_at (nat_cmp n)) entries) ≡ Some was) is
+        found
+
+    later : nat_cmp n entry.0 ≡ Less → (ks : List ℕ) → AllByRecursion (λ (k : ℕ). nat_cmp entry.0 k ≡ Less) ks
+        → AllByRecursion (λ (k : ℕ). nat_cmp n k ≡ Less) ks
+    later before [] all = tt
+    later before (k ∷ ks) all = (less_through n entry.0 k before all.0, later before ks all.1)
+
+    by_case : (o : Ordering) → nat_cmp n entry.0 ≡ o
+        → (lookup (is_at (nat_cmp n)) entries ≡ Some was
+        → set_value (is_at (nat_cmp n)) entries kept ≡ insert_entry nat_cmp entries n kept)
+        → set_value (is_at (nat_cmp n)) (entry ∷ entries) kept ≡ insert_entry nat_cmp (entry ∷ entries) n kept
+    by_case Less is rest =
+        absurd (none-some was (sym (none_at n entries (later is (keys_of entries) sorted.0)) ∙ found_as Less is))
+    by_case Equal is rest = step Equal is refl
+    by_case Greater is rest = step Greater is
+        (ap (λ (es : List (ℕ × Kept)). entry ∷ es) (rest (found_as Greater is)))
 
 abbrev counted_in : ℕ → Option Kept → ℕ
 counted_in id was = one_of id (option_map (λ (k : Kept). k.id) was)

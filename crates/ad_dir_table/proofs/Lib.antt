@@ -11,3 +11,4 @@ pub mod MapLaws
 pub mod ExactLaws
 pub mod ChildLaws
 pub mod IndexLaws
+pub mod Describing

@@ -25,6 +25,10 @@ sd_of live id = sd_in (bytes_at live id)
 abbrev pub object_kept : List Extent → Kept → Object
 object_kept live kept = object_seen kept.object (sd_of live kept.id.0)
 
+-- the object with another id of its descriptor
+abbrev pub with_id : SdId → Kept → Kept
+with_id id kept = record kept { id = id }
+
 abbrev pub kept_sid : Kept → Option SidValue
 kept_sid kept = if kept.has_sid then Some kept.sid else None
 

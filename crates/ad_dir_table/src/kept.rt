@@ -1,6 +1,6 @@
 //! The objects by their numbers, each with the id of its descriptor.
 
-ghost use Rattle.std.specs.Prelude.{◌≡◌, OnOk, OnErr, IfOk, IfSome, option_map, List};
+ghost use Rattle.std.specs.Prelude.{◌≡◌, OnOk, OnErr, IfOk, IfSome, MatchOption, option_map, List};
 ghost use Rattle.std.specs.Option.{option_copied};
 ghost use Rattle.std.specs.BTreeMap.{IsOrdered, insert_entry, is_at};
 ghost use Rattle.std.specs.Map.{lookup, remove_entry};
@@ -14,7 +14,7 @@ ghost use Rattle.ad_dir_objects.specs.Seen.{object_seen};
 ghost use Rattle.ad_dir_table.specs.Entry.{HasItsSid};
 ghost use Rattle.ad_dir_table.specs.Listing.{next_number};
 ghost use Rattle.ad_dir_table.specs.Fields.{AllKept, AreKeyed, HasNormal, entry_kept, kept_sid, object_kept};
-ghost use Rattle.ad_dir_table.specs.Fields.{objects_kept};
+ghost use Rattle.ad_dir_table.specs.Fields.{objects_kept, with_id};
 
 use crate::shelf::Shelf;
 use ad_dir_objects::{Object, object_sid};
@@ -146,6 +146,23 @@ pub(crate) fn put(
     match objects.insert(number, shelf) {
         Ok(was) => Ok(id_of(was)),
         Err(_) => Err(AllocError),
+    }
+}
+
+/// Gives the object of a number another id of its descriptor. Answers the one before, and none where there is no
+/// object of the number.
+pub(crate) fn set_id(objects: &mut BTreeMap<u32, Shelf>, number: u32, id: SdId) -> Option<SdId>
+    ensures entries { MatchOption (lookup (is_at (nat_cmp number)) objects.old.entries)
+        (objects.new.entries ≡ objects.old.entries)
+        (λ kept. objects.new.entries ≡ insert_entry nat_cmp objects.old.entries number
+        (with_id id kept)) }
+    ensures was { result ≡ option_map (λ k. k.id)
+        (lookup (is_at (nat_cmp number)) objects.old.entries) }
+    ensures ordered { IsOrdered nat_cmp objects.new }
+{
+    match objects.get_mut(&number) {
+        Some(shelf) => Some(shelf.set_id(id)),
+        None => None,
     }
 }
 

@@ -10,7 +10,7 @@ ghost use Rattle.ad_sd.specs.Normal.{SpellsNormal};
 ghost use Rattle.sd_pool.specs.Pool.{is_live as is_held};
 ghost use Rattle.sd_pool.specs.Sharers.{bytes_at};
 ghost use Rattle.ad_dir_model.specs.Identity.{sid_in};
-ghost use Rattle.ad_dir_model.specs.Objects.{object_of, is_live, sd_at, numbers, put, removed};
+ghost use Rattle.ad_dir_model.specs.Objects.{object_at, object_of, is_live, sd_at, numbers, put, removed};
 ghost use Rattle.ad_dir_objects.specs.Seen.{object_seen};
 ghost use Rattle.ad_dir_table.specs.Entry.{objects_in, HaveTheirSids};
 ghost use Rattle.ad_dir_table.specs.Listing.{next_number, descriptor_count};
@@ -154,6 +154,26 @@ impl Objects {
             self.new.entries }
     {
         parts::put(&mut self.parts, schema, object, bytes)
+    }
+
+    /// Gives the object of a number the descriptor of these normal bytes, and changes nothing else of it. There are
+    /// fewer than 2^32 - 1 objects. The new bytes are put before the old ones are given back.
+    ///
+    /// # Errors
+    ///
+    /// Out of memory. The objects and their descriptors stay as they were.
+    pub fn put_sd(&mut self, number: u32, bytes: &[u8]) -> Result<(), AllocError>
+        requires live { is_live (objects_in self.old.entries) number ≡ true }
+        requires few { length self.old.entries < 2 ^ 32 - 1 }
+        requires normal { SpellsNormal (sd_in bytes.now) bytes.now }
+        ensures ok { OnOk result (objects_in self.new.entries
+            ≡ put (record (object_at (objects_in self.old.entries) number) { sd = sd_in bytes.now })
+            (objects_in self.old.entries)) }
+        ensures err { OnErr result (self.new.entries ≡ self.old.entries) }
+        ensures sids { (schema : List SchemaRecord) → HaveTheirSids schema self.old.entries
+            → HaveTheirSids schema self.new.entries }
+    {
+        parts::put_sd(&mut self.parts, number, bytes)
     }
 
     /// Takes the object of a number out. It takes no memory.

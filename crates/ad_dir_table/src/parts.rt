@@ -10,7 +10,7 @@ ghost use Rattle.ad_sd.specs.Normal.{SpellsNormal};
 ghost use Rattle.sd_pool.specs.Pool.{is_live};
 ghost use Rattle.sd_pool.specs.Sharers.{bytes_at};
 ghost use Rattle.ad_dir_model.specs.Identity.{sid_in};
-ghost use Rattle.ad_dir_model.specs.Objects.{object_of, sd_at, put, removed};
+ghost use Rattle.ad_dir_model.specs.Objects.{object_at, object_of, sd_at, put, removed};
 ghost use Rattle.ad_dir_model.specs.Objects as Objects;
 ghost use Rattle.ad_dir_objects.specs.Seen.{object_seen};
 ghost use Rattle.ad_dir_table.specs.Entry.{objects_in, HaveTheirSids};
@@ -159,6 +159,31 @@ pub(crate) fn put(
             Err(error)
         }
     }
+}
+
+/// Gives the object of a number the descriptor of these normal bytes.
+///
+/// # Errors
+///
+/// Out of memory. What is seen stays.
+pub(crate) fn put_sd(parts: &mut Parts, number: u32, bytes: &[u8]) -> Result<(), AllocError>
+    requires kept { IsKept parts.old }
+    requires live { Objects.is_live (objects_in (entries_of parts.old)) number ≡ true }
+    requires few { length (entries_of parts.old) < 2 ^ 32 - 1 }
+    requires normal { SpellsNormal (sd_in bytes.now) bytes.now }
+    ensures kept { IsKept parts.new }
+    ensures ok { OnOk result (objects_in (entries_of parts.new)
+        ≡ put (record (object_at (objects_in (entries_of parts.old)) number) { sd = sd_in bytes.now })
+        (objects_in (entries_of parts.old))) }
+    ensures err { OnErr result (entries_of parts.new ≡ entries_of parts.old) }
+    ensures sids { (schema : List SchemaRecord) → HaveTheirSids schema (entries_of parts.old)
+        → HaveTheirSids schema (entries_of parts.new) }
+{
+    parts.pool.is_one();
+    let id = pooled::put(&mut parts.pool, bytes)?;
+    let was = kept::set_id(&mut parts.kept, number, id);
+    pooled::give_back_if(&mut parts.pool, was);
+    Ok(())
 }
 
 /// Takes the object of a number out. It takes no memory.

@@ -1,6 +1,7 @@
 //! An object behind a pointer, so that a node of the map is small.
 
 ghost use Rattle.std.specs.Prelude.{◌≡◌, IfOk};
+ghost use Rattle.ad_dir_table.specs.Fields.{with_id};
 
 use crate::kept::Kept;
 use sd_pool::SdId;
@@ -35,5 +36,15 @@ impl Shelf {
         ensures { result.now ≡ self.now }
     {
         &self.kept
+    }
+
+    /// Another id of the descriptor. Answers the one before.
+    pub fn set_id(&mut self, id: SdId) -> SdId
+        ensures new { self.new ≡ with_id id self.old }
+        ensures was { result ≡ self.old.id }
+    {
+        let was = self.kept.id;
+        self.kept.id = id;
+        was
     }
 }

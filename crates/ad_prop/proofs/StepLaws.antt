@@ -33,8 +33,10 @@ use Rattle.ad_dir_model.proofs.EditLaws.{edited_append}
 use Rattle.ad_dir_model.proofs.Finding.{of-live, at_number}
 use Rattle.ad_dir_model.proofs.PendingLaws.{AreLive}
 use Rattle.ad_dir_model.proofs.StepSound.{IsNext, next_is, child_below, sid_with_sd, step_sound}
-use Rattle.ad_prop.specs.Step.{MakeStep, MakeStepBeside}
-use Rattle.ad_prop.specs.Turn.{IsTurn, AreEdits, AreAllEdits}
+use Rattle.ad_prop.specs.Step.{MakeStep, MakeStepBeside, TakesTurn}
+use Rattle.ad_prop.specs.Turn.{IsTurn, AreEdits, AreAllEdits, IsGiven}
+use Rattle.ad_prop.specs.declared.turning.Turn.{Turn}
+use Rattle.ad_prop.specs.declared.turning.Turn.TheVariants as turn_is
 
 -- ---- the head
 
@@ -174,6 +176,36 @@ head_step dir old new head edits at is none dropped = record {
   may = subst (MayApplyAll dir) (sym none) tt;
   make = ap (λ (es : List EditIn). with_pending new (all_edited (map edit_seen es) dir)) none
       ∙ ap (λ (ps : List Pending). with_pending ps dir) dropped
+      ∙ sym (ap (head_stepped (with_pending old dir) (drop 1 old)) is)
+      ∙ sym (ap (stepped (with_pending old dir)) (head_is old head at));
+}
+
+-- ---- the turn of a step
+
+pub child_takes : (dir : Directory) (old new : List Pending) (head : Pending) (child : ℕ) (taken : Turn)
+    → IsSound (with_pending old dir) → slice_get old 0 ≡ Some head
+    → next_child dir.objects head.parent head.cursor ≡ Some child → IsGiven dir child taken
+    → new ≡ marked_if_changed (sd_at dir.objects child) (settled dir (object_at dir.objects child)) (advanced child old)
+    → TakesTurn dir old new taken
+child_takes dir old new head child taken sound at is given marks = subst (TakesTurn dir old new) (sym given) (record {
+  pending = not_empty old head at;
+  may = (live, child_may_put dir old child sound live);
+  make = ap (λ (d : Directory). with_pending new d) (puts_one dir (new_child dir child))
+      ∙ ap (λ (ps : List Pending). with_pending ps (with_objects (put (new_child dir child) dir.objects) dir)) marks
+      ∙ sym (child_is_step dir old head child live at is);
+})
+  where
+    live : is_live dir.objects child ≡ true
+    live = (next_of dir old head child sound is).live
+
+pub head_takes : (dir : Directory) (old new : List Pending) (head : Pending) → slice_get old 0 ≡ Some head
+    → next_child dir.objects head.parent head.cursor ≡ None → new ≡ drop 1 old
+    → TakesTurn dir old new turn_is.Head
+unfolding step all_edited
+head_takes dir old new head at is dropped = record {
+  pending = not_empty old head at;
+  may = tt;
+  make = ap (λ (ps : List Pending). with_pending ps dir) dropped
       ∙ sym (ap (head_stepped (with_pending old dir) (drop 1 old)) is)
       ∙ sym (ap (stepped (with_pending old dir)) (head_is old head at));
 }

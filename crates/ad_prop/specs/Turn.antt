@@ -9,6 +9,9 @@ use Rattle.ad_dir_objects.specs.Seen.{edit_seen}
 use Rattle.ad_dir_model.specs.Objects.{object_at, is_live, parent_at}
 use Rattle.ad_dir_model.specs.Tree.{root}
 use Rattle.ad_dir_model.specs.Directory.{Directory, Edit, put_queue}
+use Rattle.ad_dir_model.specs.Inheritance.{whole_at}
+use Rattle.ad_prop.specs.declared.turning.Turn.{Turn}
+use Rattle.ad_prop.specs.declared.turning.Turn.TheVariants as turn
 
 -- It is a live object below the root, with a live parent and a class of the schema.
 pub record IsTurn (dir : Directory) (child : ℕ) : Type 0 where
@@ -26,3 +29,7 @@ pub record AreEdits (seen : List Edit) (edits : List EditIn) : Type 0 where
 abbrev pub AreAllEdits : List EditIn → List Pending → List EditIn → Type 0
 AreAllEdits edits queue all = (last : EditIn) × (all ≡ edits ++ last ∷ []) × (edit_seen last ≡ put_queue queue)
     × HasNormal last
+
+-- the child gets the descriptor that it should have
+abbrev pub IsGiven : Directory → ℕ → Turn → Type 0
+IsGiven dir child taken = taken ≡ turn.Child child (whole_at dir (object_at dir.objects child))

@@ -2,15 +2,16 @@
 
 ghost use Rattle.std.specs.Prelude.{◌≡◌, ◌++◌, ◌∷◌, [], ℕ, List, Some, if◌then◌else◌, IfOk, OnOk, OnErr};
 ghost use Rattle.row_store.specs.Table.{is_of};
-ghost use Rattle.ad_dir_model.specs.Directory.{Edit as EditOf};
+ghost use Rattle.ad_dir_model.specs.Directory.{Edit as EditOf, put_object};
 ghost use Rattle.ad_dir.specs.Conditions.{HasNormal};
-ghost use Rattle.ad_dir_objects.specs.Seen.{edit_seen};
+ghost use Rattle.ad_dir_objects.specs.Seen.{edit_seen, object_seen};
 ghost use Rattle.ad_rows_write.specs.Batch.{AreRowsOfEdits, RowsRise, row_at};
 ghost use Rattle.ad_rows_write.specs.Noted.{rows_noted};
 
-use crate::rows::row_of;
+use crate::rows::{row_of, row_with};
 use ad_bytes::Bytes;
-use ad_dir::Edit;
+use ad_dir::{Edit, Object};
+use ad_sd::NormalSd;
 use row_store::Row;
 use std::alloc::{AllocError, Global};
 use std::collections::BTreeMap;
@@ -58,6 +59,20 @@ impl Batch {
         ensures err { OnErr result (self.new ≡ self.old) }
     {
         let row = row_of(self.alloc, edit)?;
+        put(&mut self.noted, row)
+    }
+
+    /// Notes the row of the edit that puts an object with this descriptor, as [`note`](Batch::note) does.
+    ///
+    /// # Errors
+    ///
+    /// Out of memory. What was noted stays.
+    pub fn note_object(&mut self, object: &Object, sd: &NormalSd) -> Result<(), AllocError>
+        ensures noted { OnOk result ((edits : List EditOf) → AreRowsOfEdits edits self.old
+            → AreRowsOfEdits (edits ++ put_object (object_seen object.now sd.now) ∷ []) self.new) }
+        ensures err { OnErr result (self.new ≡ self.old) }
+    {
+        let row = row_with(self.alloc, object, sd)?;
         put(&mut self.noted, row)
     }
 

@@ -4,6 +4,7 @@ ghost use Rattle.std.specs.Prelude.{◌≡◌, IfOk};
 ghost use Rattle.ad_sd.specs.declared.parts.Sd.{Sd as SdValue};
 ghost use Rattle.ad_sd.specs.Normal.{SpellsNormal};
 ghost use Rattle.ad_dir.specs.Conditions.{HasNormal};
+ghost use Rattle.ad_dir_model.specs.Directory.{put_object};
 ghost use Rattle.ad_dir_objects.specs.Seen.{edit_seen, meta_seen, object_seen};
 ghost use Rattle.ad_dn.specs.Value.{AreRdns};
 ghost use Rattle.ad_rows_write.specs.Body.{SpellsMeta, SpellsObject, SpellsQueue};
@@ -13,6 +14,7 @@ use crate::writing::{put_bytes, put_list, put_text, put4};
 use ad_bytes::Bytes;
 use ad_dir::{Edit, Meta, Object, Stored};
 use ad_dn::Dn;
+use ad_sd::NormalSd;
 use prop_queue::Pending;
 use row_store::Row;
 use std::alloc::{AllocError, Global};
@@ -45,6 +47,18 @@ pub fn row_of(alloc: Global, edit: &Edit) -> Result<Row, AllocError>
         Edit::PutQueue(pending) => Ok(row(QUEUE, 0, queue_body(alloc, pending)?)),
         Edit::PutMeta(meta) => Ok(row(META, 0, meta_body(alloc, meta)?)),
     }
+}
+
+/// The row of an object with this descriptor.
+///
+/// # Errors
+///
+/// Out of memory.
+pub(crate) fn row_with(alloc: Global, object: &Object, sd: &NormalSd) -> Result<Row, AllocError>
+    ensures { IfOk result (λ row. IsRowOf (put_object (object_seen object.now sd.now)) row) }
+{
+    let body = object_body(alloc, object, sd.as_bytes())?;
+    Ok(row(OBJECTS, u64::from(object.number), body))
 }
 
 /// A row with a body.
