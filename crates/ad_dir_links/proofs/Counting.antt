@@ -1,7 +1,7 @@
 -- What one count more or less makes of what is counted.
-use Rattle.std.proofs.Common.{◌≡◌, ℕ, suc, ◌+◌, ◌<◌, ◌≤◌, ◌^◌, Result, Ok, Err, List, [], ◌∷◌, ◌++◌, inl, inr, refl}
+use Rattle.std.proofs.Common.{◌≡◌, ℕ, suc, ◌+◌, ◌<◌, ◌≤◌, ◌^◌, List, [], ◌∷◌, ◌++◌, inl, inr, refl}
 use Rattle.std.proofs.Common.{sym, subst, ap, ◌∙◌, arith}
-use Rattle.std.specs.Prelude.{nat_eq, take, length, OnOk}
+use Rattle.std.specs.Prelude.{nat_eq, take, length}
 use Rattle.std.proofs.Common.{get_or}
 use Rattle.std.proofs.lemmas.List.{take_more, take_all}
 use Rattle.std.proofs.lemmas.Bool.{cases_Bool, eqb-true, eqb-false, eq-eqb, ne_eqb}
@@ -134,15 +134,13 @@ recount_dropped one target key old new was count small is had less here others =
     dropped_one one target old new count (recounted one target key old new count small is here others)
     (λ n covers. less n (subst (λ (c : ℕ). Covers c (suc n)) (ap (count_in old) (sym is) ∙ sym had) covers))
 
-pub recount_added : {A E : Type 0} (r : Result A E) (one target key : ℕ) (old new : List (ℕ × ℕ)) (was count : ℕ)
-    → one < 2 ^ 32 → key ≡ pair_key target one → was ≡ count_in old key
-    → ((n : ℕ) → Covers was n → Covers count (suc n)) → OnOk r (count_in new key ≡ count)
-    → OnOk r ((other : ℕ) → (other ≡ key → ⊥) → count_in new other ≡ count_in old other)
-    → OnOk r (Adds one (target ∷ []) old new)
-recount_added (Ok x) one target key old new was count small is had more here others =
+pub recount_added : (one target key : ℕ) (old new : List (ℕ × ℕ)) (was count : ℕ) → one < 2 ^ 32 → key
+    ≡ pair_key target one → was ≡ count_in old key
+    → ((n : ℕ) → Covers was n → Covers count (suc n)) → count_in new key ≡ count
+    → ((other : ℕ) → (other ≡ key → ⊥) → count_in new other ≡ count_in old other) → Adds one (target ∷ []) old new
+recount_added one target key old new was count small is had more here others =
     added_one one target old new count (recounted one target key old new count small is here others)
     (λ n covers. more n (subst (λ (c : ℕ). Covers c n) (ap (count_in old) (sym is) ∙ sym had) covers))
-recount_added (Err e) one target key old new was count small is had more here others = tt
 
 -- ---- one after the other
 

@@ -1,6 +1,6 @@
 //! The counts: how many links lead from a holder to a target, by both numbers.
 
-ghost use Rattle.std.specs.Prelude.{◌≡◌, ◌≢◌, ◌<◌, ◌^◌, ℕ, suc, [], ◌∷◌, OnOk, OnErr};
+ghost use Rattle.std.specs.Prelude.{◌≡◌, ◌≢◌, ◌<◌, ◌^◌, ℕ, suc, [], ◌∷◌, IfOk, OnOk, OnErr};
 ghost use Rattle.ad_dir_links.specs.Counted.{Covers, Adds, Drops, Keeps, count_in, pair_key};
 
 use std::alloc::{AllocError, Global};
@@ -46,15 +46,17 @@ fn without_one(count: u32) -> u32
     count.saturating_sub(1)
 }
 
-// Puts a count.
-fn insert_count(links: &mut Links, key: u64, count: u32) -> Result<(), AllocError>
-    ensures here { OnOk result (count_in links.new.entries key ≡ count) }
+// Puts the count of one link, and answers the count that stood there.
+fn insert_one(links: &mut Links, key: u64) -> Result<u32, AllocError>
+    ensures was { IfOk result (λ was. was ≡ count_in links.old.entries key) }
+    ensures here { OnOk result (count_in links.new.entries key ≡ 1) }
     ensures others { OnOk result ((other : ℕ) → other ≢ key → count_in links.new.entries other
         ≡ count_in links.old.entries other) }
     ensures err { OnErr result (links.new.entries ≡ links.old.entries) }
 {
-    match links.insert(key, count) {
-        Ok(_) => Ok(()),
+    match links.insert(key, 1) {
+        Ok(Some(was)) => Ok(was),
+        Ok(None) => Ok(0),
         Err(_) => Err(AllocError),
     }
 }
@@ -75,14 +77,28 @@ fn replace_count(links: &mut Links, key: u64, count: u32)
     }
 }
 
-// Counts one link more.
+// Puts a count in the place of one link's. It takes no memory.
+fn put_count(links: &mut Links, key: u64, count: u32)
+    requires { count_in links.old.entries key ≡ 1 }
+    ensures here { count_in links.new.entries key ≡ count }
+    ensures others { (other : ℕ) → other ≢ key → count_in links.new.entries other
+        ≡ count_in links.old.entries other }
+{
+    if count != 1 {
+        replace_count(links, key, count);
+    }
+}
+
+// Counts one link more. Mostly it is the first of its pair, and then its place is sought once.
 fn add_one(links: &mut Links, holder: u32, target: u32) -> Result<(), AllocError>
     ensures ok { OnOk result (Adds holder (target ∷ []) links.old.entries links.new.entries) }
     ensures err { OnErr result (links.new.entries ≡ links.old.entries) }
 {
     let key = pair_key(target, holder);
-    let count = with_one(count_at(links, key));
-    insert_count(links, key, count)
+    let was = insert_one(links, key)?;
+    let count = with_one(was);
+    put_count(links, key, count);
+    Ok(())
 }
 
 /// Counts one link less. It takes no memory.
