@@ -4,6 +4,7 @@ use Rattle.std.specs.Prelude.{pos, Ok, ◌⊎◌}
 use Rattle.ad_bytes.specs.Reading.{StartsWith, SpellsEach}
 use Rattle.ad_ber.specs.Element.{SpellsElement}
 use Rattle.ad_ber.specs.Integer.{integer_of}
+use Rattle.ad_ldap.specs.Tags.{octet_string}
 
 -- nothing
 abbrev pub IsEmpty : List ℕ → Type 0
@@ -41,4 +42,4 @@ SpellsDefault tag truth text = SpellsBoolean tag truth text ⊎ ((truth ≡ fals
 
 -- octet strings, one after the other
 abbrev pub SpellsValues : List (List ℕ) → List ℕ → Type 0
-SpellsValues values text = SpellsEach (SpellsOctets 4) values text
+SpellsValues values text = SpellsEach (SpellsOctets octet_string) values text

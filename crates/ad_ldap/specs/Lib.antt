@@ -1,4 +1,7 @@
 pub mod Limits
+pub mod ResultCodes
+pub mod Tags
+pub mod Choices
 pub mod FilterValue
 pub mod MessageValue
 pub mod Elements

@@ -7,24 +7,26 @@ use Rattle.ad_ldap.specs.Limits.{most_int}
 use Rattle.ad_ldap.specs.MessageValue.{MessageValue}
 use Rattle.ad_ldap.specs.Reading.{form, begins, body_at, ended, number_at, option_at, default_at, inside_at, each_of}
 use Rattle.ad_ldap.specs.RequestReading.{op_at}
+use Rattle.ad_ldap.specs.Tags.{octet_string, boolean, tag_of_controls, sequence, integer}
 
 unfoldable pub control_of : ℕ → List ℕ → Result Control LdapFault
 control_of end bytes = do
-  oid ← body_at 4 end bytes
-  critical ← default_at 1 end oid.1
-  value ← option_at 4 end critical.1
+  oid ← body_at octet_string end bytes
+  critical ← default_at boolean end oid.1
+  value ← option_at octet_string end critical.1
   _ ← ended end value.1
   Ok (record { oid = oid.0; critical = critical.0; value = value.0 })
 
 -- the controls, where they begin here
 unfoldable pub controls_at : ℕ → List ℕ → Reading (List Control) LdapFault
-controls_at end bytes = if begins 160 bytes then inside_at 160 (each_of (inside_at 48 control_of)) end bytes
+controls_at end bytes = if begins tag_of_controls bytes then inside_at tag_of_controls
+    (each_of (inside_at sequence control_of)) end bytes
     else Ok ([], bytes)
 
 -- the number of a message, which isn't 0
 unfoldable pub id_at : ℕ → List ℕ → Reading ℕ LdapFault
 id_at end bytes = do
-  id ← number_at 2 most_int end bytes
+  id ← number_at integer most_int end bytes
   _ ← need (nat_lt 0 id.0) (form end bytes)
   Ok id
 
@@ -39,6 +41,6 @@ body_of end bytes = do
 -- a message that all of the bytes encode
 unfoldable pub message_of : List ℕ → Result MessageValue LdapFault
 message_of bytes = do
-  message ← inside_at 48 body_of (length bytes) bytes
+  message ← inside_at sequence body_of (length bytes) bytes
   _ ← ended (length bytes) message.1
   Ok message.0

@@ -9,6 +9,7 @@ use Rattle.ad_ber.specs.Integer.{integer_of}
 use Rattle.ad_ber.specs.Reading.{element_at}
 use Rattle.ad_ldap.specs.declared.fault.LdapFault.{LdapFault}
 use Rattle.ad_ldap.specs.declared.fault.LdapFault.TheVariants as fault
+use Rattle.ad_ldap.specs.Tags.{octet_string}
 
 -- the one fault that no bytes have
 abbrev pub is_memory : LdapFault → Bool
@@ -97,4 +98,4 @@ each_of read end bytes = each_within (length bytes) (read end) bytes
 
 -- octet strings up to the end
 unfoldable pub values_of : ℕ → List ℕ → Result (List (List ℕ)) LdapFault
-values_of end bytes = each_of (body_at 4) end bytes
+values_of end bytes = each_of (body_at octet_string) end bytes

@@ -13,6 +13,9 @@ use Rattle.ad_ldap.specs.declared.controls.Settings.{Settings}
 use Rattle.ad_ldap.specs.declared.controls.Role.{Role}
 use Rattle.ad_ldap.specs.declared.controls.Role.TheVariants as role
 use Rattle.ad_ldap.specs.MessageValue.{OpValue, SearchOf, ModifyOf, AddOf, DeleteOf, MessageValue}
+use Rattle.ad_ldap.specs.Tags.{integer, sequence}
+use Rattle.ad_ldap.specs.ResultCodes.{protocol_error, unavailable_critical_extension}
+use Rattle.ad_ldap.specs.Choices.{all_parts}
 
 -- ---- the two controls that are known
 
@@ -62,12 +65,12 @@ low_bits_in (Some digits) = low_bits_of digits
 
 abbrev pub integer_in : Option (List ℕ) → Option (List ℕ)
 integer_in None = None
-integer_in (Some body) = alone 2 body
+integer_in (Some body) = alone integer body
 
 -- the flags, where the value is a sequence of one integer
 abbrev pub flags_of : Option (List ℕ) → Option ℕ
 flags_of None = None
-flags_of (Some value) = low_bits_in (integer_in (alone 48 value))
+flags_of (Some value) = low_bits_in (integer_in (alone sequence value))
 
 -- ---- the first faulty control
 
@@ -77,13 +80,13 @@ has_control cs oid = list_any (λ c. bytes_eq c.oid oid) cs
 
 -- the code that a control gives by what it is to the operation
 abbrev pub fault_by : Role → Control → Option ℕ
-fault_by role.SdFlags c = if is_some (flags_of c.value) then None else Some 2
+fault_by role.SdFlags c = if is_some (flags_of c.value) then None else Some protocol_error
 fault_by role.TreeDelete c = None
-fault_by role.Other c = if c.critical then Some 12 else None
+fault_by role.Other c = if c.critical then Some unavailable_critical_extension else None
 
 -- the code that a control after these gives, if it is faulty
 abbrev pub fault_of : OpValue → List Control → Control → Option ℕ
-fault_of op earlier c = if has_control earlier c.oid then Some 2 else fault_by (role_of op c.oid) c
+fault_of op earlier c = if has_control earlier c.oid then Some protocol_error else fault_by (role_of op c.oid) c
 
 -- the first code, or else the other
 abbrev pub first_of : Option ℕ → Option ℕ → Option ℕ
@@ -99,15 +102,15 @@ first_fault op earlier (c ∷ cs) = first_of (fault_of op earlier c) (first_faul
 
 -- none of the four bits set means all of them
 abbrev pub shown : Option ℕ → ℕ
-shown None = 15
-shown (Some bits) = if nat_eq bits 0 then 15 else bits
+shown None = all_parts
+shown (Some bits) = if nat_eq bits 0 then all_parts else bits
 
 abbrev pub flags_by : Role → Control → ℕ → ℕ
 flags_by role.SdFlags c others = shown (flags_of c.value)
 flags_by _ c others = others
 
 abbrev pub flags_among : OpValue → List Control → ℕ
-flags_among op [] = 15
+flags_among op [] = all_parts
 flags_among op (c ∷ cs) = flags_by (role_of op c.oid) c (flags_among op cs)
 
 abbrev pub tree_by : Role → Bool → Bool

@@ -7,6 +7,7 @@ ghost use Rattle.ad_ldap.specs.Reading.{is_memory, IsWithin, body_at, number_at,
 ghost use Rattle.ad_ldap.specs.Reading.{values_of};
 
 use crate::fault::LdapFault;
+use crate::tags::OCTET_STRING;
 use ad_ber::{Tagged, integer};
 use ad_bytes::{Bytes, Input, List};
 use std::alloc::Global;
@@ -181,7 +182,7 @@ pub(crate) fn values(
 {
     let mut values = List::new(alloc);
     'each: while !input.is_empty() {
-        let value = octets(alloc, input, end, 4)?;
+        let value = octets(alloc, input, end, OCTET_STRING)?;
         values.push(value)?;
     }
     Ok(values)

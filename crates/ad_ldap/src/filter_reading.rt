@@ -8,10 +8,12 @@ ghost use Rattle.ad_ldap.specs.FilterReading.{assertion_of, middle_of, pieces_of
 ghost use Rattle.ad_ldap.specs.FilterReading.{extensible_of, kind_by_tag, kind_at, alone_of, item_of, filter_of};
 ghost use Rattle.ad_ldap.specs.FilterReading.{filter_at};
 ghost use Rattle.ad_ldap.specs.Limits.{most_levels};
+ghost use Rattle.ad_ldap.specs.Tags.{sequence, substrings, not_filter, extensible_match};
 
 use crate::elements::{begins, body, default, end_of, ended, form, octets, option, some};
 use crate::fault::LdapFault;
 use crate::filter::{Filter, Filters, all_of, any_of, negated};
+use crate::tags;
 use ad_bytes::{Bytes, Input};
 use ad_value::{Pattern, Pieces};
 use std::alloc::Global;
@@ -41,8 +43,8 @@ pub(crate) fn assertion(
 ) -> Result<(Bytes, Bytes), LdapFault>
     ensures { GivesUnless is_memory (λ x. (x.0, x.1)) result (assertion_of end input.old) }
 {
-    let attr = octets(alloc, input, end, 4)?;
-    let value = octets(alloc, input, end, 4)?;
+    let attr = octets(alloc, input, end, tags::OCTET_STRING)?;
+    let value = octets(alloc, input, end, tags::OCTET_STRING)?;
     ended(input, end)?;
     Ok((attr, value))
 }
@@ -68,8 +70,8 @@ fn middle(alloc: Global, input: &mut Input<'_>, end: usize) -> Result<Pieces, Ld
     ensures { ReadsUnless is_memory (λ pieces. pieces) result input.new (middle_of end input.old) }
 {
     let mut pieces = Pieces::new(alloc);
-    'each: while begins(input, 129) {
-        let octets = octets(alloc, input, end, 129)?;
+    'each: while begins(input, tags::MIDDLE_PIECE) {
+        let octets = octets(alloc, input, end, tags::MIDDLE_PIECE)?;
         pieces.push(octets)?;
     }
     Ok(pieces)
@@ -80,9 +82,9 @@ fn pieces(alloc: Global, input: &mut Input<'_>, end: usize) -> Result<Pattern, L
     ensures { GivesUnless is_memory (λ pattern. pattern) result (pieces_of end input.old) }
 {
     some(input, end)?;
-    let first = option(alloc, input, end, 128)?;
+    let first = option(alloc, input, end, tags::INITIAL_PIECE)?;
     let middle = middle(alloc, input, end)?;
-    let last = option(alloc, input, end, 130)?;
+    let last = option(alloc, input, end, tags::FINAL_PIECE)?;
     ended(input, end)?;
     Ok(Pattern {
         first,
@@ -94,9 +96,9 @@ fn pieces(alloc: Global, input: &mut Input<'_>, end: usize) -> Result<Pattern, L
 #[tactic(auto, unfolding(crate::specs::Reading::inside_at))]
 fn pieces_inside(alloc: Global, input: &mut Input<'_>, end: usize) -> Result<Pattern, LdapFault>
     ensures { ReadsUnless is_memory (λ pattern. pattern) result input.new
-        (inside_at 48 pieces_of end input.old) }
+        (inside_at sequence pieces_of end input.old) }
 {
-    let mut body = body(input, end, 48)?;
+    let mut body = body(input, end, tags::SEQUENCE)?;
     let inner_end = end_of(input, end);
     pieces(alloc, &mut body, inner_end)
 }
@@ -109,7 +111,7 @@ fn substrings(
 ) -> Result<(Bytes, Pattern), LdapFault>
     ensures { GivesUnless is_memory (λ x. (x.0, x.1)) result (substrings_of end input.old) }
 {
-    let attr = octets(alloc, input, end, 4)?;
+    let attr = octets(alloc, input, end, tags::OCTET_STRING)?;
     let pattern = pieces_inside(alloc, input, end)?;
     ended(input, end)?;
     Ok((attr, pattern))
@@ -122,10 +124,10 @@ fn substrings_inside(
     end: usize,
 ) -> Result<(Bytes, Pattern), LdapFault>
     ensures read { ReadsUnless is_memory (λ x. (x.0, x.1)) result input.new
-        (inside_at 164 substrings_of end input.old) }
+        (inside_at substrings substrings_of end input.old) }
     ensures left { OnOk result (length input.new < length input.old) }
 {
-    let mut body = body(input, end, 164)?;
+    let mut body = body(input, end, tags::SUBSTRINGS)?;
     let inner_end = end_of(input, end);
     substrings(alloc, &mut body, inner_end)
 }
@@ -145,19 +147,19 @@ fn pass_option(input: &mut Input<'_>, end: usize, tag: u8) -> Result<(), LdapFau
 fn extensible(input: &mut Input<'_>, end: usize) -> Result<(), LdapFault>
     ensures { result ≡ extensible_of end input.old }
 {
-    pass_option(input, end, 129)?;
-    pass_option(input, end, 130)?;
-    let _ = body(input, end, 131)?;
-    let _ = default(input, end, 132)?;
+    pass_option(input, end, tags::MATCHING_RULE)?;
+    pass_option(input, end, tags::MATCH_TYPE)?;
+    let _ = body(input, end, tags::MATCH_VALUE)?;
+    let _ = default(input, end, tags::MATCH_IN_NAMES)?;
     ended(input, end)
 }
 
 #[tactic(auto, unfolding(crate::specs::Reading::inside_at))]
 fn extensible_inside(input: &mut Input<'_>, end: usize) -> Result<(), LdapFault>
-    ensures read { Reads result input.new (inside_at 169 extensible_of end input.old) }
+    ensures read { Reads result input.new (inside_at extensible_match extensible_of end input.old) }
     ensures left { OnOk result (length input.new < length input.old) }
 {
-    let mut body = body(input, end, 169)?;
+    let mut body = body(input, end, tags::EXTENSIBLE_MATCH)?;
     let inner_end = end_of(input, end);
     extensible(&mut body, inner_end)
 }
@@ -166,25 +168,25 @@ fn extensible_inside(input: &mut Input<'_>, end: usize) -> Result<(), LdapFault>
 fn kind_of(tag: u8) -> Option<FilterKind>
     ensures { result ≡ kind_by_tag tag }
 {
-    if tag == 160 {
+    if tag == tags::AND_FILTER {
         Some(FilterKind::And)
-    } else if tag == 161 {
+    } else if tag == tags::OR_FILTER {
         Some(FilterKind::Or)
-    } else if tag == 162 {
+    } else if tag == tags::NOT_FILTER {
         Some(FilterKind::Not)
-    } else if tag == 163 {
+    } else if tag == tags::EQUALITY_MATCH {
         Some(FilterKind::Equal)
-    } else if tag == 164 {
+    } else if tag == tags::SUBSTRINGS {
         Some(FilterKind::Pieces)
-    } else if tag == 165 {
+    } else if tag == tags::GREATER_OR_EQUAL {
         Some(FilterKind::AtLeast)
-    } else if tag == 166 {
+    } else if tag == tags::LESS_OR_EQUAL {
         Some(FilterKind::AtMost)
-    } else if tag == 135 {
+    } else if tag == tags::PRESENCE {
         Some(FilterKind::Present)
-    } else if tag == 168 {
+    } else if tag == tags::APPROXIMATE_MATCH {
         Some(FilterKind::Like)
-    } else if tag == 169 {
+    } else if tag == tags::EXTENSIBLE_MATCH {
         Some(FilterKind::Extensible)
     } else {
         None
@@ -217,7 +219,7 @@ fn item_of_kind(
 {
     match kind {
         FilterKind::Equal => {
-            let (attr, value) = assertion_inside(alloc, input, end, 163)?;
+            let (attr, value) = assertion_inside(alloc, input, end, tags::EQUALITY_MATCH)?;
             Ok(Filter::Equal(attr, value))
         }
         FilterKind::Pieces => {
@@ -225,19 +227,19 @@ fn item_of_kind(
             Ok(Filter::Pieces(attr, pattern))
         }
         FilterKind::AtLeast => {
-            let (attr, value) = assertion_inside(alloc, input, end, 165)?;
+            let (attr, value) = assertion_inside(alloc, input, end, tags::GREATER_OR_EQUAL)?;
             Ok(Filter::AtLeast(attr, value))
         }
         FilterKind::AtMost => {
-            let (attr, value) = assertion_inside(alloc, input, end, 166)?;
+            let (attr, value) = assertion_inside(alloc, input, end, tags::LESS_OR_EQUAL)?;
             Ok(Filter::AtMost(attr, value))
         }
         FilterKind::Present => {
-            let attr = octets(alloc, input, end, 135)?;
+            let attr = octets(alloc, input, end, tags::PRESENCE)?;
             Ok(Filter::Present(attr))
         }
         FilterKind::Like => {
-            let (attr, value) = assertion_inside(alloc, input, end, 168)?;
+            let (attr, value) = assertion_inside(alloc, input, end, tags::APPROXIMATE_MATCH)?;
             Ok(Filter::Like(attr, value))
         }
         _ => {
@@ -303,10 +305,10 @@ fn alone_inside(
     levels: u8,
 ) -> Result<Filter, LdapFault>
     ensures read { ReadsUnless is_memory filter_seen result input.new
-        (inside_at 162 (alone_of (filter_at levels)) end input.old) }
+        (inside_at not_filter (alone_of (filter_at levels)) end input.old) }
     ensures left { OnOk result (length input.new < length input.old) }
 {
-    let mut body = body(input, end, 162)?;
+    let mut body = body(input, end, tags::NOT_FILTER)?;
     let inner_end = end_of(input, end);
     alone(alloc, &mut body, inner_end, levels)
 }
@@ -327,11 +329,11 @@ fn filter_of_kind(
 {
     match kind {
         FilterKind::And => {
-            let filters = filters_inside(alloc, input, end, 160, levels)?;
+            let filters = filters_inside(alloc, input, end, tags::AND_FILTER, levels)?;
             Ok(all_of(filters))
         }
         FilterKind::Or => {
-            let filters = filters_inside(alloc, input, end, 161, levels)?;
+            let filters = filters_inside(alloc, input, end, tags::OR_FILTER, levels)?;
             Ok(any_of(filters))
         }
         FilterKind::Not => {

@@ -7,9 +7,12 @@ ghost use Rattle.ad_ldap.specs.Settings.{has_control, fault_by, first_fault, fla
 ghost use Rattle.ad_ldap.specs.OwnFaults.{first_own};
 ghost use Rattle.ad_ldap.specs.Again.{IsAgainAt};
 
+use crate::choices::ALL_PARTS;
 use crate::control_list::Controls;
 use crate::controls::{Control, Role, Settings};
 use crate::requests::{Message, Op};
+use crate::result_code::{PROTOCOL_ERROR, UNAVAILABLE_CRITICAL_EXTENSION};
+use crate::tags::{INTEGER, SEQUENCE};
 use ad_ber::Tagged;
 use ad_bytes::{Bytes, Input};
 
@@ -94,10 +97,10 @@ fn flags(value: &Option<Bytes>) -> Option<u8>
     let Some(value) = value else {
         return None;
     };
-    let Some(body) = body_alone(value.as_slice(), 48) else {
+    let Some(body) = body_alone(value.as_slice(), SEQUENCE) else {
         return None;
     };
-    let Some(digits) = body_alone(body, 2) else {
+    let Some(digits) = body_alone(body, INTEGER) else {
         return None;
     };
     low_bits(digits)
@@ -117,14 +120,14 @@ fn own_fault(op: &Op, control: &Control) -> Option<u8>
     match role_in(op, &control.oid) {
         Role::SdFlags => {
             if flags(&control.value).is_none() {
-                return Some(2);
+                return Some(PROTOCOL_ERROR);
             }
             None
         }
         Role::TreeDelete => None,
         Role::Other => {
             if control.critical {
-                return Some(12);
+                return Some(UNAVAILABLE_CRITICAL_EXTENSION);
             }
             None
         }
@@ -151,7 +154,7 @@ fn fault_up_to(op: &Op, controls: &[Control], place: usize) -> Option<u8>
 {
     match first_own_fault(op, &controls[..place]) {
         Some(code) => Some(code),
-        None => Some(2),
+        None => Some(PROTOCOL_ERROR),
     }
 }
 
@@ -173,12 +176,12 @@ fn controls_flags(op: &Op, controls: &[Control]) -> u8
     'each: for control in controls {
         if let Role::SdFlags = role_in(op, &control.oid) {
             return match flags(&control.value) {
-                None | Some(0) => 15,
+                None | Some(0) => ALL_PARTS,
                 Some(bits) => bits,
             };
         }
     }
-    15
+    ALL_PARTS
 }
 
 // Whether the controls ask for a tree delete.

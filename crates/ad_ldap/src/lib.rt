@@ -28,6 +28,7 @@
 #![tactic(auto)]
 
 mod again;
+mod choices;
 mod control_list;
 mod controls;
 mod elements;
@@ -42,14 +43,20 @@ mod reply;
 mod reply_writing;
 mod request_reading;
 mod requests;
+pub mod result_code;
+pub mod tags;
 
+pub use choices::{
+    ADD_VALUES, ALL_PARTS, BASE_OBJECT, DACL_PART, DELETE_VALUES, DEREF_ALWAYS, GROUP_PART,
+    OWNER_PART, REPLACE_VALUES, SACL_PART, SINGLE_LEVEL, UNSOLICITED, WHOLE_SUBTREE,
+};
 pub use control_list::Controls;
 pub use controls::{Control, Settings};
 pub use fault::LdapFault;
 pub use filter::{Filter, Filters};
 pub use items::Item;
 pub use judging::settings;
-pub use laws::{what_a_message_has, what_is_seen_of_filters};
+pub use laws::{values_are_bytes, what_a_message_has, what_is_seen_of_filters};
 pub use message_reading::read_message;
 pub use reply::Reply;
 pub use reply_writing::write_reply;

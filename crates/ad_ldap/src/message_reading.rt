@@ -6,6 +6,7 @@ ghost use Rattle.ad_ldap.specs.MessageValue.{MessageValue, message_seen};
 ghost use Rattle.ad_ldap.specs.Messages.{SpellsMessage};
 ghost use Rattle.ad_ldap.specs.Reading.{is_memory, inside_at, each_of};
 ghost use Rattle.ad_ldap.specs.MessageReading.{control_of, controls_at, id_at, body_of, message_of};
+ghost use Rattle.ad_ldap.specs.Tags.{sequence};
 
 use crate::control_list::Controls;
 use crate::controls::Control;
@@ -13,6 +14,7 @@ use crate::elements::{begins, body, default, end_of, ended, form, number, octets
 use crate::fault::LdapFault;
 use crate::request_reading::{max_int, op};
 use crate::requests::Message;
+use crate::tags;
 use ad_bytes::{Input, List};
 use std::alloc::Global;
 
@@ -20,9 +22,9 @@ use std::alloc::Global;
 fn control(alloc: Global, input: &mut Input<'_>, end: usize) -> Result<Control, LdapFault>
     ensures { GivesUnless is_memory (λ control. control) result (control_of end input.old) }
 {
-    let oid = octets(alloc, input, end, 4)?;
-    let critical = default(input, end, 1)?;
-    let value = option(alloc, input, end, 4)?;
+    let oid = octets(alloc, input, end, tags::OCTET_STRING)?;
+    let critical = default(input, end, tags::BOOLEAN)?;
+    let value = option(alloc, input, end, tags::OCTET_STRING)?;
     ended(input, end)?;
     Ok(Control {
         oid,
@@ -34,10 +36,10 @@ fn control(alloc: Global, input: &mut Input<'_>, end: usize) -> Result<Control, 
 #[tactic(auto, unfolding(crate::specs::Reading::inside_at))]
 fn control_inside(alloc: Global, input: &mut Input<'_>, end: usize) -> Result<Control, LdapFault>
     ensures read { ReadsUnless is_memory (λ control. control) result input.new
-        (inside_at 48 control_of end input.old) }
+        (inside_at sequence control_of end input.old) }
     ensures left { OnOk result (length input.new < length input.old) }
 {
-    let mut body = body(input, end, 48)?;
+    let mut body = body(input, end, tags::SEQUENCE)?;
     let inner_end = end_of(input, end);
     control(alloc, &mut body, inner_end)
 }
@@ -45,7 +47,7 @@ fn control_inside(alloc: Global, input: &mut Input<'_>, end: usize) -> Result<Co
 // The controls up to the end.
 fn controls(alloc: Global, input: &mut Input<'_>, end: usize) -> Result<List<Control>, LdapFault>
     ensures { GivesUnless is_memory (λ controls. controls) result
-        (each_of (inside_at 48 control_of) end input.old) }
+        (each_of (inside_at sequence control_of) end input.old) }
 {
     let mut controls = List::new(alloc);
     'each: while !input.is_empty() {
@@ -58,7 +60,7 @@ fn controls(alloc: Global, input: &mut Input<'_>, end: usize) -> Result<List<Con
 // The same, with where an identifier stands again.
 fn all_controls(alloc: Global, input: &mut Input<'_>, end: usize) -> Result<Controls, LdapFault>
     ensures { GivesUnless is_memory (λ controls. controls) result
-        (each_of (inside_at 48 control_of) end input.old) }
+        (each_of (inside_at sequence control_of) end input.old) }
 {
     let list = controls(alloc, input, end)?;
     let controls = Controls::of(alloc, list)?;
@@ -71,10 +73,10 @@ fn option_controls(alloc: Global, input: &mut Input<'_>, end: usize) -> Result<C
     ensures { ReadsUnless is_memory (λ controls. controls) result input.new
         (controls_at end input.old) }
 {
-    if !begins(input, 160) {
+    if !begins(input, tags::TAG_OF_CONTROLS) {
         return Ok(Controls::new(alloc));
     }
-    let mut body = body(input, end, 160)?;
+    let mut body = body(input, end, tags::TAG_OF_CONTROLS)?;
     let inner_end = end_of(input, end);
     all_controls(alloc, &mut body, inner_end)
 }
@@ -85,7 +87,7 @@ fn message_id(input: &mut Input<'_>, end: usize) -> Result<u32, LdapFault>
     ensures { Reads result input.new (id_at end input.old) }
 {
     let fault = form(input, end);
-    let id = number(input, end, 2, max_int())?;
+    let id = number(input, end, tags::INTEGER, max_int())?;
     if id == 0 {
         return Err(fault);
     }
@@ -109,7 +111,7 @@ fn whole(alloc: Global, bytes: &[u8]) -> Result<Message, LdapFault>
 {
     let mut input = Input::new(bytes);
     let end = bytes.len();
-    let mut body = body(&mut input, end, 48)?;
+    let mut body = body(&mut input, end, tags::SEQUENCE)?;
     let inner_end = end_of(&input, end);
     let message = message_body(alloc, &mut body, inner_end)?;
     ended(&input, end)?;

@@ -4,8 +4,13 @@ ghost use Rattle.std.specs.Prelude.{◌≡◌, ◌+◌, ◌++◌, List, ℕ, len
 ghost use Rattle.ad_ber.specs.Writing.{element_bytes, number_element};
 ghost use Rattle.ad_ldap.specs.Reply.{values_bytes, attr_body, attr_bytes, attrs_bytes, entry_body, result_body};
 ghost use Rattle.ad_ldap.specs.Reply.{notice_body, message_bytes, reply_bytes};
+ghost use Rattle.ad_ldap.specs.Tags.{search_entry, extended_response};
+ghost use Rattle.ad_ldap.specs.Choices.{unsolicited};
 
+use crate::choices::UNSOLICITED;
 use crate::reply::Reply;
+use crate::result_code::PROTOCOL_ERROR;
+use crate::tags;
 use ad_ber::{header_len, number_len, put, put_header, put_number};
 use ad_bytes::{Bytes, List};
 use std::alloc::{AllocError, Global};
@@ -68,7 +73,7 @@ fn put_values(into: &mut Vec<u8>, values: &[Bytes]) -> Result<(), AllocError>
     ensures { OnOk result (into.new.items ≡ into.old.items ++ values_bytes values.now) }
 {
     'each: for value in values {
-        put(into, 4, value.as_slice())?;
+        put(into, tags::OCTET_STRING, value.as_slice())?;
     }
     Ok(())
 }
@@ -79,9 +84,9 @@ fn put_attr(into: &mut Vec<u8>, attr: &(Bytes, List<Bytes>)) -> Result<(), Alloc
 {
     let body = attr_len(attr)?;
     let values = values_len(attr.1.as_slice())?;
-    put_header(into, 48, body)?;
-    put(into, 4, attr.0.as_slice())?;
-    put_header(into, 49, values)?;
+    put_header(into, tags::SEQUENCE, body)?;
+    put(into, tags::OCTET_STRING, attr.0.as_slice())?;
+    put_header(into, tags::SET, values)?;
     put_values(into, attr.1.as_slice())?;
     Ok(())
 }
@@ -104,8 +109,8 @@ fn message_front(alloc: Global, id: u32, tag: u8, len: usize) -> Result<Vec<u8>,
     let inner = plus(number_len(id), response)?;
     let total = element_len(inner)?;
     let mut bytes = Vec::with_capacity(alloc, total)?;
-    put_header(&mut bytes, 48, inner)?;
-    put_number(&mut bytes, 2, id)?;
+    put_header(&mut bytes, tags::SEQUENCE, inner)?;
+    put_number(&mut bytes, tags::INTEGER, id)?;
     put_header(&mut bytes, tag, len)?;
     Ok(bytes)
 }
@@ -117,14 +122,14 @@ fn entry(
     attrs: &[(Bytes, List<Bytes>)],
 ) -> Result<Vec<u8>, AllocError>
     ensures { IfOk result (λ bytes. bytes.items
-        ≡ message_bytes id 100 (entry_body dn.now attrs.now)) }
+        ≡ message_bytes id search_entry (entry_body dn.now attrs.now)) }
 {
     let list = attrs_len(attrs)?;
     let name = element_len(dn.len())?;
     let len = plus(name, element_len(list)?)?;
-    let mut bytes = message_front(alloc, id, 100, len)?;
-    put(&mut bytes, 4, dn)?;
-    put_header(&mut bytes, 48, list)?;
+    let mut bytes = message_front(alloc, id, tags::SEARCH_ENTRY, len)?;
+    put(&mut bytes, tags::OCTET_STRING, dn)?;
+    put_header(&mut bytes, tags::SEQUENCE, list)?;
     put_attrs(&mut bytes, attrs)?;
     Ok(bytes)
 }
@@ -143,9 +148,9 @@ fn put_result(into: &mut Vec<u8>, code: u8, matched: &[u8], text: &[u8]) -> Resu
     ensures { OnOk result (into.new.items ≡ into.old.items ++ result_body code matched.now
         text.now) }
 {
-    put_number(into, 10, u32::from(code))?;
-    put(into, 4, matched)?;
-    put(into, 4, text)?;
+    put_number(into, tags::ENUMERATED, u32::from(code))?;
+    put(into, tags::OCTET_STRING, matched)?;
+    put(into, tags::OCTET_STRING, text)?;
     Ok(())
 }
 
@@ -167,13 +172,13 @@ fn done(
 }
 
 fn notice(alloc: Global) -> Result<Vec<u8>, AllocError>
-    ensures { IfOk result (λ bytes. bytes.items ≡ message_bytes 0 120 notice_body) }
+    ensures { IfOk result (λ bytes. bytes.items ≡ message_bytes unsolicited extended_response notice_body) }
 {
-    let front = result_len(2, b"", b"")?;
+    let front = result_len(PROTOCOL_ERROR, b"", b"")?;
     let len = plus(front, element_len(NOTICE_OID.len())?)?;
-    let mut bytes = message_front(alloc, 0, 120, len)?;
-    put_result(&mut bytes, 2, b"", b"")?;
-    put(&mut bytes, 138, NOTICE_OID)?;
+    let mut bytes = message_front(alloc, UNSOLICITED, tags::EXTENDED_RESPONSE, len)?;
+    put_result(&mut bytes, PROTOCOL_ERROR, b"", b"")?;
+    put(&mut bytes, tags::RESPONSE_NAME, NOTICE_OID)?;
     Ok(bytes)
 }
 

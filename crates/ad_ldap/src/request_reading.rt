@@ -8,7 +8,9 @@ ghost use Rattle.ad_ldap.specs.Reading.{is_memory, inside_at, each_of, values_of
 ghost use Rattle.ad_ldap.specs.RequestReading.{search_of, attribute_of, item_of, modify_of, some_values_of};
 ghost use Rattle.ad_ldap.specs.RequestReading.{new_of, add_of, rename_of, compare_of, op_by_tag, op_kind_at};
 ghost use Rattle.ad_ldap.specs.RequestReading.{op_of, op_at};
+ghost use Rattle.ad_ldap.specs.Tags.{sequence, set};
 
+use crate::choices::{DEREF_ALWAYS, REPLACE_VALUES, WHOLE_SUBTREE};
 use crate::elements::{
     body, boolean, end_of, ended, form, number, octets, option, small, some, values,
 };
@@ -16,6 +18,7 @@ use crate::fault::LdapFault;
 use crate::filter_reading::{assertion_inside, search_filter};
 use crate::items::Item;
 use crate::requests::{Add, Compare, Modify, Op, Rename, Search};
+use crate::tags;
 use ad_bytes::{Bytes, Input, List};
 use std::alloc::Global;
 
@@ -64,14 +67,14 @@ fn search(alloc: Global, input: &mut Input<'_>, end: usize) -> Result<Search, Ld
     ensures { GivesUnless is_memory search_seen result (search_of end input.old) }
 {
     let max = max_int();
-    let base = octets(alloc, input, end, 4)?;
-    let scope = small(input, end, 10, 2)?;
-    let _ = small(input, end, 10, 3)?;
-    let size = number(input, end, 2, max)?;
-    let _ = number(input, end, 2, max)?;
-    let types_only = boolean(input, end, 1)?;
+    let base = octets(alloc, input, end, tags::OCTET_STRING)?;
+    let scope = small(input, end, tags::ENUMERATED, WHOLE_SUBTREE)?;
+    let _ = small(input, end, tags::ENUMERATED, DEREF_ALWAYS)?;
+    let size = number(input, end, tags::INTEGER, max)?;
+    let _ = number(input, end, tags::INTEGER, max)?;
+    let types_only = boolean(input, end, tags::BOOLEAN)?;
     let filter = search_filter(alloc, input, end)?;
-    let attrs = values_inside(alloc, input, end, 48)?;
+    let attrs = values_inside(alloc, input, end, tags::SEQUENCE)?;
     ended(input, end)?;
     Ok(Search {
         base,
@@ -92,8 +95,8 @@ fn attribute(
 ) -> Result<(Bytes, List<Bytes>), LdapFault>
     ensures { GivesUnless is_memory (λ x. (x.0, x.1)) result (attribute_of end input.old) }
 {
-    let attr = octets(alloc, input, end, 4)?;
-    let values = values_inside(alloc, input, end, 49)?;
+    let attr = octets(alloc, input, end, tags::OCTET_STRING)?;
+    let values = values_inside(alloc, input, end, tags::SET)?;
     ended(input, end)?;
     Ok((attr, values))
 }
@@ -105,9 +108,9 @@ fn attribute_inside(
     end: usize,
 ) -> Result<(Bytes, List<Bytes>), LdapFault>
     ensures { ReadsUnless is_memory (λ x. (x.0, x.1)) result input.new
-        (inside_at 48 attribute_of end input.old) }
+        (inside_at sequence attribute_of end input.old) }
 {
-    let mut body = body(input, end, 48)?;
+    let mut body = body(input, end, tags::SEQUENCE)?;
     let inner_end = end_of(input, end);
     attribute(alloc, &mut body, inner_end)
 }
@@ -117,7 +120,7 @@ fn attribute_inside(
 fn item(alloc: Global, input: &mut Input<'_>, end: usize) -> Result<Item, LdapFault>
     ensures { GivesUnless is_memory (λ item. item) result (item_of end input.old) }
 {
-    let op = small(input, end, 10, 2)?;
+    let op = small(input, end, tags::ENUMERATED, REPLACE_VALUES)?;
     let (attr, values) = attribute_inside(alloc, input, end)?;
     ended(input, end)?;
     Ok(Item { op, attr, values })
@@ -126,10 +129,10 @@ fn item(alloc: Global, input: &mut Input<'_>, end: usize) -> Result<Item, LdapFa
 #[tactic(auto, unfolding(crate::specs::Reading::inside_at))]
 fn item_inside(alloc: Global, input: &mut Input<'_>, end: usize) -> Result<Item, LdapFault>
     ensures read { ReadsUnless is_memory (λ item. item) result input.new
-        (inside_at 48 item_of end input.old) }
+        (inside_at sequence item_of end input.old) }
     ensures left { OnOk result (length input.new < length input.old) }
 {
-    let mut body = body(input, end, 48)?;
+    let mut body = body(input, end, tags::SEQUENCE)?;
     let inner_end = end_of(input, end);
     item(alloc, &mut body, inner_end)
 }
@@ -137,7 +140,7 @@ fn item_inside(alloc: Global, input: &mut Input<'_>, end: usize) -> Result<Item,
 // The changes up to the end.
 fn items(alloc: Global, input: &mut Input<'_>, end: usize) -> Result<List<Item>, LdapFault>
     ensures { GivesUnless is_memory (λ items. items) result
-        (each_of (inside_at 48 item_of) end input.old) }
+        (each_of (inside_at sequence item_of) end input.old) }
 {
     let mut items = List::new(alloc);
     'each: while !input.is_empty() {
@@ -150,9 +153,9 @@ fn items(alloc: Global, input: &mut Input<'_>, end: usize) -> Result<List<Item>,
 #[tactic(auto, unfolding(crate::specs::Reading::inside_at))]
 fn items_inside(alloc: Global, input: &mut Input<'_>, end: usize) -> Result<List<Item>, LdapFault>
     ensures { ReadsUnless is_memory (λ items. items) result input.new
-        (inside_at 48 (each_of (inside_at 48 item_of)) end input.old) }
+        (inside_at sequence (each_of (inside_at sequence item_of)) end input.old) }
 {
-    let mut body = body(input, end, 48)?;
+    let mut body = body(input, end, tags::SEQUENCE)?;
     let inner_end = end_of(input, end);
     items(alloc, &mut body, inner_end)
 }
@@ -161,7 +164,7 @@ fn items_inside(alloc: Global, input: &mut Input<'_>, end: usize) -> Result<List
 fn modify(alloc: Global, input: &mut Input<'_>, end: usize) -> Result<Modify, LdapFault>
     ensures { GivesUnless is_memory (λ modify. modify) result (modify_of end input.old) }
 {
-    let dn = octets(alloc, input, end, 4)?;
+    let dn = octets(alloc, input, end, tags::OCTET_STRING)?;
     let items = items_inside(alloc, input, end)?;
     ended(input, end)?;
     Ok(Modify { dn, items })
@@ -183,9 +186,9 @@ fn some_values_inside(
     end: usize,
 ) -> Result<List<Bytes>, LdapFault>
     ensures { ReadsUnless is_memory (λ values. values) result input.new
-        (inside_at 49 some_values_of end input.old) }
+        (inside_at set some_values_of end input.old) }
 {
-    let mut body = body(input, end, 49)?;
+    let mut body = body(input, end, tags::SET)?;
     let inner_end = end_of(input, end);
     some_values(alloc, &mut body, inner_end)
 }
@@ -199,7 +202,7 @@ fn new_attribute(
 ) -> Result<(Bytes, List<Bytes>), LdapFault>
     ensures { GivesUnless is_memory (λ x. (x.0, x.1)) result (new_of end input.old) }
 {
-    let attr = octets(alloc, input, end, 4)?;
+    let attr = octets(alloc, input, end, tags::OCTET_STRING)?;
     let values = some_values_inside(alloc, input, end)?;
     ended(input, end)?;
     Ok((attr, values))
@@ -212,10 +215,10 @@ fn new_inside(
     end: usize,
 ) -> Result<(Bytes, List<Bytes>), LdapFault>
     ensures read { ReadsUnless is_memory (λ x. (x.0, x.1)) result input.new
-        (inside_at 48 new_of end input.old) }
+        (inside_at sequence new_of end input.old) }
     ensures left { OnOk result (length input.new < length input.old) }
 {
-    let mut body = body(input, end, 48)?;
+    let mut body = body(input, end, tags::SEQUENCE)?;
     let inner_end = end_of(input, end);
     new_attribute(alloc, &mut body, inner_end)
 }
@@ -227,7 +230,7 @@ fn attrs(
     end: usize,
 ) -> Result<List<(Bytes, List<Bytes>)>, LdapFault>
     ensures { GivesUnless is_memory (λ attrs. attrs) result
-        (each_of (inside_at 48 new_of) end input.old) }
+        (each_of (inside_at sequence new_of) end input.old) }
 {
     let mut attrs = List::new(alloc);
     'each: while !input.is_empty() {
@@ -244,9 +247,9 @@ fn attrs_inside(
     end: usize,
 ) -> Result<List<(Bytes, List<Bytes>)>, LdapFault>
     ensures { ReadsUnless is_memory (λ attrs. attrs) result input.new
-        (inside_at 48 (each_of (inside_at 48 new_of)) end input.old) }
+        (inside_at sequence (each_of (inside_at sequence new_of)) end input.old) }
 {
-    let mut body = body(input, end, 48)?;
+    let mut body = body(input, end, tags::SEQUENCE)?;
     let inner_end = end_of(input, end);
     attrs(alloc, &mut body, inner_end)
 }
@@ -255,7 +258,7 @@ fn attrs_inside(
 fn add(alloc: Global, input: &mut Input<'_>, end: usize) -> Result<Add, LdapFault>
     ensures { GivesUnless is_memory (λ add. add) result (add_of end input.old) }
 {
-    let dn = octets(alloc, input, end, 4)?;
+    let dn = octets(alloc, input, end, tags::OCTET_STRING)?;
     let attrs = attrs_inside(alloc, input, end)?;
     ended(input, end)?;
     Ok(Add { dn, attrs })
@@ -265,10 +268,10 @@ fn add(alloc: Global, input: &mut Input<'_>, end: usize) -> Result<Add, LdapFaul
 fn rename(alloc: Global, input: &mut Input<'_>, end: usize) -> Result<Rename, LdapFault>
     ensures { GivesUnless is_memory (λ rename. rename) result (rename_of end input.old) }
 {
-    let dn = octets(alloc, input, end, 4)?;
-    let rdn = octets(alloc, input, end, 4)?;
-    let delete = boolean(input, end, 1)?;
-    let superior = option(alloc, input, end, 128)?;
+    let dn = octets(alloc, input, end, tags::OCTET_STRING)?;
+    let rdn = octets(alloc, input, end, tags::OCTET_STRING)?;
+    let delete = boolean(input, end, tags::BOOLEAN)?;
+    let superior = option(alloc, input, end, tags::NEW_SUPERIOR)?;
     ended(input, end)?;
     Ok(Rename {
         dn,
@@ -282,8 +285,8 @@ fn rename(alloc: Global, input: &mut Input<'_>, end: usize) -> Result<Rename, Ld
 fn compare(alloc: Global, input: &mut Input<'_>, end: usize) -> Result<Compare, LdapFault>
     ensures { GivesUnless is_memory (λ compare. compare) result (compare_of end input.old) }
 {
-    let dn = octets(alloc, input, end, 4)?;
-    let (attr, value) = assertion_inside(alloc, input, end, 48)?;
+    let dn = octets(alloc, input, end, tags::OCTET_STRING)?;
+    let (attr, value) = assertion_inside(alloc, input, end, tags::SEQUENCE)?;
     ended(input, end)?;
     Ok(Compare { dn, attr, value })
 }
@@ -292,25 +295,25 @@ fn compare(alloc: Global, input: &mut Input<'_>, end: usize) -> Result<Compare, 
 fn op_kind_of(tag: u8) -> Option<OpKind>
     ensures { result ≡ op_by_tag tag }
 {
-    if tag == 96 {
+    if tag == tags::BIND_REQUEST {
         Some(OpKind::Bind)
-    } else if tag == 66 {
+    } else if tag == tags::UNBIND_REQUEST {
         Some(OpKind::Unbind)
-    } else if tag == 99 {
+    } else if tag == tags::SEARCH_REQUEST {
         Some(OpKind::Search)
-    } else if tag == 102 {
+    } else if tag == tags::MODIFY_REQUEST {
         Some(OpKind::Modify)
-    } else if tag == 104 {
+    } else if tag == tags::ADD_REQUEST {
         Some(OpKind::Add)
-    } else if tag == 74 {
+    } else if tag == tags::DELETE_REQUEST {
         Some(OpKind::Delete)
-    } else if tag == 108 {
+    } else if tag == tags::RENAME_REQUEST {
         Some(OpKind::Rename)
-    } else if tag == 110 {
+    } else if tag == tags::COMPARE_REQUEST {
         Some(OpKind::Compare)
-    } else if tag == 80 {
+    } else if tag == tags::ABANDON_REQUEST {
         Some(OpKind::Abandon)
-    } else if tag == 119 {
+    } else if tag == tags::EXTENDED_REQUEST {
         Some(OpKind::Extended)
     } else {
         None
@@ -342,53 +345,53 @@ fn op_of_kind(
 {
     match kind {
         OpKind::Bind => {
-            let _ = body(input, end, 96)?;
+            let _ = body(input, end, tags::BIND_REQUEST)?;
             Ok(Op::Bind)
         }
         OpKind::Unbind => {
-            let _ = body(input, end, 66)?;
+            let _ = body(input, end, tags::UNBIND_REQUEST)?;
             Ok(Op::Unbind)
         }
         OpKind::Search => {
-            let mut body = body(input, end, 99)?;
+            let mut body = body(input, end, tags::SEARCH_REQUEST)?;
             let inner_end = end_of(input, end);
             let search = search(alloc, &mut body, inner_end)?;
             Ok(Op::Search(search))
         }
         OpKind::Modify => {
-            let mut body = body(input, end, 102)?;
+            let mut body = body(input, end, tags::MODIFY_REQUEST)?;
             let inner_end = end_of(input, end);
             let modify = modify(alloc, &mut body, inner_end)?;
             Ok(Op::Modify(modify))
         }
         OpKind::Add => {
-            let mut body = body(input, end, 104)?;
+            let mut body = body(input, end, tags::ADD_REQUEST)?;
             let inner_end = end_of(input, end);
             let add = add(alloc, &mut body, inner_end)?;
             Ok(Op::Add(add))
         }
         OpKind::Delete => {
-            let dn = octets(alloc, input, end, 74)?;
+            let dn = octets(alloc, input, end, tags::DELETE_REQUEST)?;
             Ok(Op::Delete(dn))
         }
         OpKind::Rename => {
-            let mut body = body(input, end, 108)?;
+            let mut body = body(input, end, tags::RENAME_REQUEST)?;
             let inner_end = end_of(input, end);
             let rename = rename(alloc, &mut body, inner_end)?;
             Ok(Op::Rename(rename))
         }
         OpKind::Compare => {
-            let mut body = body(input, end, 110)?;
+            let mut body = body(input, end, tags::COMPARE_REQUEST)?;
             let inner_end = end_of(input, end);
             let compare = compare(alloc, &mut body, inner_end)?;
             Ok(Op::Compare(compare))
         }
         OpKind::Abandon => {
-            let _ = body(input, end, 80)?;
+            let _ = body(input, end, tags::ABANDON_REQUEST)?;
             Ok(Op::Abandon)
         }
         OpKind::Extended => {
-            let _ = body(input, end, 119)?;
+            let _ = body(input, end, tags::EXTENDED_REQUEST)?;
             Ok(Op::Extended)
         }
     }

@@ -171,33 +171,6 @@ pub rename_moved : (dir : Directory) (token : Token) (r : Rename) (s : Settings)
 unfolding verdict_of rename_checks moved_judged rename_rest first_failing object_named new_parent
 rename_moved dir token r s dn rdn text read part some = rw (sym read, sym part, sym some) refl
 
--- ---- the way up
-
--- the object is the root, which is below nothing
-pub up_ends : (parent : ℕ → ℕ) (left other at : ℕ) → 0 < left → at ≡ root → is_below_within parent left other at ≡ false
-unfolding is_below_within
-up_ends parent zero other at above same = absurd (omega (arith, above))
-up_ends parent (suc left) other at above same = rw (eq-eqb at root same) refl
-
-pub up_found : (parent : ℕ → ℕ) (left other at : ℕ) → 0 < left → (at ≡ root → ⊥) → parent at ≡ other
-    → is_below_within parent left other at ≡ true
-unfolding is_below_within
-up_found parent zero other at above below same = absurd (omega (arith, above))
-up_found parent (suc left) other at above below same = rw (ne_eqb at root below, eq-eqb (parent at) other same) refl
-
-pub up_more : (parent : ℕ → ℕ) (left other at : ℕ) → 0 < left → (at ≡ root → ⊥) → (parent at ≡ other → ⊥)
-    → is_below_within parent left other at ≡ is_below_within parent (left - 1) other (parent at)
-unfolding is_below_within
-up_more parent zero other at above below differs = absurd (omega (arith, above))
-up_more parent (suc left) other at above below differs =
-    let one : suc left - 1 ≡ left = omega arith in
-    rw (ne_eqb at root below, ne_eqb (parent at) other differs)
-    (ap (λ (l : ℕ). is_below_within parent l other (parent at)) (sym one))
-
-pub up_none : (parent : ℕ → ℕ) (left other at : ℕ) → left ≡ 0 → is_below_within parent left other at ≡ false
-unfolding is_below_within
-up_none parent left other at none = rw none refl
-
 -- ---- a move
 
 pub stays : (dir : Directory) (token : Token) (number parent : ℕ) → parent_at dir.objects number ≡ parent

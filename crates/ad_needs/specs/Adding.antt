@@ -28,6 +28,9 @@ use Rattle.ad_needs_rules.specs.Requests.{parts_in, is_descriptor, class_path, n
 use Rattle.ad_needs_rules.specs.Descriptors.{sd_in_one, asked_parts}
 use Rattle.ad_schema_defaults.specs.NewClass.{class_by_names, is_schema_class}
 use Rattle.ad_needs.specs.Renaming.{is_typed}
+use Rattle.ad_ldap.specs.ResultCodes.{undefined_attribute_type, attribute_or_value_exists, unwilling_to_perform}
+use Rattle.ad_ldap.specs.ResultCodes.{naming_violation, invalid_dn_syntax, entry_already_exists}
+use Rattle.ad_ldap.specs.ResultCodes.{object_class_violation, constraint_violation}
 
 -- ---- the name
 
@@ -71,8 +74,8 @@ sent a name = option_map (λ attr. attr.1) (find (is_of name) a.attrs)
 -- each is known, and isn't named a second time
 abbrev pub naming_checks : List SchemaRecord → List (List ℕ × List (List ℕ)) → List ℕ × List (List ℕ) → List Check
 naming_checks schema earlier attr =
-    or_code (is_descriptor attr.0 || is_some (attr_place schema attr.0)) 17
-    ∷ or_code (not (list_any (is_of attr.0) earlier)) 20
+    or_code (is_descriptor attr.0 || is_some (attr_place schema attr.0)) undefined_attribute_type
+    ∷ or_code (not (list_any (is_of attr.0) earlier)) attribute_or_value_exists
     ∷ []
 
 unfoldable pub all_naming_checks : List SchemaRecord → List (List ℕ × List (List ℕ)) → List (List ℕ × List (List ℕ))
@@ -121,8 +124,8 @@ is_kept_back schema attr =
 -- name and the naming attribute may be sent, as they are in the name
 abbrev pub own_checks : List SchemaRecord → ℕ → List ℕ → ℕ × List (List ℕ) → List Check
 own_checks schema class value attr =
-    or_code (not (is_kept_back schema attr.0)) 53
-    ∷ or_code (not (is_naming schema class attr.0) || list_all (bytes_eq value) attr.1) 64
+    or_code (not (is_kept_back schema attr.0)) unwilling_to_perform
+    ∷ or_code (not (is_naming schema class attr.0) || list_all (bytes_eq value) attr.1) naming_violation
     ∷ []
 
 -- the attributes that the object gets: all but objectClass, name and the naming attribute
@@ -151,14 +154,14 @@ add_needs dir parent class sd = (needs parent create_child (class_path dir.schem
 unfoldable pub add_checks : Directory → Token → Add → ℕ → List Check
 add_checks dir token a flags =
     let class = class_number dir a in
-    or_code (has_parts a) 34
-    ∷ or_code (not (is_root_named dir a)) 68
+    or_code (has_parts a) invalid_dn_syntax
+    ∷ or_code (not (is_root_named dir a)) entry_already_exists
     ∷ parent_seen dir token a
     ∷ (all_naming_checks dir.schema [] a.attrs
-    ++ (or_code (is_some (new_class dir a)) 65
-    ∷ or_code (not (is_schema_class dir.schema class)) 53
-    ∷ or_code (is_typed dir.schema class (new_part a)) 64
-    ∷ or_code (descriptor_reads a) 19
+    ++ (or_code (is_some (new_class dir a)) object_class_violation
+    ∷ or_code (not (is_schema_class dir.schema class)) unwilling_to_perform
+    ∷ or_code (is_typed dir.schema class (new_part a)) naming_violation
+    ∷ or_code (descriptor_reads a) constraint_violation
     ∷ (flat_map (own_checks dir.schema class (new_part a).value) (all_ordinary dir.schema a)
     ++ all_met dir token (add_needs dir (parent_number dir token a) class (new_sd a flags)))))
 

@@ -19,6 +19,8 @@ use Rattle.ad_needs.specs.Renaming.{is_typed}
 use Rattle.ad_needs.specs.Adding.{is_of, sent, all_naming_checks, new_class, class_number, descriptor_reads, new_sd}
 use Rattle.ad_needs.specs.Adding.{ordinary}
 use Rattle.ad_needs.specs.Adding.{all_ordinary, own_checks, new_values, add_needs}
+use Rattle.ad_ldap.specs.ResultCodes.{undefined_attribute_type, attribute_or_value_exists, unwilling_to_perform}
+use Rattle.ad_ldap.specs.ResultCodes.{naming_violation, constraint_violation, object_class_violation}
 
 -- the parts of the descriptor that is sent, where it reads; none where none is sent
 unfoldable pub sd_sent : Add → Option (Option SdParts)
@@ -27,7 +29,10 @@ sd_sent a = option_map_or (λ values. option_map Some (sd_in_one values)) (sent 
 
 -- those of the name of an attribute that the schema doesn't have
 abbrev pub unplaced_checks : List (List ℕ × List (List ℕ)) → List ℕ → List Check
-unplaced_checks earlier name = or_code (is_descriptor name) 17 ∷ or_code (not (list_any (is_of name) earlier)) 20 ∷ []
+unplaced_checks earlier name =
+    or_code (is_descriptor name) undefined_attribute_type
+    ∷ or_code (not (list_any (is_of name) earlier)) attribute_or_value_exists
+    ∷ []
 
 -- the checks of one attribute, where it is an ordinary one
 unfoldable pub checks_of : List SchemaRecord → ℕ → List ℕ → List ℕ × List (List ℕ) → List Check
@@ -37,9 +42,9 @@ checks_of schema class value attr = option_map_or (own_checks schema class value
 
 unfoldable pub class_checks : Directory → Token → ℕ → Rdn → ℕ → Add → ℕ → List Check
 class_checks dir token parent rdn class a flags =
-    or_code (not (is_schema_class dir.schema class)) 53
-    ∷ or_code (is_typed dir.schema class rdn) 64
-    ∷ or_code (descriptor_reads a) 19
+    or_code (not (is_schema_class dir.schema class)) unwilling_to_perform
+    ∷ or_code (is_typed dir.schema class rdn) naming_violation
+    ∷ or_code (descriptor_reads a) constraint_violation
     ∷ (flat_map (own_checks dir.schema class rdn.value) (all_ordinary dir.schema a)
     ++ all_met dir token (add_needs dir parent class (new_sd a flags)))
 
@@ -56,5 +61,6 @@ class_judged dir token parent rdn class a flags =
 unfoldable pub below_judged : Directory → Token → ℕ → Rdn → Add → ℕ → Verdict
 below_judged dir token parent rdn a flags =
     by_checks (first_failing (all_naming_checks dir.schema [] a.attrs
-    ++ (or_code (is_some (new_class dir a)) 65 ∷ class_checks dir token parent rdn (class_number dir a) a flags)))
+    ++ (or_code (is_some (new_class dir a)) object_class_violation
+    ∷ class_checks dir token parent rdn (class_number dir a) a flags)))
     (act_of dir parent rdn (class_number dir a) a flags)

@@ -10,6 +10,7 @@ use Rattle.ad_dir_model.specs.Directory.{Directory}
 use Rattle.ad_needs_rules.specs.Needs.{Alternative, needs}
 use Rattle.ad_needs_rules.specs.Checks.{Check, or_code, all_met}
 use Rattle.ad_needs_rules.specs.Requests.{is_name, number_named, or_hidden, class_at, class_path}
+use Rattle.ad_ldap.specs.ResultCodes.{invalid_dn_syntax, unwilling_to_perform}
 
 -- To go alone an object needs SD on itself, or DC on its parent for its class.
 abbrev pub to_leave : Directory → ℕ → List Alternative
@@ -26,9 +27,9 @@ delete_needs dir number false = to_leave dir number ∷ []
 unfoldable pub delete_checks : Directory → Token → List ℕ → Bool → List Check
 delete_checks dir token dn tree =
     let number = number_named dir token dn in
-    or_code (is_name dn) 34
+    or_code (is_name dn) invalid_dn_syntax
     ∷ or_hidden dir token dn
-    ∷ or_code (not (number == root)) 53
+    ∷ or_code (not (number == root)) unwilling_to_perform
     ∷ all_met dir token (delete_needs dir number tree)
 
 abbrev pub delete_act : Directory → Token → List ℕ → Bool → Act

@@ -24,6 +24,7 @@ use Rattle.ad_needs_rules.specs.Checks.{Check, or_code, all_met, first_failing, 
 use Rattle.ad_needs_rules.specs.Requests.{is_descriptor, is_password, class_at}
 use Rattle.ad_needs.specs.Modifying.{items_of, is_forced, is_changed, item_checks, modify_needs}
 use Rattle.ad_needs.specs.Modifying.{written_sd, descriptor_needs, password_needs, ordinary_needs, act_items}
+use Rattle.ad_ldap.specs.ResultCodes.{object_class_mods_prohibited, not_allowed_on_rdn, unwilling_to_perform}
 
 -- ---- checks
 
@@ -41,10 +42,10 @@ has_its_form items name = not (is_password name)
 -- the checks of an item after that of its place, which is there
 abbrev pub placed_checks : Directory → ℕ → List Item → List ℕ → ℕ → List Check
 placed_checks dir number items name attr =
-    or_code (not (same_name name (codes "objectClass"))) 69
-    ∷ or_code (not (naming_of dir.schema (class_at dir number) == attr)) 67
-    ∷ or_code (not (is_kept_from_all dir.schema name attr)) 53
-    ∷ or_code (has_its_form items name) 53
+    or_code (not (same_name name (codes "objectClass"))) object_class_mods_prohibited
+    ∷ or_code (not (naming_of dir.schema (class_at dir number) == attr)) not_allowed_on_rdn
+    ∷ or_code (not (is_kept_from_all dir.schema name attr)) unwilling_to_perform
+    ∷ or_code (has_its_form items name) unwilling_to_perform
     ∷ []
 
 -- ---- needs

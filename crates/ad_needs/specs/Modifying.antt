@@ -25,6 +25,9 @@ use Rattle.ad_needs_rules.specs.Requests.{is_name, number_named, or_hidden, is_d
 use Rattle.ad_needs_rules.specs.Requests.{class_at, attr_path}
 use Rattle.ad_needs_rules.specs.Descriptors.{sd_in_one, asked_parts, has_owner_or_group, has_asked_part}
 use Rattle.ad_needs_rules.specs.Validated.{validated_write}
+use Rattle.ad_ldap.specs.ResultCodes.{undefined_attribute_type, object_class_mods_prohibited, not_allowed_on_rdn}
+use Rattle.ad_ldap.specs.ResultCodes.{unwilling_to_perform, constraint_violation, invalid_dn_syntax}
+use Rattle.ad_ldap.specs.Choices.{replace_values, delete_values, add_values}
 
 -- ---- the items of one attribute
 
@@ -40,11 +43,11 @@ abbrev pub has_one : Item → Bool
 has_one item = length item.values == 1
 
 unfoldable pub is_forced : List Item → Bool
-is_forced (item ∷ []) = item.op == 2 && has_one item
+is_forced (item ∷ []) = item.op == replace_values && has_one item
 is_forced _ = false
 
 unfoldable pub is_changed : List Item → Bool
-is_changed (old ∷ new ∷ []) = (old.op == 1 && has_one old) && (new.op == 0 && has_one new)
+is_changed (old ∷ new ∷ []) = (old.op == delete_values && has_one old) && (new.op == add_values && has_one new)
 is_changed _ = false
 
 -- User-Force-Change-Password, 00299570-246d-11d0-a768-00aa006e0529
@@ -72,19 +75,20 @@ is_unwritable schema name =
 
 abbrev pub ordinary_checks : Directory → ℕ → List Item → Item → List Check
 ordinary_checks dir number items item =
-    or_code (is_some (attr_place dir.schema item.attr)) 17
-    ∷ or_code (not (same_name item.attr (codes "objectClass"))) 69
-    ∷ or_code (not (has_place dir.schema (λ attr. naming_of dir.schema (class_at dir number) == attr) item.attr)) 67
-    ∷ or_code (not (is_unwritable dir.schema item.attr)) 53
+    or_code (is_some (attr_place dir.schema item.attr)) undefined_attribute_type
+    ∷ or_code (not (same_name item.attr (codes "objectClass"))) object_class_mods_prohibited
+    ∷ or_code (not (has_place dir.schema (λ attr. naming_of dir.schema (class_at dir number) == attr) item.attr))
+    not_allowed_on_rdn
+    ∷ or_code (not (is_unwritable dir.schema item.attr)) unwilling_to_perform
     ∷ or_code (not (is_password item.attr)
-    || (is_forced (items_of items item.attr) || is_changed (items_of items item.attr))) 53
+    || (is_forced (items_of items item.attr) || is_changed (items_of items item.attr))) unwilling_to_perform
     ∷ []
 
 -- a descriptor is replaced, by one item, and has a part that is asked for
 abbrev pub descriptor_checks : ℕ → List Item → Item → List Check
 descriptor_checks flags items item =
-    or_code (item.op == 2 && length (items_of items item.attr) == 1) 53
-    ∷ or_code (has_asked_part flags item.values) 19
+    or_code (item.op == replace_values && length (items_of items item.attr) == 1) unwilling_to_perform
+    ∷ or_code (has_asked_part flags item.values) constraint_violation
     ∷ []
 
 abbrev pub item_checks : Directory → ℕ → ℕ → List Item → Item → List Check
@@ -152,7 +156,7 @@ modify_needs dir token number flags items = needs_behind dir token number flags 
 unfoldable pub modify_checks : Directory → Token → Modify → ℕ → List Check
 modify_checks dir token m flags =
     let number = number_named dir token m.dn in
-    or_code (is_name m.dn) 34
+    or_code (is_name m.dn) invalid_dn_syntax
     ∷ or_hidden dir token m.dn
     ∷ (flat_map (item_checks dir number flags m.items) m.items
     ++ all_met dir token (modify_needs dir token number flags m.items))

@@ -13,6 +13,7 @@ use Rattle.ad_needs_rules.specs.declared.outcome.Verdict.{Verdict}
 use Rattle.ad_needs_rules.specs.Checks.{Check, hidden, first_failing, or_code, all_met, by_checks}
 use Rattle.ad_needs_rules.specs.Requests.{is_name, number_named, or_hidden, class_at}
 use Rattle.ad_needs.specs.Renaming.{is_typed, rename_needs}
+use Rattle.ad_ldap.specs.ResultCodes.{unwilling_to_perform, naming_violation, invalid_dn_syntax}
 
 -- ---- where the object is to go: the superior, or its own parent
 
@@ -26,9 +27,9 @@ is_outside dir number superior = option_map_or (λ above. not (goes_with dir num
 
 unfoldable pub rename_rest : Directory → Token → ℕ → Rdn → Option ℕ → List Check
 rename_rest dir token number rdn superior =
-    or_code (not (number == root)) 53
-    ∷ or_code (is_typed dir.schema (class_at dir number) rdn) 64
-    ∷ or_code (is_outside dir number superior) 53
+    or_code (not (number == root)) unwilling_to_perform
+    ∷ or_code (is_typed dir.schema (class_at dir number) rdn) naming_violation
+    ∷ or_code (is_outside dir number superior) unwilling_to_perform
     ∷ all_met dir token (rename_needs dir number (parent_by dir number superior))
 
 unfoldable pub rename_judged : Directory → Token → ℕ → Rdn → Option ℕ → Verdict
@@ -60,6 +61,7 @@ unfoldable pub moved_judged : Directory → Token → List Rdn → Rdn → List 
 moved_judged dir token rdns rdn superior =
     let number = number_seen dir token rdns in
     let above = Some (number_named dir token superior) in
-    by_checks (first_failing (or_code (is_name superior) 34 ∷ or_unseen dir token rdns ∷ or_hidden dir token superior
+    by_checks (first_failing (or_code (is_name superior) invalid_dn_syntax
+    ∷ or_unseen dir token rdns ∷ or_hidden dir token superior
     ∷ rename_rest dir token number rdn above))
     (act.Rename number (parent_by dir number above) rdn.value)

@@ -21,6 +21,7 @@ use Rattle.ad_needs_rules.specs.Checks.{Check, or_code, all_met}
 use Rattle.ad_needs_rules.specs.Requests.{no_rdn, name_in, is_name, number_named, or_hidden, class_at, class_path}
 use Rattle.ad_needs_rules.specs.Requests.{attr_path}
 use Rattle.ad_needs.specs.Deleting.{to_leave}
+use Rattle.ad_ldap.specs.ResultCodes.{invalid_dn_syntax, unwilling_to_perform, naming_violation}
 
 -- ---- what is asked for
 
@@ -83,14 +84,14 @@ rename_needs dir number parent =
 unfoldable pub rename_checks : Directory → Token → Rename → List Check
 rename_checks dir token r =
     let number = number_named dir token r.dn in
-    or_code (is_name r.dn) 34
-    ∷ or_code (is_some (new_rdn r)) 34
-    ∷ or_code (superior_reads r.superior) 34
+    or_code (is_name r.dn) invalid_dn_syntax
+    ∷ or_code (is_some (new_rdn r)) invalid_dn_syntax
+    ∷ or_code (superior_reads r.superior) invalid_dn_syntax
     ∷ or_hidden dir token r.dn
     ∷ (superior_seen dir token r.superior
-    ++ (or_code (not (number == root)) 53
-    ∷ or_code (is_typed dir.schema (class_at dir number) (unwrap_or (new_rdn r) no_rdn)) 64
-    ∷ or_code (superior_outside dir token number r.superior) 53
+    ++ (or_code (not (number == root)) unwilling_to_perform
+    ∷ or_code (is_typed dir.schema (class_at dir number) (unwrap_or (new_rdn r) no_rdn)) naming_violation
+    ∷ or_code (superior_outside dir token number r.superior) unwilling_to_perform
     ∷ all_met dir token (rename_needs dir number (new_parent dir token r))))
 
 abbrev pub rename_act : Directory → Token → Rename → Act

@@ -13,6 +13,8 @@ use Rattle.ad_needs.specs.Adding.{add_checks, add_act}
 use Rattle.ad_needs.specs.Deleting.{delete_checks, delete_act}
 use Rattle.ad_needs.specs.Renaming.{rename_checks, rename_act}
 use Rattle.ad_needs.specs.Modifying.{modify_checks, modify_act}
+use Rattle.ad_ldap.specs.ResultCodes.{unwilling_to_perform}
+use Rattle.ad_ldap.specs.Choices.{replace_values}
 
 -- Nothing else is a change, and would be refused.
 unfoldable pub verdict_of : Directory → Token → OpValue → Settings → Verdict
@@ -23,7 +25,7 @@ verdict_of dir token (DeleteOf dn) s = by_checks (first_failing (delete_checks d
 verdict_of dir token (RenameOf r) s = by_checks (first_failing (rename_checks dir token r)) (rename_act dir token r)
 verdict_of dir token (ModifyOf m) s = by_checks (first_failing (modify_checks dir token m s.sd_flags))
     (modify_act dir token m s.sd_flags)
-verdict_of dir token _ s = Refused 53
+verdict_of dir token _ s = Refused unwilling_to_perform
 
 -- ---- the operations that change a directory
 
@@ -32,7 +34,7 @@ abbrev pub IsChange : OpValue → Type 0
 IsChange (AddOf a) = Unit {0}
 IsChange (DeleteOf dn) = Unit {0}
 IsChange (RenameOf r) = Unit {0}
-IsChange (ModifyOf m) = AllByRecursion (λ item. item.op ≤ 2) m.items
+IsChange (ModifyOf m) = AllByRecursion (λ item. item.op ≤ replace_values) m.items
 IsChange _ = ⊥
 
 -- on this directory the checks resolve some operation to the act

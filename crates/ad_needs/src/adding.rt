@@ -27,7 +27,7 @@ use ad_bytes::Bytes;
 use ad_dir::{Act, Dir};
 use ad_dn::{Dn, Rdn};
 use ad_ids::Token;
-use ad_ldap::{Add, Settings};
+use ad_ldap::{Add, Settings, result_code};
 use ad_needs_rules::{
     Ask, ROOT, Right, Verdict, asked_parts, class_path, matched, read_name, sd_in_one,
     unless_granted, visible,
@@ -251,14 +251,14 @@ fn judged_of_class(
         add.now flags) }
 {
     if is_schema_class(dir.schema(), class) {
-        return Ok(Verdict::Refused(53));
+        return Ok(Verdict::Refused(result_code::UNWILLING_TO_PERFORM));
     }
     if !is_typed(dir.schema(), class, &rdn) {
-        return Ok(Verdict::Refused(64));
+        return Ok(Verdict::Refused(result_code::NAMING_VIOLATION));
     }
     match sd_sent(alloc, add)? {
         Some(sd) => judged_with(alloc, dir, token, parent, rdn, class, add, flags, sd),
-        None => Ok(Verdict::Refused(19)),
+        None => Ok(Verdict::Refused(result_code::CONSTRAINT_VIOLATION)),
     }
 }
 
@@ -281,7 +281,7 @@ fn judged_below(
         return Ok(refusal);
     }
     let Some(class) = new_class(alloc, dir, add)? else {
-        return Ok(Verdict::Refused(65));
+        return Ok(Verdict::Refused(result_code::OBJECT_CLASS_VIOLATION));
     };
     judged_of_class(alloc, dir, token, parent, rdn, class, add, flags)
 }
@@ -347,13 +347,13 @@ pub(crate) fn add_verdict(
         settings.now) }
 {
     let Some(dn) = read_name(alloc, add.dn.as_slice())? else {
-        return Ok(Verdict::Refused(34));
+        return Ok(Verdict::Refused(result_code::INVALID_DN_SYNTAX));
     };
     let Some(rdn) = first_part(alloc, &dn)? else {
-        return Ok(Verdict::Refused(34));
+        return Ok(Verdict::Refused(result_code::INVALID_DN_SYNTAX));
     };
     if is_root_named(alloc, dir, &dn)? {
-        return Ok(Verdict::Refused(68));
+        return Ok(Verdict::Refused(result_code::ENTRY_ALREADY_EXISTS));
     }
     let Some(parent) = parent_named(alloc, dir, token, &dn)? else {
         let near = matched(alloc, dir, token, &dn)?;

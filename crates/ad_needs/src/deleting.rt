@@ -11,7 +11,7 @@ ghost use Rattle.ad_needs.specs.Verdicts.{verdict_of};
 
 use ad_dir::{Act, Dir};
 use ad_ids::Token;
-use ad_ldap::Settings;
+use ad_ldap::{Settings, result_code};
 use ad_needs_rules::{
     Ask, ROOT, Right, Verdict, class_of, class_path, matched, parent_of, read_name, unless_either,
     unless_granted, visible,
@@ -105,14 +105,14 @@ pub(crate) fn delete_verdict(
         settings.now) }
 {
     let Some(dn) = read_name(alloc, text)? else {
-        return Ok(Verdict::Refused(34));
+        return Ok(Verdict::Refused(result_code::INVALID_DN_SYNTAX));
     };
     let Some(number) = visible(alloc, dir, token, &dn)? else {
         let above = matched(alloc, dir, token, &dn)?;
         return Ok(Verdict::Hidden(above));
     };
     if number == ROOT {
-        return Ok(Verdict::Refused(53));
+        return Ok(Verdict::Refused(result_code::UNWILLING_TO_PERFORM));
     }
     match unless_deletes(alloc, dir, token, number, settings.tree)? {
         Some(refusal) => Ok(refusal),

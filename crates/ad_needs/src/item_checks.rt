@@ -15,7 +15,7 @@ use crate::items::{has_its_form, replaces_alone};
 use crate::sent::is_object_sid;
 use ad_bytes::Bytes;
 use ad_dir::Dir;
-use ad_ldap::Item;
+use ad_ldap::{Item, result_code};
 use ad_needs_rules::{Verdict, asked_parts, class_of, has_part, is_descriptor, sd_in_one};
 use ad_schema::{AttrId, Schema};
 use ad_schema_classes::same_name;
@@ -53,18 +53,18 @@ fn placed_refusal(
         ≡ refusal_of (placed_checks dir.now number items.now name.now attr.0)) }
 {
     if same_name(name, b"objectClass") {
-        return Ok(Some(Verdict::Refused(69)));
+        return Ok(Some(Verdict::Refused(result_code::OBJECT_CLASS_MODS_PROHIBITED)));
     }
     if is_naming(dir, number, attr) {
-        return Ok(Some(Verdict::Refused(67)));
+        return Ok(Some(Verdict::Refused(result_code::NOT_ALLOWED_ON_RDN)));
     }
     if is_kept_from_all(dir.schema(), name, attr) {
-        return Ok(Some(Verdict::Refused(53)));
+        return Ok(Some(Verdict::Refused(result_code::UNWILLING_TO_PERFORM)));
     }
     if has_its_form(alloc, items, name)? {
         return Ok(None);
     }
-    Ok(Some(Verdict::Refused(53)))
+    Ok(Some(Verdict::Refused(result_code::UNWILLING_TO_PERFORM)))
 }
 
 // The refusal of an item of an attribute other than the descriptor.
@@ -82,7 +82,7 @@ fn ordinary_refusal(
     let name = item.attr.as_slice();
     match dir.schema().attr(name) {
         Some(attr) => placed_refusal(alloc, dir, number, items, name, attr),
-        None => Ok(Some(Verdict::Refused(17))),
+        None => Ok(Some(Verdict::Refused(result_code::UNDEFINED_ATTRIBUTE_TYPE))),
     }
 }
 
@@ -108,12 +108,12 @@ fn descriptor_refusal(
         ≡ refusal_of (descriptor_checks flags items.now item.now)) }
 {
     if !replaces_alone(alloc, items, item)? {
-        return Ok(Some(Verdict::Refused(53)));
+        return Ok(Some(Verdict::Refused(result_code::UNWILLING_TO_PERFORM)));
     }
     if has_asked_part(alloc, flags, item.values.as_slice())? {
         return Ok(None);
     }
-    Ok(Some(Verdict::Refused(19)))
+    Ok(Some(Verdict::Refused(result_code::CONSTRAINT_VIOLATION)))
 }
 
 fn item_refusal(

@@ -5,8 +5,9 @@ ghost use Rattle.std.specs.List.{list_any};
 ghost use Rattle.ad_needs_rules.specs.Requests.{is_password};
 ghost use Rattle.ad_needs.specs.Modifying.{is_item_of, items_of, has_one, is_forced, is_changed};
 ghost use Rattle.ad_needs.specs.ItemWords.{has_its_form};
+ghost use Rattle.ad_ldap.specs.Choices.{replace_values};
 
-use ad_ldap::Item;
+use ad_ldap::{ADD_VALUES, DELETE_VALUES, Item, REPLACE_VALUES};
 use ad_schema_classes::same_name;
 use std::alloc::{AllocError, Global};
 
@@ -67,7 +68,7 @@ pub fn is_forced(items: &[&Item]) -> bool
     ensures { result ≡ is_forced (map (λ item. item.now) items.now) }
 {
     match items {
-        [item] => is_of_one(item, 2),
+        [item] => is_of_one(item, REPLACE_VALUES),
         _ => false,
     }
 }
@@ -78,7 +79,7 @@ fn is_changed(items: &[&Item]) -> bool
     ensures { result ≡ is_changed (map (λ item. item.now) items.now) }
 {
     match items {
-        [old, new] => is_of_one(old, 1) && is_of_one(new, 0),
+        [old, new] => is_of_one(old, DELETE_VALUES) && is_of_one(new, ADD_VALUES),
         _ => false,
     }
 }
@@ -106,9 +107,9 @@ pub(crate) fn has_its_form(alloc: Global, items: &[Item], name: &[u8]) -> Result
 /// Memory ran out.
 pub(crate) fn replaces_alone(alloc: Global, items: &[Item], item: &Item) -> Result<bool, AllocError>
     ensures { IfOk result (λ is. is
-        ≡ (item.now.op == 2 && length (items_of items.now item.now.attr) == 1)) }
+        ≡ (item.now.op == replace_values && length (items_of items.now item.now.attr) == 1)) }
 {
-    if item.op != 2 {
+    if item.op != REPLACE_VALUES {
         return Ok(false);
     }
     let own = items_of(alloc, items, item.attr.as_slice())?;

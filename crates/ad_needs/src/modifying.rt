@@ -7,6 +7,7 @@ ghost use Rattle.ad_dir_model.specs.Objects.{is_live};
 ghost use Rattle.ad_needs.specs.Modifying.{act_item, act_items};
 ghost use Rattle.ad_needs.specs.Verdicts.{verdict_of};
 ghost use Rattle.ad_needs.specs.ItemWords.{act_at, verdict_at, verdict_named};
+ghost use Rattle.ad_ldap.specs.Choices.{replace_values};
 
 use crate::item_checks::items_refusal;
 use crate::modify_needs::{needs_refusal, written_sd};
@@ -15,7 +16,7 @@ use ad_bytes::List;
 use ad_dir::{Act, ActItem, Dir};
 use ad_dn::Dn;
 use ad_ids::Token;
-use ad_ldap::{Item, Modify, Settings};
+use ad_ldap::{Item, Modify, Settings, result_code};
 use ad_needs_rules::{Verdict, is_descriptor, matched, read_name, visible};
 use ad_schema::Schema;
 use std::alloc::{AllocError, Global};
@@ -133,13 +134,13 @@ pub(crate) fn modify_verdict(
     modify: &Modify,
     settings: &Settings,
 ) -> Result<Verdict, AllocError>
-    requires { AllByRecursion (λ item. item.op ≤ 2) modify.now.items }
+    requires { AllByRecursion (λ item. item.op ≤ replace_values) modify.now.items }
     ensures { IfOk result (λ verdict. verdict ≡ verdict_of dir.now token.now (ModifyOf modify.now)
         settings.now) }
 {
     let items = modify.items.as_slice();
     match read_name(alloc, modify.dn.as_slice())? {
         Some(dn) => verdict_named(alloc, dir, token, &dn, items, settings.sd_flags),
-        None => Ok(Verdict::Refused(34)),
+        None => Ok(Verdict::Refused(result_code::INVALID_DN_SYNTAX)),
     }
 }

@@ -6,10 +6,9 @@ ghost use Rattle.ad_ldap.specs.MessageValue.{RenameOf};
 ghost use Rattle.ad_schema.specs.Attributes.{attrs_of};
 ghost use Rattle.ad_schema.specs.Classes.{classes_of, naming_of};
 ghost use Rattle.ad_dir_model.specs.Objects.{is_live};
-ghost use Rattle.ad_dir_model.specs.Tree.{root, is_below};
+ghost use Rattle.ad_dir_model.specs.Tree.{root};
 ghost use Rattle.ad_dir_model.specs.Attributes.{attr_name, attr_place};
 ghost use Rattle.ad_dir_model.specs.Changes.{goes_with};
-ghost use Rattle.ad_dir_model.specs.Directory.{parents};
 ghost use Rattle.ad_needs_rules.specs.Checks.{all_met};
 ghost use Rattle.ad_needs_rules.specs.Requests.{class_at, name_in};
 ghost use Rattle.ad_needs.specs.Renaming.{one_part, is_typed, move_needs, to_write, name_needs, rename_needs};
@@ -22,17 +21,14 @@ use crate::deleting::unless_leaves;
 use ad_dir::{Act, Dir, live_object};
 use ad_dn::{Dn, Rdn};
 use ad_ids::Token;
-use ad_ldap::{Rename, Settings};
+use ad_ldap::{Rename, Settings, result_code};
 use ad_needs_rules::{
-    Ask, ROOT, Right, Verdict, attr_path, class_of, class_path, matched, parent_of, read_name,
-    unless_granted, visible,
+    Ask, ROOT, Right, Verdict, attr_path, class_of, class_path, goes_with, matched, parent_of,
+    read_name, unless_granted, visible,
 };
 use ad_schema::{AttrId, ClassId, Schema};
 use ad_schema_classes::same_name;
 use std::alloc::{AllocError, Global};
-
-// As many parents as stand above an object.
-const LEVELS: u32 = 64;
 
 // ---- what is asked for
 
@@ -74,36 +70,6 @@ pub(crate) fn is_typed(schema: &Schema, class: ClassId, rdn: &Rdn) -> bool
 }
 
 // ---- where the object is to go
-
-// Whether the other stands above a live object.
-#[tactic(auto, unfolding(ad_dir_model::specs::Tree::is_below, ad_dir_model::specs::Limits::max_depth))]
-fn is_below(dir: &Dir, other: u32, number: u32) -> bool
-    requires { is_live dir.now.objects number ≡ true }
-    ensures { result ≡ is_below (parents dir.now) other number }
-{
-    let mut at = number;
-    let mut left = LEVELS;
-    'up: while left > 0 {
-        if at == ROOT {
-            return false;
-        }
-        left -= 1;
-        at = parent_of(dir, at);
-        if at == other {
-            return true;
-        }
-    }
-    false
-}
-
-// Whether a live object is the other, or stands below it.
-#[tactic(auto, unfolding(ad_dir_model::specs::Changes::goes_with))]
-fn goes_with(dir: &Dir, other: u32, number: u32) -> bool
-    requires { is_live dir.now.objects number ≡ true }
-    ensures { result ≡ goes_with dir.now other number }
-{
-    number == other || is_below(dir, other, number)
-}
 
 // Whether the superior, where one is named, is neither the object nor below it.
 fn is_outside(dir: &Dir, number: u32, superior: Option<u32>) -> bool
@@ -264,13 +230,13 @@ fn unless_lawful(
         ≡ refusal_of (rename_rest dir.now token.now number rdn.now superior)) }
 {
     if number == ROOT {
-        return Ok(Some(Verdict::Refused(53)));
+        return Ok(Some(Verdict::Refused(result_code::UNWILLING_TO_PERFORM)));
     }
     if !is_typed(dir.schema(), class_of(dir, number), rdn) {
-        return Ok(Some(Verdict::Refused(64)));
+        return Ok(Some(Verdict::Refused(result_code::NAMING_VIOLATION)));
     }
     if !is_outside(dir, number, superior) {
-        return Ok(Some(Verdict::Refused(53)));
+        return Ok(Some(Verdict::Refused(result_code::UNWILLING_TO_PERFORM)));
     }
     let parent = new_parent(dir, number, superior);
     unless_renames(alloc, dir, token, number, parent)
@@ -329,7 +295,7 @@ fn judged_moved(
         superior.now) }
 {
     let Some(above) = read_name(alloc, superior)? else {
-        return Ok(Verdict::Refused(34));
+        return Ok(Verdict::Refused(result_code::INVALID_DN_SYNTAX));
     };
     let Some(number) = visible(alloc, dir, token, dn)? else {
         let near = matched(alloc, dir, token, dn)?;
@@ -359,10 +325,10 @@ pub(crate) fn rename_verdict(
 {
     let _ = settings;
     let Some(dn) = read_name(alloc, rename.dn.as_slice())? else {
-        return Ok(Verdict::Refused(34));
+        return Ok(Verdict::Refused(result_code::INVALID_DN_SYNTAX));
     };
     let Some(rdn) = read_rdn(alloc, rename.rdn.as_slice())? else {
-        return Ok(Verdict::Refused(34));
+        return Ok(Verdict::Refused(result_code::INVALID_DN_SYNTAX));
     };
     match &rename.superior {
         Some(superior) => judged_moved(alloc, dir, token, &dn, rdn, superior.as_slice()),

@@ -16,10 +16,11 @@ ghost use Rattle.ad_needs.specs.Additions.{checks_of, unplaced_checks};
 ghost use Rattle.ad_needs.specs.ItemWords.{AreSent};
 ghost use Rattle.ad_needs_rules.specs.declared.outcome.Verdict.TheVariants.{Refused};
 ghost use Rattle.ad_needs_rules.specs.Judged.{refusal_of};
+ghost use Rattle.ad_ldap.specs.ResultCodes.{attribute_or_value_exists};
 
 use crate::first_named::{is_first_mark, none_sent};
 use ad_bytes::{Bytes, List};
-use ad_ldap::Add;
+use ad_ldap::{Add, result_code};
 use ad_needs_rules::{Verdict, is_descriptor, is_named};
 use ad_schema::{AttrId, ClassId, RuleAttr, Schema};
 use ad_schema_classes::same_name;
@@ -57,12 +58,12 @@ fn is_among(earlier: &[(Bytes, List<Bytes>)], name: &[u8]) -> bool
 
 // The refusal unless an attribute is named for the first time.
 fn unless_first(first: bool) -> Option<Verdict>
-    ensures { result ≡ (if first then None else Some (Refused 20)) }
+    ensures { result ≡ (if first then None else Some (Refused attribute_or_value_exists)) }
 {
     if first {
         None
     } else {
-        Some(Verdict::Refused(20))
+        Some(Verdict::Refused(result_code::ATTRIBUTE_OR_VALUE_EXISTS))
     }
 }
 
@@ -71,10 +72,10 @@ fn unless_descriptor(earlier: &[(Bytes, List<Bytes>)], name: &[u8]) -> Option<Ve
     ensures { result ≡ refusal_of (unplaced_checks earlier.now name.now) }
 {
     if !is_descriptor(name) {
-        return Some(Verdict::Refused(17));
+        return Some(Verdict::Refused(result_code::UNDEFINED_ATTRIBUTE_TYPE));
     }
     if is_among(earlier, name) {
-        return Some(Verdict::Refused(20));
+        return Some(Verdict::Refused(result_code::ATTRIBUTE_OR_VALUE_EXISTS));
     }
     None
 }
@@ -194,10 +195,10 @@ fn unless_own(
     ensures { result ≡ refusal_of (own_checks schema.now class.0 value.now (attr.0, values.now)) }
 {
     if is_kept_back(schema, attr) {
-        return Some(Verdict::Refused(53));
+        return Some(Verdict::Refused(result_code::UNWILLING_TO_PERFORM));
     }
     if !are_own(schema, class, value, attr, values) {
-        return Some(Verdict::Refused(64));
+        return Some(Verdict::Refused(result_code::NAMING_VIOLATION));
     }
     None
 }

@@ -8,3 +8,4 @@ pub mod AboveLaws
 pub mod Paths
 pub mod DescriptorLaws
 pub mod ValidatedLaws
+pub mod StandingLaws

@@ -7,6 +7,8 @@ use Rattle.ad_ids.specs.declared.token.Token.{Token}
 use Rattle.ad_acl.specs.Mask.{has_bit}
 use Rattle.ad_sd.specs.declared.parts.SdParts.{SdParts}
 use Rattle.ad_sd.specs.Reading.{parts_of}
+use Rattle.ad_ldap.specs.Choices.{owner_part, group_part, dacl_part, sacl_part}
+use Rattle.ad_needs_rules.specs.Privileges.{restore}
 
 -- the parts in the one value, where it can be read
 abbrev pub sd_in_one : List (List ℕ) → Option SdParts
@@ -16,13 +18,13 @@ sd_in_one _ = None
 abbrev pub part_if : {A : Type 0} → Bool → Option A → Option A
 part_if asked part = if asked then part else None
 
--- those of them that are asked for: bit 0 the owner, bit 1 the group, bit 2 the DACL, bit 3 the SACL
+-- those of them that are asked for, by a bit each
 unfoldable pub asked_parts : ℕ → SdParts → SdParts
 asked_parts flags parts = record {
-  owner = part_if (has_bit flags 0) parts.owner;
-  group = part_if (has_bit flags 1) parts.group;
-  dacl = part_if (has_bit flags 2) parts.dacl;
-  sacl = part_if (has_bit flags 3) parts.sacl;
+  owner = part_if (has_bit flags owner_part) parts.owner;
+  group = part_if (has_bit flags group_part) parts.group;
+  dacl = part_if (has_bit flags dacl_part) parts.dacl;
+  sacl = part_if (has_bit flags sacl_part) parts.sacl;
 }
 
 abbrev pub has_owner_or_group : SdParts → Bool
@@ -39,7 +41,7 @@ has_asked_part flags values = option_map_or (λ parts. has_part (asked_parts fla
 
 -- the token's user, one of its enabled groups, or anyone with the privilege to restore
 abbrev pub may_give : Token → SidValue → Bool
-may_give token sid = contains_sid (token.user ∷ token.groups) sid || has_bit token.privileges 2
+may_give token sid = contains_sid (token.user ∷ token.groups) sid || has_bit token.privileges restore
 
 abbrev pub is_owner_allowed : Token → Option SdParts → Bool
 is_owner_allowed token sd = option_map_or (may_give token) (option_and_then (λ parts. parts.owner) sd) true

@@ -1,3 +1,4 @@
+pub mod Privileges
 pub mod Needs
 pub mod Checks
 pub mod Requests

@@ -10,6 +10,10 @@ use Rattle.ad_dir_model.specs.Names.{name_text}
 use Rattle.ad_access_dir.specs.Sight.{is_granted}
 use Rattle.ad_needs_rules.specs.declared.need.Want.{Want}
 use Rattle.ad_needs_rules.specs.declared.need.Need.{Need}
+use Rattle.ad_acl.specs.Mask.{create_child, delete_child, list_children, self_write, read_property, write_property}
+use Rattle.ad_acl.specs.Mask.{delete_tree, list_object, control_access, delete_object, read_control, write_dac}
+use Rattle.ad_acl.specs.Mask.{write_owner, access_system_security, generic_all, generic_execute, generic_write}
+use Rattle.ad_acl.specs.Mask.{generic_read}
 
 -- a right on an object, on a path
 pub record Alternative : Type 0 where
@@ -43,24 +47,24 @@ need_of requirement = record { alternatives = map want_of requirement }
 -- the code of a right, which is none for any other mask
 unfoldable pub code_of : ℕ → List ℕ
 code_of right =
-    if right == 0x1 then codes "CC" else
-    (if right == 0x2 then codes "DC" else
-    (if right == 0x4 then codes "LC" else
-    (if right == 0x8 then codes "SW" else
-    (if right == 0x10 then codes "RP" else
-    (if right == 0x20 then codes "WP" else
-    (if right == 0x40 then codes "DT" else
-    (if right == 0x80 then codes "LO" else
-    (if right == 0x100 then codes "CR" else
-    (if right == 0x10000 then codes "SD" else
-    (if right == 0x20000 then codes "RC" else
-    (if right == 0x40000 then codes "WD" else
-    (if right == 0x80000 then codes "WO" else
-    (if right == 0x1000000 then codes "AS" else
-    (if right == 0x10000000 then codes "GA" else
-    (if right == 0x20000000 then codes "GX" else
-    (if right == 0x40000000 then codes "GW" else
-    (if right == 0x80000000 then codes "GR" else [])))))))))))))))))
+    if right == 2 ^ create_child then codes "CC" else
+    (if right == 2 ^ delete_child then codes "DC" else
+    (if right == 2 ^ list_children then codes "LC" else
+    (if right == 2 ^ self_write then codes "SW" else
+    (if right == 2 ^ read_property then codes "RP" else
+    (if right == 2 ^ write_property then codes "WP" else
+    (if right == 2 ^ delete_tree then codes "DT" else
+    (if right == 2 ^ list_object then codes "LO" else
+    (if right == 2 ^ control_access then codes "CR" else
+    (if right == 2 ^ delete_object then codes "SD" else
+    (if right == 2 ^ read_control then codes "RC" else
+    (if right == 2 ^ write_dac then codes "WD" else
+    (if right == 2 ^ write_owner then codes "WO" else
+    (if right == 2 ^ access_system_security then codes "AS" else
+    (if right == 2 ^ generic_all then codes "GA" else
+    (if right == 2 ^ generic_execute then codes "GX" else
+    (if right == 2 ^ generic_write then codes "GW" else
+    (if right == 2 ^ generic_read then codes "GR" else [])))))))))))))))))
 
 abbrev pub guid_or_hyphen : Option Guid → List ℕ
 guid_or_hyphen None = codes "-"

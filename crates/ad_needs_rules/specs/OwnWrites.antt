@@ -15,6 +15,7 @@ use Rattle.ad_needs_rules.specs.declared.validated.OwnWrite.TheVariants.{Members
 use Rattle.ad_needs_rules.specs.Validated.{self_membership, validated_spn, validated_host_name, is_domain_part}
 use Rattle.ad_needs_rules.specs.Validated.{is_computer}
 use Rattle.ad_needs_rules.specs.Validated.{is_own_membership, is_own_service, is_own_host_name, if_all}
+use Rattle.ad_needs_rules.specs.Validated.{dot}
 
 -- what the values show that are no links
 abbrev pub shown_in : List Stored → List (List ℕ)
@@ -22,7 +23,7 @@ shown_in stored = map (λ value. value.shown) (filter_map plain_value stored)
 
 -- a dot and the value of a part, where it is one of the domain
 abbrev pub dotted_part : Rdn → List ℕ
-dotted_part rdn = if is_domain_part rdn then 46 ∷ rdn.value else []
+dotted_part rdn = if is_domain_part rdn then dot ∷ rdn.value else []
 
 abbrev pub dotted : List Rdn → List ℕ
 dotted rdns = flat_map dotted_part rdns
@@ -34,10 +35,10 @@ is_valid dir token number Membership item = is_own_membership dir token item
 is_valid dir token number Service item = is_own_service dir number item
 is_valid dir token number HostName item = is_own_host_name dir number item
 
-abbrev pub guid_of : OwnWrite → Guid
-guid_of Membership = self_membership
-guid_of Service = validated_spn
-guid_of HostName = validated_host_name
+abbrev pub write_guid : OwnWrite → Guid
+write_guid Membership = self_membership
+write_guid Service = validated_spn
+write_guid HostName = validated_host_name
 
 -- an attribute of the name, on a computer
 abbrev pub is_of_computer : Directory → ℕ → List ℕ → ℕ → Bool
@@ -54,4 +55,4 @@ write_of dir number attr =
 -- its GUID, where there is one and all items are valid
 abbrev pub guid_if : Directory → Token → ℕ → List Item → Option OwnWrite → Option Guid
 guid_if dir token number items None = None
-guid_if dir token number items (Some write) = if_all (is_valid dir token number write) items (guid_of write)
+guid_if dir token number items (Some write) = if_all (is_valid dir token number write) items (write_guid write)

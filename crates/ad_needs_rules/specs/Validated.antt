@@ -17,6 +17,7 @@ use Rattle.ad_dir_model.specs.Identity.{is_sid, self_sid}
 use Rattle.ad_dir_model.specs.Directory.{Directory}
 use Rattle.ad_dir_model.specs.Names.{rdns_of, found, same_folded}
 use Rattle.ad_needs_rules.specs.Requests.{name_in, class_at}
+use Rattle.ad_ldap.specs.Choices.{replace_values, delete_values}
 
 -- ---- GUIDs, in packet order
 
@@ -48,6 +49,14 @@ computer = record {
       ∷ 0x30 ∷ 0x49 ∷ 0xe2 ∷ [];
 }
 
+-- ---- characters
+
+abbrev pub slash : ℕ
+slash = 47
+
+abbrev pub dot : ℕ
+dot = 46
+
 -- ---- helpers
 
 -- bytes that aren't UTF-8 are equal to nothing by folding
@@ -70,14 +79,14 @@ names_user dir token value = option_map_or (λ number. is_sid token.user (self_s
     (option_and_then (found dir) (name_in value)) false
 
 unfoldable pub is_own_membership : Directory → Token → Item → Bool
-is_own_membership dir token item = not (item.op == 2) && is_one (names_user dir token) item.values
+is_own_membership dir token item = not (item.op == replace_values) && is_one (names_user dir token) item.values
 
 -- ---- service principal names: `service/host`, where the host is the computer's name or one of its stored host names
 
--- what stands before and after the only slash (47), neither part empty
+-- what stands before and after the only slash, neither part empty
 unfoldable pub host_in : List ℕ → Option (List ℕ)
-host_in value = option_and_then (λ at. if at == 0 || list_any (λ b. b == 47) (drop (at + 1) value)
-    || length (drop (at + 1) value) == 0 then None else Some (drop (at + 1) value)) (position (λ b. b == 47) value)
+host_in value = option_and_then (λ at. if at == 0 || list_any (λ b. b == slash) (drop (at + 1) value)
+    || length (drop (at + 1) value) == 0 then None else Some (drop (at + 1) value)) (position (λ b. b == slash) value)
 
 -- the stored host names of an object
 abbrev pub host_names : Directory → ℕ → List (List ℕ)
@@ -94,7 +103,7 @@ is_own_service dir number item =
     not (length item.values == 0) && list_all (λ value. option_map_or (is_own_host dir number) (host_in value) false)
     item.values
 
--- ---- the host name: the computer's name, a dot (46), and the domain's name
+-- ---- the host name: the computer's name, a dot, and the domain's name
 
 abbrev pub is_domain_part : Rdn → Bool
 is_domain_part rdn = bytes_eq rdn.kind (codes "DC")
@@ -103,15 +112,15 @@ is_domain_part rdn = bytes_eq rdn.kind (codes "DC")
 abbrev pub joined : List (List ℕ) → List ℕ
 joined [] = []
 joined (value ∷ []) = value
-joined (value ∷ other ∷ others) = value ++ 46 ∷ joined (other ∷ others)
+joined (value ∷ other ∷ others) = value ++ dot ∷ joined (other ∷ others)
 
 unfoldable pub domain_name : Directory → List ℕ
 domain_name dir = joined (map (λ rdn. rdn.value) (filter is_domain_part (rdns_of dir root)))
 
 unfoldable pub is_own_host_name : Directory → ℕ → Item → Bool
 is_own_host_name dir number item =
-    not (item.op == 1) && is_one (λ value.
-    equals_folded value ((object_at dir.objects number).name ++ 46 ∷ domain_name dir)) item.values
+    not (item.op == delete_values) && is_one (λ value.
+    equals_folded value ((object_at dir.objects number).name ++ dot ∷ domain_name dir)) item.values
 
 -- ---- the right that stands beside the one to write
 

@@ -8,6 +8,7 @@ ghost use Rattle.ad_needs_rules.specs.Requests.{is_descriptor};
 
 use ad_bytes::Bytes;
 use ad_ids::Sid;
+use ad_ldap::{DACL_PART, GROUP_PART, OWNER_PART, SACL_PART};
 use ad_schema_classes::same_name;
 use ad_sd::{AceList, SdFault, SdParts, read_parts};
 use std::alloc::{AllocError, Global};
@@ -60,10 +61,10 @@ pub fn asked_parts(flags: u8, parts: SdParts) -> SdParts
     ensures { result ≡ asked_parts flags parts }
 {
     SdParts {
-        owner: sid_if(flags & 1 != 0, parts.owner),
-        group: sid_if(flags & 2 != 0, parts.group),
-        dacl: list_if(flags & 4 != 0, parts.dacl),
-        sacl: list_if(flags & 8 != 0, parts.sacl),
+        owner: sid_if(flags & OWNER_PART != 0, parts.owner),
+        group: sid_if(flags & GROUP_PART != 0, parts.group),
+        dacl: list_if(flags & DACL_PART != 0, parts.dacl),
+        sacl: list_if(flags & SACL_PART != 0, parts.sacl),
     }
 }
 

@@ -13,16 +13,15 @@ ghost use Rattle.ad_dir_model.specs.Names.{same_folded};
 ghost use Rattle.ad_needs_rules.specs.Validated.{equals_folded, host_in, is_own_host, is_domain_part, joined};
 ghost use Rattle.ad_needs_rules.specs.Validated.{domain_name};
 ghost use Rattle.ad_needs_rules.specs.OwnWrites.{shown_in, dotted_part, dotted};
+ghost use Rattle.ad_needs_rules.specs.Validated.{slash, dot};
 
+use crate::naming::ROOT;
 use ad_bytes::{Bytes, Few};
 use ad_dir::{Dir, Stored, live_object, stored_of};
 use ad_dn::{Rdn, same_value};
 use ad_schema::{AttrId, Schema};
 use std::alloc::{AllocError, Global};
 use std::str;
-
-/// The number of the root.
-const ROOT: u32 = 1;
 
 fn is_text(bytes: &[u8]) -> bool
     ensures { result ≡ is_utf8 bytes.now }
@@ -57,14 +56,14 @@ fn equals_folded(a: &[u8], b: &[u8]) -> bool
 // ---- what stands after the slash of `service/host`
 
 fn slash_in(value: &[u8]) -> Option<usize>
-    ensures place { result ≡ position (λ b. b == 47) value.now }
+    ensures place { result ≡ position (λ b. b == slash) value.now }
     ensures within { IfSome result (λ at. at < length value.now) }
 {
     value.iter().position(|b| *b == b'/')
 }
 
 fn has_slash(bytes: &[u8]) -> bool
-    ensures { result ≡ list_any (λ b. b == 47) bytes.now }
+    ensures { result ≡ list_any (λ b. b == slash) bytes.now }
 {
     bytes.contains(&b'/')
 }
@@ -73,7 +72,7 @@ fn has_slash(bytes: &[u8]) -> bool
 fn host_behind(value: &[u8], at: usize) -> Option<&[u8]>
     requires { at < length value.now }
     ensures { option_map (λ host. host.now) result
-        ≡ (if at == 0 || list_any (λ b. b == 47) (drop (at + 1) value.entry.now)
+        ≡ (if at == 0 || list_any (λ b. b == slash) (drop (at + 1) value.entry.now)
         || length (drop (at + 1) value.entry.now) == 0
         then None else Some (drop (at + 1) value.entry.now)) }
 {
@@ -198,7 +197,7 @@ fn push_parts(into: &mut Vec<u8>, rdns: &[Rdn]) -> Result<(), AllocError>
 
 // A name, a dot, and the values of the domain's parts joined by dots.
 fn dotted_name(alloc: Global, name: &[u8], rdns: &[Rdn]) -> Result<Vec<u8>, AllocError>
-    ensures { IfOk result (λ full. full.items ≡ name.now ++ 46
+    ensures { IfOk result (λ full. full.items ≡ name.now ++ dot
         ∷ joined (map (λ rdn. rdn.value) (filter is_domain_part rdns.now))) }
 {
     let mut full = Vec::from_slice(alloc, name)?;
@@ -213,7 +212,7 @@ fn dotted_name(alloc: Global, name: &[u8], rdns: &[Rdn]) -> Result<Vec<u8>, Allo
 #[tactic(auto, unfolding(crate::specs::Validated::domain_name))]
 fn full_name(alloc: Global, dir: &Dir, number: u32) -> Result<Vec<u8>, AllocError>
     requires { is_live dir.now.objects number ≡ true }
-    ensures { IfOk result (λ full. full.items ≡ (object_at dir.now.objects number).name ++ 46
+    ensures { IfOk result (λ full. full.items ≡ (object_at dir.now.objects number).name ++ dot
         ∷ domain_name dir.now) }
 {
     dir.stands();
@@ -231,7 +230,7 @@ pub(crate) fn is_full_name(
 ) -> Result<bool, AllocError>
     requires { is_live dir.now.objects number ≡ true }
     ensures { IfOk result (λ is. is ≡ equals_folded value.now
-        ((object_at dir.now.objects number).name ++ 46 ∷ domain_name dir.now)) }
+        ((object_at dir.now.objects number).name ++ dot ∷ domain_name dir.now)) }
 {
     let full = full_name(alloc, dir, number)?;
     Ok(equals_folded(value, full.as_slice()))

@@ -31,6 +31,7 @@ mod missing;
 mod naming;
 mod need;
 mod outcome;
+mod standing;
 mod telling;
 mod validated;
 
@@ -42,5 +43,6 @@ pub use naming::{
 };
 pub use need::{Need, Want};
 pub use outcome::Verdict;
+pub use standing::{MAX_DEPTH, goes_with, is_below, parent_number};
 pub use telling::text;
 pub use validated::validated_write;

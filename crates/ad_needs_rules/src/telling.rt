@@ -9,6 +9,11 @@ ghost use Rattle.ad_needs_rules.specs.Needs.{need_text};
 ghost use Rattle.ad_needs_rules.specs.Puts.{Puts};
 
 use crate::need::{Need, Want};
+use ad_acl::{
+    ACCESS_SYSTEM_SECURITY, CONTROL_ACCESS, CREATE_CHILD, DELETE, DELETE_CHILD, DELETE_TREE,
+    GENERIC_ALL, GENERIC_EXECUTE, GENERIC_READ, GENERIC_WRITE, LIST_CHILDREN, LIST_OBJECT,
+    READ_CONTROL, READ_PROPERTY, SELF_WRITE, WRITE_DAC, WRITE_OWNER, WRITE_PROPERTY,
+};
 use ad_dir::Dir;
 use ad_ids::Guid;
 use std::alloc::{AllocError, Global};
@@ -18,58 +23,58 @@ use std::alloc::{AllocError, Global};
 fn code_of(right: u32) -> &'static [u8]
     ensures { result.now ≡ code_of right }
 {
-    if right == 0x1 {
+    if right == CREATE_CHILD {
         return b"CC";
     }
-    if right == 0x2 {
+    if right == DELETE_CHILD {
         return b"DC";
     }
-    if right == 0x4 {
+    if right == LIST_CHILDREN {
         return b"LC";
     }
-    if right == 0x8 {
+    if right == SELF_WRITE {
         return b"SW";
     }
-    if right == 0x10 {
+    if right == READ_PROPERTY {
         return b"RP";
     }
-    if right == 0x20 {
+    if right == WRITE_PROPERTY {
         return b"WP";
     }
-    if right == 0x40 {
+    if right == DELETE_TREE {
         return b"DT";
     }
-    if right == 0x80 {
+    if right == LIST_OBJECT {
         return b"LO";
     }
-    if right == 0x100 {
+    if right == CONTROL_ACCESS {
         return b"CR";
     }
-    if right == 0x1_0000 {
+    if right == DELETE {
         return b"SD";
     }
-    if right == 0x2_0000 {
+    if right == READ_CONTROL {
         return b"RC";
     }
-    if right == 0x4_0000 {
+    if right == WRITE_DAC {
         return b"WD";
     }
-    if right == 0x8_0000 {
+    if right == WRITE_OWNER {
         return b"WO";
     }
-    if right == 0x100_0000 {
+    if right == ACCESS_SYSTEM_SECURITY {
         return b"AS";
     }
-    if right == 0x1000_0000 {
+    if right == GENERIC_ALL {
         return b"GA";
     }
-    if right == 0x2000_0000 {
+    if right == GENERIC_EXECUTE {
         return b"GX";
     }
-    if right == 0x4000_0000 {
+    if right == GENERIC_WRITE {
         return b"GW";
     }
-    if right == 0x8000_0000 {
+    if right == GENERIC_READ {
         return b"GR";
     }
     b""

@@ -9,14 +9,14 @@ ghost use Rattle.ad_dir_model.specs.Identity.{is_sid, self_sid};
 ghost use Rattle.ad_dir_model.specs.Names.{found};
 ghost use Rattle.ad_needs_rules.specs.Validated.{names_user, is_computer, is_own_membership, is_own_service};
 ghost use Rattle.ad_needs_rules.specs.Validated.{is_own_host_name, validated_write};
-ghost use Rattle.ad_needs_rules.specs.OwnWrites.{is_valid, guid_of, is_of_computer, write_of, guid_if};
+ghost use Rattle.ad_needs_rules.specs.OwnWrites.{is_valid, write_guid, is_of_computer, write_of, guid_if};
 
 use crate::hosts::{are_own_services, is_full_name};
 use crate::naming::is_named;
 use ad_dir::{Dir, live_object};
 use ad_dn::{Dn, DnFault};
 use ad_ids::{Guid, Sid, Token};
-use ad_ldap::Item;
+use ad_ldap::{DELETE_VALUES, Item, REPLACE_VALUES};
 use ad_schema::{AttrId, RuleAttr, Schema};
 use std::alloc::{AllocError, Global};
 
@@ -40,8 +40,8 @@ const COMPUTER: Guid = Guid {
 };
 
 // The GUID of the right, in packet order.
-fn guid_of(write: OwnWrite) -> Guid
-    ensures { result ≡ guid_of write }
+fn write_guid(write: OwnWrite) -> Guid
+    ensures { result ≡ write_guid write }
 {
     let bytes = match write {
         OwnWrite::Membership => [
@@ -103,7 +103,7 @@ fn is_own_membership(
 ) -> Result<bool, AllocError>
     ensures { IfOk result (λ is. is ≡ is_own_membership dir.now token.now item.now) }
 {
-    if item.op == 2 {
+    if item.op == REPLACE_VALUES {
         return Ok(false);
     }
     match item.values.as_slice() {
@@ -130,7 +130,7 @@ fn is_own_host_name(alloc: Global, dir: &Dir, number: u32, item: &Item) -> Resul
     requires { is_live dir.now.objects number ≡ true }
     ensures { IfOk result (λ is. is ≡ is_own_host_name dir.now number item.now) }
 {
-    if item.op == 1 {
+    if item.op == DELETE_VALUES {
         return Ok(false);
     }
     match item.values.as_slice() {
@@ -237,7 +237,7 @@ fn guid_if(
         (map (λ item. item.now) items.now) (Some write)) }
 {
     if all_valid(alloc, dir, token, number, write, items)? {
-        return Ok(Some(guid_of(write)));
+        return Ok(Some(write_guid(write)));
     }
     Ok(None)
 }

@@ -1,5 +1,5 @@
-use Rattle.ad_change.proofs.SubtreeLaws.{parent_found, none_found_parent}
-use Rattle.ad_change.proofs.subtree.parent_of.Goals as goal
+use Rattle.ad_needs_rules.proofs.StandingLaws.{parent_found, none_found_parent}
+use Rattle.ad_needs_rules.proofs.standing.parent_number.Goals as goal
 
 pub returns-in-Some : goal.returns-in-Some
 returns-in-Some c = parent_found c.args.dir.now c.args.number _ c.in-Some.ensures

@@ -1,7 +1,7 @@
 use Rattle.std.proofs.Common.{◌≡◌}
 use Rattle.ad_dir_model.specs.Tree.{is_below_within, is_below}
 use Rattle.ad_dir_model.specs.Directory.{parents}
-use Rattle.ad_change.proofs.subtree.is_below.Given as goal
+use Rattle.ad_needs_rules.proofs.standing.is_below.Given as goal
 
 -- it stands above where it does from here
 abbrev pub invariant-up : goal.invariant-up
