@@ -15,7 +15,7 @@ use Rattle.ad_dir_model.specs.Directory.{Directory}
 use Rattle.ad_dir_model.specs.Names.{rdns_within, rdns_of, same_rdn, begins_with, child_of_rdn, found_below}
 use Rattle.ad_dir_model.specs.Names.{found_from_end, found}
 use Rattle.ad_access_dir.specs.Sight.{is_visible}
-use Rattle.ad_search.specs.Seen.{Seen, seen_of, view}
+use Rattle.ad_entries.specs.Seen.{Seen, seen_of, view}
 use Rattle.ad_search.specs.Scope.{is_named, is_there, nearest}
 use Rattle.ad_search.proofs.FoundLaws.{Stands}
 use Rattle.ad_search.proofs.SeenLaws.{any_found}

@@ -20,9 +20,9 @@ use Rattle.ad_dir_model.specs.Directory.{Directory}
 use Rattle.ad_dir_model.specs.Changes.{goes_with}
 use Rattle.ad_dir_model.proofs.Finding.{at-of, live-of, all_found}
 use Rattle.ad_access_dir.specs.Sight.{is_visible}
-use Rattle.ad_search.specs.Seen.{Seen, seen_of, reads, view}
+use Rattle.ad_entries.specs.Seen.{Seen, seen_of, reads, view}
 use Rattle.ad_search.specs.Scope.{same_rdns, is_right_below, is_at_or_below, in_scope, is_named, is_there, matched}
-use Rattle.ad_search.specs.Entry.{Entry}
+use Rattle.ad_entries.specs.Entry.{Entry}
 use Rattle.ad_search.specs.Search.{done, is_found, entries_of, entries_from, answer_at}
 use Rattle.ad_search.specs.Subtree.{subtree}
 use Rattle.ad_search.specs.Steps.{entries_among, objects_asked}

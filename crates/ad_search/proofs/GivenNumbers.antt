@@ -10,9 +10,9 @@ use Rattle.ad_dn.specs.Reading.{dn_of}
 use Rattle.ad_ldap.specs.MessageValue.{SearchValue}
 use Rattle.ad_dir_model.specs.Objects.{numbers}
 use Rattle.ad_dir_model.specs.Directory.{Directory}
-use Rattle.ad_search.specs.Seen.{seen_of, view}
+use Rattle.ad_entries.specs.Seen.{seen_of, view}
 use Rattle.ad_search.specs.Scope.{is_there, matched}
-use Rattle.ad_search.specs.Entry.{Entry, entry_of}
+use Rattle.ad_entries.specs.Entry.{Entry, entry_of}
 use Rattle.ad_search.specs.Search.{done, end_code, entry_or_end, stop_code, entries_from, entries_of, answer_at}
 use Rattle.ad_search.specs.Search.{search_answer, answer_seen}
 use Rattle.ad_search.specs.Reads.{found_among, unless_stops, given_from, numbers_given, HasEntries}

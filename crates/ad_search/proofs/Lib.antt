@@ -1,15 +1,9 @@
-pub mod ListLaws
-mod BareLaws
 mod NeedleLaws
 pub mod NameLaws
-pub mod ReadLaws
 pub mod SeenLaws
 pub mod FoundLaws
 pub mod SightLaws
 pub mod AboveLaws
-pub mod EntryLaws
-pub mod GivenLaws
-pub mod JudgedLaws
 pub mod ParentLaws
 pub mod StepLaws
 pub mod ScopeLaws

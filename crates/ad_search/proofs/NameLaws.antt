@@ -9,9 +9,9 @@ use Rattle.ad_dn.specs.declared.rdn.Rdn.{Rdn}
 use Rattle.ad_dn.specs.Fold.{folded, IsSameRdn}
 use Rattle.ad_dir_model.specs.Names.{same_folded, same_rdn}
 use Rattle.ad_dn.specs.Text.{rdns_text}
-use Rattle.ad_search.specs.Seen.{Seen}
+use Rattle.ad_entries.specs.Seen.{Seen}
 use Rattle.ad_search.specs.Scope.{same_rdns, is_at_or_below, is_there, nearest}
-use Rattle.ad_search.proofs.ListLaws.{from_here}
+use Rattle.ad_entries.proofs.ListLaws.{from_here}
 
 -- ---- one part
 

@@ -33,15 +33,15 @@ use Rattle.ad_dir_model.specs.Shown.{shown, is_naming, shown_value}
 use Rattle.ad_dir_model.specs.Directory.{Directory}
 use Rattle.ad_access_dir.specs.Sight.{is_visible}
 use Rattle.ad_search.specs.declared.needles.Needle.{Needle}
-use Rattle.ad_search.specs.Seen.{Seen, seen_of, reads, reads_from, readable_of, readable_at, values_at, is_readable}
-use Rattle.ad_search.specs.Seen.{read_of}
-use Rattle.ad_search.specs.Entry.{Entry}
+use Rattle.ad_entries.specs.Seen.{Seen, seen_of, reads, reads_from, readable_of, readable_at, values_at, is_readable}
+use Rattle.ad_entries.specs.Seen.{read_of}
+use Rattle.ad_entries.specs.Entry.{Entry}
 use Rattle.ad_search.specs.Search.{is_found}
 use Rattle.ad_search.specs.Steps.{entries_among}
 use Rattle.ad_dir.specs.Values.{may_have}
 use Rattle.ad_search.specs.Needles.{has_key, IsPlain, IsNeedle, IsAskedAs, AreNeedles, HaveSameEntries}
-use Rattle.ad_search.specs.Judged.{place_if}
-use Rattle.ad_search.proofs.ReadLaws.{read_at, is_read, not_readable}
+use Rattle.ad_entries.specs.Judged.{place_if}
+use Rattle.ad_entries.proofs.ReadLaws.{read_at, is_read, not_readable}
 use Rattle.ad_search.proofs.SeenLaws.{entries_apart, entries_later}
 
 -- ---- of an equality

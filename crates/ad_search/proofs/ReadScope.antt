@@ -15,7 +15,7 @@ use Rattle.ad_dir_model.specs.Names.{rdns_of}
 use Rattle.ad_dir_model.specs.Directory.{Directory, parents}
 use Rattle.ad_dir_model.specs.Changes.{goes_with}
 use Rattle.ad_dir_model.proofs.Finding.{at-of, all_found}
-use Rattle.ad_search.specs.Seen.{seen_of, view}
+use Rattle.ad_entries.specs.Seen.{seen_of, view}
 use Rattle.ad_search.specs.Scope.{same_rdns, is_named, is_there}
 use Rattle.ad_search.specs.Subtree.{subtree}
 use Rattle.ad_search.specs.Steps.{objects_asked}

@@ -18,7 +18,7 @@ use Rattle.ad_dir_model.specs.Directory.{Directory}
 use Rattle.ad_tried.specs.Tried.{TriedValue, tried_values}
 use Rattle.ad_search.specs.declared.tried_reads.Count.{Count}
 use Rattle.ad_search.specs.Search.{stop_code}
-use Rattle.ad_search.specs.Judged.{is_given, place_if, places_from, places_given}
+use Rattle.ad_entries.specs.Judged.{is_given, place_if, places_from, places_given}
 use Rattle.ad_search.specs.Reads.{read_on, has_attr, attr_reads, descriptor_reads, entry_reads, found_among, long}
 use Rattle.ad_search.specs.Reads.{unless_stops, given_from}
 use Rattle.ad_search.specs.ReadSteps.{read_of, read_at, reads_at_each, Counts, reads_behind, reads_on, ReadsOne}

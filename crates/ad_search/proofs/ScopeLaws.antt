@@ -14,7 +14,7 @@ use Rattle.ad_dir_model.specs.Changes.{goes_with}
 use Rattle.ad_search.specs.Scope.{same_rdns, is_right_below, is_at_or_below, in_scope}
 use Rattle.ad_search.proofs.FoundLaws.{Stands, named_found, parent_live}
 use Rattle.ad_search.proofs.NameLaws.{too_short}
-use Rattle.ad_search.proofs.ListLaws.{both_true}
+use Rattle.ad_entries.proofs.ListLaws.{both_true}
 
 same_length : (a b : List Rdn) → same_rdns a b ≡ true → length a ≡ length b
 unfolding same_rdns

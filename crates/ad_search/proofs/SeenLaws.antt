@@ -13,9 +13,9 @@ use Rattle.ad_dir_model.specs.Objects.{is_live, numbers, object_of}
 use Rattle.ad_dir_model.specs.Directory.{Directory}
 use Rattle.ad_dir_model.proofs.Placing.{all_live_more}
 use Rattle.ad_access_dir.specs.Sight.{is_visible}
-use Rattle.ad_search.specs.Seen.{Seen, seen_of, seen_among, view}
+use Rattle.ad_entries.specs.Seen.{Seen, seen_of, seen_among, view}
 use Rattle.ad_search.specs.Scope.{is_named, is_there}
-use Rattle.ad_search.specs.Entry.{Entry, entry_of}
+use Rattle.ad_entries.specs.Entry.{Entry, entry_of}
 use Rattle.ad_search.specs.Search.{is_found, entries_of}
 use Rattle.ad_search.specs.Steps.{entries_among}
 

@@ -9,7 +9,7 @@ use Rattle.ad_dir_model.specs.Objects.{is_live, numbers}
 use Rattle.ad_dir_model.specs.Directory.{Directory}
 use Rattle.ad_dir_model.specs.Names.{rdns_of, found}
 use Rattle.ad_access_dir.specs.Sight.{is_visible}
-use Rattle.ad_search.specs.Seen.{seen_of, view}
+use Rattle.ad_entries.specs.Seen.{seen_of, view}
 use Rattle.ad_search.specs.Scope.{same_rdns, is_named}
 use Rattle.ad_search.proofs.SeenLaws.{numbers_live, number_listed, none_found, one_found}
 use Rattle.ad_search.proofs.FoundLaws.{Stands, named_found}

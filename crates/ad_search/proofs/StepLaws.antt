@@ -8,7 +8,7 @@ use Rattle.ad_dn.specs.declared.rdn.Dn.{Dn}
 use Rattle.ad_ldap.specs.MessageValue.{SearchValue}
 use Rattle.ad_dir_model.specs.Directory.{Directory}
 use Rattle.ad_search.specs.declared.joining.Joined.{Joined}
-use Rattle.ad_search.specs.Entry.{Entry}
+use Rattle.ad_entries.specs.Entry.{Entry}
 use Rattle.ad_search.specs.Search.{done, stop_code, end_code, entry_or_end, entries_from}
 use Rattle.ad_search.specs.Steps.{entries_among, with_rest, goes_on, Steps}
 use Rattle.ad_search.proofs.SeenLaws.{entries_apart, no_entries}

@@ -6,7 +6,7 @@ use Rattle.ad_schema.specs.declared.line.SchemaRecord.{SchemaRecord}
 use Rattle.ad_ldap.specs.MessageValue.{SearchValue}
 use Rattle.ad_ldap.specs.declared.requests.Compare.{Compare}
 use Rattle.ad_dir_model.specs.Directory.{Directory}
-use Rattle.ad_search.specs.Seen.{Seen, view}
+use Rattle.ad_entries.specs.Seen.{Seen, view}
 use Rattle.ad_search.specs.Search.{answer_seen, search_answer}
 use Rattle.ad_search.specs.Compare.{compare_seen, compare_answer}
 

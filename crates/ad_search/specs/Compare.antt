@@ -16,7 +16,7 @@ use Rattle.ad_ldap.specs.declared.reply.Reply.TheVariants as reply
 use Rattle.ad_ldap.specs.Reply.{reply_bytes}
 use Rattle.ad_filter.specs.Filtering.{Readable, is_compared}
 use Rattle.ad_dir_model.specs.Directory.{Directory}
-use Rattle.ad_search.specs.Seen.{Seen, reads, view}
+use Rattle.ad_entries.specs.Seen.{Seen, reads, view}
 use Rattle.ad_search.specs.Scope.{is_named, matched}
 
 -- the message: its code and the matched name

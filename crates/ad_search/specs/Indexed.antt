@@ -16,7 +16,7 @@ use Rattle.ad_dir_model.specs.Shown.{shown}
 use Rattle.ad_dir_model.specs.Directory.{Directory}
 use Rattle.ad_search.specs.declared.needles.Needle.{Needle}
 use Rattle.ad_search.specs.declared.indexed.Sought.{Sought}
-use Rattle.ad_search.specs.Seen.{reads, seen_of}
+use Rattle.ad_entries.specs.Seen.{reads, seen_of}
 use Rattle.ad_search.specs.Needles.{has_key, IsPlain, IsNeedle, HaveSameEntries}
 
 -- some class names its objects by the attribute

@@ -17,7 +17,7 @@ use Rattle.ad_dn.specs.declared.rdn.Dn.{Dn}
 use Rattle.ad_dir_model.specs.Attributes.{is_named}
 use Rattle.ad_dir_model.specs.Directory.{Directory}
 use Rattle.ad_search.specs.declared.needles.Needle.{Needle}
-use Rattle.ad_search.specs.Seen.{Seen, reads, values_at}
+use Rattle.ad_entries.specs.Seen.{Seen, reads, values_at}
 use Rattle.ad_search.specs.Steps.{entries_among}
 
 -- some value has the key

@@ -4,7 +4,7 @@ use Rattle.std.specs.List.{list_any}
 use Rattle.ad_dn.specs.declared.rdn.Rdn.{Rdn}
 use Rattle.ad_dn.specs.Text.{rdns_text}
 use Rattle.ad_dir_model.specs.Names.{same_rdn}
-use Rattle.ad_search.specs.Seen.{Seen}
+use Rattle.ad_entries.specs.Seen.{Seen}
 
 -- the same name: part by part, types without regard to case and values after folding
 unfoldable pub same_rdns : List Rdn → List Rdn → Bool

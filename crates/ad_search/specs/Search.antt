@@ -12,9 +12,9 @@ use Rattle.ad_ldap.specs.MessageValue.{SearchValue}
 use Rattle.ad_filter.specs.ThreeValues.{is_true}
 use Rattle.ad_filter.specs.Filtering.{truth}
 use Rattle.ad_dir_model.specs.Directory.{Directory}
-use Rattle.ad_search.specs.Seen.{Seen, reads, view}
+use Rattle.ad_entries.specs.Seen.{Seen, reads, view}
 use Rattle.ad_search.specs.Scope.{in_scope, is_there, matched}
-use Rattle.ad_search.specs.Entry.{Entry, entry_of}
+use Rattle.ad_entries.specs.Entry.{Entry, entry_of}
 
 -- the bytes of all entries together
 unfoldable pub most_joined : ℕ

@@ -7,8 +7,8 @@ use Rattle.ad_dir_model.specs.Objects.{numbers, children}
 use Rattle.ad_dir_model.specs.Tree.{root}
 use Rattle.ad_dir_model.specs.Directory.{Directory}
 use Rattle.ad_search.specs.declared.joining.Joined.{Joined}
-use Rattle.ad_search.specs.Seen.{seen_among}
-use Rattle.ad_search.specs.Entry.{Entry}
+use Rattle.ad_entries.specs.Seen.{seen_among}
+use Rattle.ad_entries.specs.Entry.{Entry}
 use Rattle.ad_search.specs.Subtree.{subtree}
 use Rattle.ad_search.specs.Search.{done, entries_of, entries_from}
 

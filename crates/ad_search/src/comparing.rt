@@ -4,14 +4,14 @@ ghost use Rattle.std.specs.Prelude.{◌≡◌, true, Some, Ok, IfOk};
 ghost use Rattle.ad_value.specs.ValueOf.{normal_or_fault};
 ghost use Rattle.ad_dir_model.specs.Objects.{is_live};
 ghost use Rattle.ad_dir_model.specs.Directory.{Directory};
-ghost use Rattle.ad_search.specs.Seen.{seen_of, reads, view};
+ghost use Rattle.ad_entries.specs.Seen.{seen_of, reads, view};
 ghost use Rattle.ad_search.specs.Compare.{done, code_by, code_of, compare_at, compare_answer};
 
 use crate::finding::{matched, seen_named};
-use crate::reading::values_named;
 use ad_bytes::Bytes;
 use ad_dir::Dir;
 use ad_dn::{Dn, DnFault};
+use ad_entries::values_named;
 use ad_filter::has_equal;
 use ad_ids::Token;
 use ad_ldap::{Compare, Reply, write_reply};

@@ -7,7 +7,7 @@ ghost use Rattle.ad_dn.specs.Text.{rdns_text};
 ghost use Rattle.ad_dir_model.specs.Objects.{is_live};
 ghost use Rattle.ad_dir_model.specs.Names.{found};
 ghost use Rattle.ad_access_dir.specs.Sight.{is_visible};
-ghost use Rattle.ad_search.specs.Seen.{seen_of, view};
+ghost use Rattle.ad_entries.specs.Seen.{seen_of, view};
 ghost use Rattle.ad_search.specs.Scope.{is_named, is_there, matched};
 
 use crate::naming::same_rdns;
@@ -18,7 +18,7 @@ use ad_ids::Token;
 use std::alloc::{AllocError, Global};
 
 // Whether a live object is seen and has the name.
-#[tactic(auto, unfolding(crate::specs::Seen::seen_of))]
+#[tactic(auto, unfolding(ad_entries::specs::Seen::seen_of))]
 fn is_seen_as(
     alloc: Global,
     dir: &Dir,

@@ -2,11 +2,11 @@
 
 ghost use Rattle.std.specs.Prelude.{◌≡◌, ◌++◌, ◌+◌, ◌||◌, ℕ, nat_lt, false, [], ◌∷◌, IfOk};
 ghost use Rattle.ad_search.specs.Search.{most_joined, stop_code, end_code, done};
-ghost use Rattle.ad_search.specs.Given.{made_seen};
+ghost use Rattle.ad_entries.specs.Given.{made_seen};
 ghost use Rattle.ad_search.specs.Steps.{Steps};
 
-use crate::entry::Made;
 use ad_bytes::Bytes;
+use ad_entries::Made;
 use ad_ldap::{Reply, write_reply};
 use std::alloc::{AllocError, Global};
 

@@ -13,7 +13,7 @@ ghost use Rattle.ad_dir_model.specs.Objects.{is_live};
 ghost use Rattle.ad_dir_model.specs.Names.{rdns_of, found};
 ghost use Rattle.ad_dir_model.specs.Directory.{Directory};
 ghost use Rattle.ad_dir_model.specs.Changes.{goes_with};
-ghost use Rattle.ad_search.specs.Seen.{view};
+ghost use Rattle.ad_entries.specs.Seen.{view};
 ghost use Rattle.ad_search.specs.Scope.{same_rdns, in_scope, is_there};
 ghost use Rattle.ad_search.specs.Reads.{HasEntries, numbers_given};
 ghost use Rattle.ad_search.specs.Search.{search_answer};

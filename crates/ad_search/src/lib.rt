@@ -24,20 +24,14 @@
 //! store; an entry takes a sweep over its descriptor. There is no index of values.
 #![tactic(auto)]
 
-mod bare;
-mod changing;
 mod comparing;
-mod descriptor;
-mod entry;
 mod finding;
 mod indexed;
 mod joining;
-mod judged;
 mod laws;
 mod naming;
 mod needles;
 mod parents;
-mod reading;
 mod searching;
 mod subtree;
 mod tried_compared;

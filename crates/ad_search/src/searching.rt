@@ -12,9 +12,9 @@ ghost use Rattle.ad_access_dir.specs.Sight.{is_visible};
 ghost use Rattle.ad_ldap.specs.MessageValue.{search_seen};
 ghost use Rattle.ad_filter.specs.ThreeValues.{is_true};
 ghost use Rattle.ad_filter.specs.Filtering.{truth};
-ghost use Rattle.ad_search.specs.Seen.{seen_of, reads, view};
+ghost use Rattle.ad_entries.specs.Seen.{seen_of, reads, view};
 ghost use Rattle.ad_search.specs.Search.{is_found, entries_from, answer_at, search_answer};
-ghost use Rattle.ad_search.specs.Judged.{AreJudged};
+ghost use Rattle.ad_entries.specs.Judged.{AreJudged};
 ghost use Rattle.ad_search.specs.Parents.{IsKept};
 ghost use Rattle.ad_search.specs.Subtree.{subtree};
 ghost use Rattle.ad_search.specs.Steps.{entries_among, Steps, objects_asked};
@@ -22,21 +22,20 @@ ghost use Rattle.ad_search.specs.Steps.{entries_among, Steps, objects_asked};
 use crate::finding::{matched, seen_named};
 use crate::indexed::indexed_of;
 use crate::joining::{Joined, done, end_code, ended, join};
-use crate::judged::{Judged, entry_judged};
 use crate::naming::in_scope;
 use crate::needles::left_of;
 use crate::parents::{Parent, is_seen, no_parent};
-use crate::reading::Sight;
 use crate::subtree::{ROOT, subtree};
 use ad_dir::Dir;
 use ad_dn::{Dn, DnFault};
+use ad_entries::{Judged, Sight, entry_judged};
 use ad_filter::{Truth, truth};
 use ad_ids::Token;
 use ad_ldap::Search;
 use std::alloc::{AllocError, Global};
 
 // Whether the filter is true of an object.
-#[tactic(auto, unfolding(crate::specs::Seen::reads))]
+#[tactic(auto, unfolding(ad_entries::specs::Seen::reads))]
 fn is_true_of(
     alloc: Global,
     dir: &Dir,
@@ -57,7 +56,7 @@ fn is_true_of(
 }
 
 /// The name of an object that is seen, in scope, and of which the filter is true.
-#[tactic(auto, unfolding(crate::specs::Search::is_found, crate::specs::Seen::seen_of))]
+#[tactic(auto, unfolding(crate::specs::Search::is_found, ad_entries::specs::Seen::seen_of))]
 pub(crate) fn found_name(
     alloc: Global,
     dir: &Dir,

@@ -15,7 +15,7 @@ use Rattle.ad_dir_model.specs.Tree.{root}
 use Rattle.ad_dir_model.specs.Settings.{list_object_mode}
 use Rattle.ad_dir_model.specs.Directory.{Directory}
 use Rattle.ad_access_dir.specs.Sight.{is_granted, is_visible}
-use Rattle.ad_search.specs.Seen.{is_never_read, is_granted_on, is_readable, parts_read}
+use Rattle.ad_entries.specs.Seen.{is_never_read, is_granted_on, is_readable, parts_read}
 use Rattle.ad_search_laws.specs.Worlds.{HasSameFrame}
 
 -- One object: its place, class and name, what is granted there, and where it is seen what may be read. What it leads

@@ -16,7 +16,7 @@ use Rattle.ad_dir_model.specs.Directory.{Directory}
 use Rattle.ad_dir_model.specs.Names.{name_text}
 use Rattle.ad_dir_model.specs.Shown.{computed, class_names, shown_value, is_naming, shown}
 use Rattle.ad_access_dir.specs.Sight.{is_visible}
-use Rattle.ad_search.specs.Seen.{is_readable}
+use Rattle.ad_entries.specs.Seen.{is_readable}
 use Rattle.ad_search_laws.proofs.Alike.{AreAlike}
 use Rattle.ad_search_laws.proofs.Names.{same_text}
 

@@ -36,7 +36,7 @@ use Rattle.ad_needs.specs.Renaming.{new_rdn, new_parent, superior_reads, superio
 use Rattle.ad_needs.specs.Renaming.{rename_needs, rename_checks, rename_act}
 use Rattle.ad_needs.specs.Verdicts.{verdict_of}
 use Rattle.ad_change.specs.Effects.{Effect, answered, by_verdict, effect}
-use Rattle.ad_search.specs.Seen.{Seen, seen_of, seen_among, view}
+use Rattle.ad_entries.specs.Seen.{Seen, seen_of, seen_among, view}
 use Rattle.ad_search.specs.Scope.{same_rdns, is_named, is_there, nearest}
 use Rattle.ad_search.proofs.SeenLaws.{any_found, seen_more}
 use Rattle.ad_search.proofs.SightLaws.{none_seen, other_seen, it_is_seen}

@@ -19,7 +19,7 @@ use Rattle.ad_dir_model.specs.Identity.{sid_in, self_sid}
 use Rattle.ad_dir_model.specs.Directory.{Directory}
 use Rattle.ad_dir_model.proofs.Finding.{of-removed_other}
 use Rattle.ad_access_dir.specs.Sight.{is_granted, is_visible}
-use Rattle.ad_search.specs.Seen.{Seen, parts_read, seen_of, seen_among, view}
+use Rattle.ad_entries.specs.Seen.{Seen, parts_read, seen_of, seen_among, view}
 use Rattle.ad_search.proofs.SeenLaws.{seen_more, unseen_more}
 use Rattle.ad_search_laws.specs.Worlds.{HasSameFrame, IsHidden, StandsAlone, IsReadAlike, IsGrantedAlike}
 use Rattle.ad_search_laws.specs.Worlds.{without_values, without_sd}

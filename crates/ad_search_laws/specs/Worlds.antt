@@ -10,7 +10,7 @@ use Rattle.ad_dir_model.specs.Identity.{self_sid}
 use Rattle.ad_dir_model.specs.Settings.{list_object_mode}
 use Rattle.ad_dir_model.specs.Directory.{Directory}
 use Rattle.ad_access_dir.specs.Sight.{is_granted, is_visible}
-use Rattle.ad_search.specs.Seen.{is_readable, parts_read}
+use Rattle.ad_entries.specs.Seen.{is_readable, parts_read}
 
 -- One schema, one name above the root, and one list object mode: dSHeuristics may differ otherwise, and so may
 -- counters and what is pending.

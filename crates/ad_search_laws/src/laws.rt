@@ -4,7 +4,7 @@ ghost use Rattle.std.specs.Prelude.{◌≡◌, ℕ, map};
 ghost use Rattle.ad_ids.specs.declared.token.Token.{Token};
 ghost use Rattle.ad_dir_model.specs.Objects.{removed};
 ghost use Rattle.ad_dir_model.specs.Directory.{Directory};
-ghost use Rattle.ad_search.specs.Seen.{view};
+ghost use Rattle.ad_entries.specs.Seen.{view};
 ghost use Rattle.ad_search_laws.specs.Worlds.{HasSameFrame, IsHidden, StandsAlone, IsReadAlike, IsGrantedAlike};
 ghost use Rattle.ad_search_laws.specs.Worlds.{without_values, without_sd};
 

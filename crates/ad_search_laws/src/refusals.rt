@@ -10,7 +10,7 @@ ghost use Rattle.ad_dir_model.specs.Soundness.{IsSound};
 ghost use Rattle.ad_dir_model.specs.Directory.{Directory};
 ghost use Rattle.ad_access_dir.specs.Sight.{matched as matched_in};
 ghost use Rattle.ad_change.specs.Effects.{effect};
-ghost use Rattle.ad_search.specs.Seen.{view};
+ghost use Rattle.ad_entries.specs.Seen.{view};
 ghost use Rattle.ad_search.specs.Scope.{matched};
 ghost use Rattle.ad_search_laws.specs.Refusals.{IsAboutUnseen};
 

@@ -3,7 +3,7 @@ use Rattle.ad_dn.specs.declared.rdn.Dn.{Dn}
 use Rattle.ad_dn.specs.Text.{rdns_text}
 use Rattle.ad_dir_model.specs.Directory.{Meta}
 use Rattle.ad_dir_model.specs.Names.{found}
-use Rattle.ad_search.specs.Seen.{view}
+use Rattle.ad_entries.specs.Seen.{view}
 use Rattle.ad_search.specs.Scope.{is_there, nearest}
 use Rattle.ad_search.proofs.AboveLaws.{starts, stops, steps, either_within}
 use Rattle.ad_search.proofs.finding.levels_to_seen.Goals as goal

@@ -1,6 +1,6 @@
 use Rattle.std.proofs.Common.{◌≡◌, ◌≤◌, ◌+◌, length, drop}
 use Rattle.ad_dn.specs.Text.{rdns_text}
-use Rattle.ad_search.specs.Seen.{view}
+use Rattle.ad_entries.specs.Seen.{view}
 use Rattle.ad_search.specs.Scope.{nearest}
 use Rattle.ad_search.proofs.finding.levels_to_seen.Given as goal
 

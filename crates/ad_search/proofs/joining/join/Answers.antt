@@ -1,5 +1,5 @@
 use Rattle.std.proofs.Common.{length, ap}
-use Rattle.ad_search.specs.Given.{made_seen}
+use Rattle.ad_entries.specs.Given.{made_seen}
 use Rattle.ad_search.proofs.StepLaws.{stops, joins}
 use Rattle.ad_search.proofs.joining.join.Goals as goal
 

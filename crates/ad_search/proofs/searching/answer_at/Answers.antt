@@ -1,6 +1,6 @@
 use Rattle.std.proofs.Common.{◌≡◌, ℕ, false, List, IfOk, subst, ap, ◌∙◌}
 use Rattle.ad_ldap.specs.MessageValue.{search_seen}
-use Rattle.ad_search.specs.Entry.{Entry}
+use Rattle.ad_entries.specs.Entry.{Entry}
 use Rattle.ad_search.specs.Search.{done, entries_from}
 use Rattle.ad_search.specs.Steps.{entries_among}
 use Rattle.ad_search.specs.Indexed.{IsLeftOfAll}

@@ -2,7 +2,7 @@ use Rattle.std.proofs.Common.{◌≡◌, false, drop}
 use Rattle.ad_ldap.specs.MessageValue.{search_seen}
 use Rattle.ad_dir_model.specs.Settings.{list_object_mode}
 use Rattle.ad_search.specs.Search.{entries_from}
-use Rattle.ad_search.specs.Judged.{AreJudged}
+use Rattle.ad_entries.specs.Judged.{AreJudged}
 use Rattle.ad_search.specs.Parents.{IsKept}
 use Rattle.ad_search.specs.Steps.{entries_among, with_rest}
 use Rattle.ad_search.proofs.searching.entries.Given as goal

@@ -1,7 +1,7 @@
 use Rattle.std.proofs.Common.{[], ◌∷◌, sym, ap, ◌∙◌}
 use Rattle.ad_ldap.specs.MessageValue.{search_seen}
-use Rattle.ad_search.specs.Entry.{Entry}
-use Rattle.ad_search.specs.Given.{made_seen}
+use Rattle.ad_entries.specs.Entry.{Entry}
+use Rattle.ad_entries.specs.Given.{made_seen}
 use Rattle.ad_search.specs.Steps.{entries_among}
 use Rattle.ad_search.proofs.SeenLaws.{one_entry, no_entry}
 use Rattle.ad_search.proofs.StepLaws.{steps_none, steps_joined}

@@ -9,7 +9,7 @@ use Rattle.std.proofs.lemmas.List.Sorted.{list_any-IsPermutation}
 use Rattle.std.proofs.lemmas.Map.Keys.{IsStrictlyIncreasing-dedup}
 use Rattle.std.proofs.lemmas.Map.Views.{Contains-from_any, list_any-from_Contains}
 use Rattle.ad_search.specs.Subtree.{is_in}
-use Rattle.ad_search.proofs.ListLaws.{both_true}
+use Rattle.ad_entries.proofs.ListLaws.{both_true}
 use Rattle.ad_search.proofs.subtree.rise.Goals as goal
 
 pub returns-clause-rises : goal.returns-clause-rises

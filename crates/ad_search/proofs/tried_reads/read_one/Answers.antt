@@ -1,6 +1,6 @@
 use Rattle.std.proofs.Common.{length, ap, ◌∙◌}
 use Rattle.ad_ldap.specs.MessageValue.{search_seen}
-use Rattle.ad_search.specs.Entry.{Entry}
+use Rattle.ad_entries.specs.Entry.{Entry}
 use Rattle.ad_search.proofs.ReadsLaws.{reads_none, reads_stop, reads_next}
 use Rattle.ad_search.proofs.tried_reads.read_one.Goals as goal
 

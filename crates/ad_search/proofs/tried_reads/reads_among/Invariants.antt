@@ -1,7 +1,7 @@
 use Rattle.std.proofs.Common.{◌≡◌}
 use Rattle.ad_ldap.specs.MessageValue.{search_seen}
 use Rattle.ad_dir_model.specs.Settings.{list_object_mode}
-use Rattle.ad_search.specs.Judged.{AreJudged}
+use Rattle.ad_entries.specs.Judged.{AreJudged}
 use Rattle.ad_search.specs.Parents.{IsKept}
 use Rattle.ad_search.proofs.ReadsLaws.{SoFar}
 use Rattle.ad_search.proofs.tried_reads.reads_among.Given as goal

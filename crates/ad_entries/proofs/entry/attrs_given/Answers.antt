@@ -1,0 +1,12 @@
+use Rattle.std.proofs.Common.{◌≡◌, List, IfOk, subst}
+use Rattle.ad_ldap.specs.MessageValue.{search_seen}
+use Rattle.ad_entries.specs.Entry.{Given}
+use Rattle.ad_entries.proofs.EntryLaws.{given_at_places}
+use Rattle.ad_entries.proofs.entry.attrs_given.Goals as goal
+
+pub returns : goal.returns
+returns c =
+    subst (λ (given : List Given). IfOk c.attrs_shown.result (λ attrs. attrs ≡ given))
+    (given_at_places c.args.dir.now c.args.token.now c.args.number (search_seen c.args.search.now) c.args.places.now
+    c.requires.places)
+    c.attrs_shown.ensures
