@@ -4,6 +4,11 @@ mod Names
 mod Shown
 mod Views
 mod Worlds
+mod OneRight
+mod OneItem
 mod Replacing
+mod ListedNames
+mod Creating
+mod ToldParts
 mod Found
 mod Unseen

@@ -1,8 +1,7 @@
 -- What is told to be writable is what the checks of a replacement grant.
 use Rattle.std.proofs.Common.{◌≡◌, ℕ, Bool, true, false, not, cond, ◌&&◌, ◌||◌, List, [], ◌∷◌, ◌++◌, Option, Some}
 use Rattle.std.proofs.Common.{None, refl, sym, ap, ◌∙◌}
-use Rattle.std.specs.Prelude.{codes, nat_eq, is_some, unwrap_or}
-use Rattle.std.specs.List.{flat_map}
+use Rattle.std.specs.Prelude.{codes, nat_eq, is_some}
 use Rattle.std.specs.Option.{option_map, option_map_or}
 use Rattle.std.proofs.lemmas.Bool.{and_parts, and_from, false≢true}
 use Rattle.std.proofs.lemmas.Option.{none-some}
@@ -11,10 +10,8 @@ use Rattle.ad_ids.specs.declared.token.Token.{Token}
 use Rattle.ad_acl.specs.Mask.{write_property, control_access}
 use Rattle.ad_ldap.specs.declared.controls.Settings.{Settings}
 use Rattle.ad_ldap.specs.declared.items.Item.{Item}
-use Rattle.ad_ldap.specs.declared.requests.Modify.{Modify}
 use Rattle.ad_ldap.specs.MessageValue.{ModifyOf}
 use Rattle.ad_schema_classes.specs.Names.{same_name}
-use Rattle.ad_schema_classes.proofs.IndexLemmas.{same_itself}
 use Rattle.ad_schema.specs.declared.info.AttrId.{AttrId}
 use Rattle.ad_schema.specs.declared.info.AttrInfo.{AttrInfo}
 use Rattle.ad_schema.specs.declared.meaning.RuleAttr.TheVariants as rule
@@ -28,32 +25,24 @@ use Rattle.ad_dir_model.specs.Objects.{object_at}
 use Rattle.ad_dir_model.specs.Attributes.{attr_place, object_sid, rule_place}
 use Rattle.ad_dir_model.specs.Directory.{Directory}
 use Rattle.ad_access_dir.specs.Sight.{is_granted}
-use Rattle.ad_needs_rules.specs.declared.outcome.Verdict.{Verdict}
 use Rattle.ad_needs_rules.specs.declared.outcome.Verdict.TheVariants.{Granted}
-use Rattle.ad_needs_rules.specs.Checks.{Check, Refusal, code, hidden, missing, first_failing, by_checks, or_code}
+use Rattle.ad_needs_rules.specs.Checks.{Check, Refusal, first_failing, by_checks, or_code}
 use Rattle.ad_needs_rules.specs.Checks.{all_met}
 use Rattle.ad_needs_rules.specs.Needs.{Alternative, needs, is_met}
-use Rattle.ad_needs_rules.specs.Requests.{is_name, number_named, or_hidden, is_password, has_place, class_at, attr_path}
+use Rattle.ad_needs_rules.specs.Requests.{is_password, has_place, class_at, attr_path}
 use Rattle.ad_needs_rules.specs.Validated.{validated_write}
-use Rattle.ad_needs_rules.proofs.FirstFailing.{head_holds, both_hold, head_passes, all_pass}
 use Rattle.ad_needs.specs.Modifying.{items_of, is_forced, is_changed, force_change, change, is_unwritable}
 use Rattle.ad_needs.specs.Modifying.{descriptor_checks, ordinary_checks, item_checks, written_sd, descriptor_needs}
 use Rattle.ad_needs.specs.Modifying.{password_needs, or_validated, ordinary_needs, needs_behind, modify_needs}
 use Rattle.ad_needs.specs.Modifying.{modify_checks, modify_act}
 use Rattle.ad_needs.specs.Verdicts.{verdict_of}
 use Rattle.ad_search_laws.specs.Told.{replacement, IsSeenAs, IsOrdinary, IsTold, IsGrantedAny}
-
-only : List ℕ → List ℕ → Item
-only name value = record { op = 2; attr = name; values = value ∷ [] }
+use Rattle.ad_search_laws.proofs.OneItem.{only, one_item, all_hold, all_held, none_failed}
 
 -- ---- the one item
 
-one_item : (name value : List ℕ) → items_of (only name value ∷ []) name ≡ only name value ∷ []
-unfolding only
-one_item name value = ap (λ (b : Bool). cond b (only name value ∷ []) []) (same_itself name)
-
 forced : (name value : List ℕ) → is_forced (items_of (only name value ∷ []) name) ≡ true
-unfolding only is_forced
+unfolding is_forced
 forced name value = ap is_forced (one_item name value)
 
 -- ---- what the rule of the list asks, and what the checks of an item ask
@@ -150,7 +139,7 @@ module _ (dir : Directory) (token : Token) (number place : ℕ) (dn : List ℕ) 
 
   -- the checks of the one item, by truth values
   checks_are : (flags : ℕ) → item_checks dir number flags items (only info.name value) ≡ own_checks
-  unfolding own_checks only checks_by items unwritable class_here
+  unfolding own_checks checks_by items unwritable class_here
   checks_are flags =
       ap (λ (b : Bool). cond b (descriptor_checks flags items (only info.name value))
       (ordinary_checks dir number items (only info.name value))) attr.ordinary
@@ -198,7 +187,7 @@ module _ (dir : Directory) (token : Token) (number place : ℕ) (dn : List ℕ) 
 
   all_required : (flags : ℕ) → may_write dir token number place ≡ true
       → first_failing (all_met dir token (modify_needs dir token number flags items)) ≡ None
-  unfolding needs_behind items only class_here object_at
+  unfolding needs_behind items class_here object_at
   all_required flags may =
       ap (λ (b : Bool). first_failing (all_met dir token
       (cond b (descriptor_needs number (written_sd items flags)) (by_name (is_password info.name)) ++ [])))
@@ -229,72 +218,30 @@ module _ (dir : Directory) (token : Token) (number place : ℕ) (dn : List ℕ) 
 
   -- ---- all checks
 
-  request : Modify
-  request = replacement dn info.name value
-
-  number_is : number_named dir token dn ≡ number
-  number_is = ap (λ (found : Option ℕ). unwrap_or found 0) seen.named
-
-  behind_name : ℕ → ℕ → List Check
-  behind_name flags n = flat_map (item_checks dir n flags items) items
-      ++ all_met dir token (modify_needs dir token n flags items)
-
-  checks_begin : (flags : ℕ) → modify_checks dir token request flags ≡ or_code (is_name dn) 34
-      ∷ or_hidden dir token dn ∷ behind_name flags (number_named dir token dn)
-  unfolding modify_checks request items only behind_name
-  checks_begin flags = refl
-
   all_granted : (flags : ℕ) → is_replaceable dir.schema class_here place info ≡ true → may_write dir token number
-      place ≡ true → first_failing (modify_checks dir token request flags) ≡ None
-  unfolding behind_name items own_checks first_failing
+      place ≡ true → first_failing (modify_checks dir token (replacement dn info.name value) flags) ≡ None
+  unfolding items own_checks
   all_granted flags may_replace may =
-      let own : first_failing (item_checks dir number flags items (only info.name value)) ≡ None
-      = ap first_failing (checks_are flags) ∙ hold_from (same_name info.name (codes "objectClass"))
-      (nat_eq (naming_of dir.schema class_here) place) unwritable (sym replaceable ∙ may_replace) in
-      ap first_failing (checks_begin flags)
-      ∙ head_passes (or_code (is_name dn) 34) (or_hidden dir token dn ∷ behind_name flags (number_named dir token dn))
-      seen.reads
-      ∙ head_passes (or_hidden dir token dn) (behind_name flags (number_named dir token dn)) (ap is_some seen.named)
-      ∙ ap (λ (n : ℕ). first_failing (behind_name flags n)) number_is
-      ∙ all_pass (item_checks dir number flags items (only info.name value) ++ [])
-      (all_met dir token (modify_needs dir token number flags items))
-      (all_pass (item_checks dir number flags items (only info.name value)) [] own)
-      ∙ all_required flags may
+      all_hold dir token number dn info.name value flags seen
+      (ap first_failing (checks_are flags) ∙ hold_from (same_name info.name (codes "objectClass"))
+      (nat_eq (naming_of dir.schema class_here) place) unwritable (sym replaceable ∙ may_replace))
+      (all_required flags may)
 
-  was_replaceable : (flags : ℕ) → first_failing (modify_checks dir token request flags) ≡ None
+  was_replaceable : (flags : ℕ) → first_failing (modify_checks dir token (replacement dn info.name value) flags) ≡ None
       → is_replaceable dir.schema class_here place info ≡ true
-  unfolding behind_name items own_checks first_failing only
+  unfolding items own_checks
   was_replaceable flags none =
-      let first = head_holds (or_code (is_name dn) 34)
-      (or_hidden dir token dn ∷ behind_name flags (number_named dir token dn))
-      (sym (ap first_failing (checks_begin flags)) ∙ none) in
-      let second = head_holds (or_hidden dir token dn) (behind_name flags (number_named dir token dn)) first.1 in
-      let further : first_failing (behind_name flags number) ≡ None
-      = sym (ap (λ (n : ℕ). first_failing (behind_name flags n)) number_is) ∙ second.1 in
-      let of_items = (both_hold (item_checks dir number flags items (only info.name value) ++ [])
-      (all_met dir token (modify_needs dir token number flags items)) further).0 in
-      let own = (both_hold (item_checks dir number flags items (only info.name value)) [] of_items).0 in
       replaceable ∙ hold_to (same_name info.name (codes "objectClass"))
       (nat_eq (naming_of dir.schema class_here) place) unwritable
-      (sym (ap first_failing (checks_are flags)) ∙ own)
+      (sym (ap first_failing (checks_are flags))
+      ∙ (all_held dir token number dn info.name value flags seen none).0)
 
 -- ---- verdicts
-
-is_granted_one : Verdict → Bool
-is_granted_one (Granted act) = true
-is_granted_one _ = false
-
-none_failed : (found : Option Refusal) (asked act : Act) → by_checks found asked ≡ Granted act → found ≡ None
-unfolding is_granted_one
-none_failed None asked act is = refl
-none_failed (Some (code n)) asked act is = absurd (false≢true (ap is_granted_one is))
-none_failed (Some (hidden rdns)) asked act is = absurd (false≢true (ap is_granted_one is))
-none_failed (Some (missing need)) asked act is = absurd (false≢true (ap is_granted_one is))
 
 pub told_granted : (dir : Directory) (token : Token) (number place : ℕ) (dn : List ℕ) (info : AttrInfo)
     → IsSeenAs dir token number dn → IsOrdinary dir place info
     → IsTold dir token number place info → IsGrantedAny dir token dn info.name
-unfolding verdict_of class_here request
+unfolding verdict_of class_here
 told_granted dir token number place dn info seen attr told = λ value settings.
     let class : ℕ = (object_at dir.objects number).class in
     let parts = and_parts (is_allowed dir.schema class place && is_replaceable dir.schema class place info)
@@ -311,7 +258,7 @@ pub granted_told : (dir : Directory) (token : Token) (number place : ℕ) (dn va
     → verdict_of dir token (ModifyOf (replacement dn info.name value)) settings ≡ Granted act
     → is_allowed dir.schema (object_at dir.objects number).class place ≡ true → may_write dir token number place
     ≡ true → IsTold dir token number place info
-unfolding verdict_of class_here request
+unfolding verdict_of class_here
 granted_told dir token number place dn value info settings act seen attr granted allowed may =
     let class : ℕ = (object_at dir.objects number).class in
     let none = none_failed (first_failing

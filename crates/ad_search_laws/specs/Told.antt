@@ -37,6 +37,14 @@ abbrev pub IsTold : Directory → Token → ℕ → ℕ → AttrInfo → Type 0
 IsTold dir token number place info = is_listed dir.schema (object_at dir.objects number).class
     (rights_at dir token number) place info ≡ true
 
+-- the name is that of an attribute that is told to be writable
+pub record IsNameTold (dir : Directory) (token : Token) (number : ℕ) (name : List ℕ) : Type 0 where
+  pub place : ℕ
+  pub info : AttrInfo
+  pub there : slice_get (attrs_of dir.schema) place ≡ Some info
+  pub named : info.name ≡ name
+  pub told : IsTold dir token number place info
+
 -- whatever the value, the checks up to what is required grant its replacement by it
 abbrev pub IsGrantedAny : Directory → Token → List ℕ → List ℕ → Type 0
 IsGrantedAny dir token dn name = (value : List ℕ) (settings : Settings)
