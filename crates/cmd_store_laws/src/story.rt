@@ -17,11 +17,11 @@ use thiserror::Error;
 /// What came of a run.
 #[derive(Drop)]
 pub struct Run {
-    /// How the frames before the crash ended, where none had come.
+    /// How serving the frames before the crash ends where no crash comes.
     pub before: Outcome,
     /// What the crash left.
     pub crash: Crash,
-    /// How the frames after it ended, and what stands in the slots and was emitted then.
+    /// How serving the frames after it ended, and what stands in the slots and was emitted then.
     pub behind: Outcome,
     pub site: MemSite,
 }
