@@ -22,8 +22,8 @@ returns c =
     ∙ ap (λ (schema : _). guid_at schema o.class) c.schema.ensures in
     let is : whole (seen c.live_sd-above.result) (seen c.live_sd.result) c.guid_of-class.result
     ≡ whole_at c.args.dir.now o =
-    same_whole (seen c.live_sd-above.result) (sd_at objects o.parent) (seen c.live_sd.result) o.sd c.guid_of-class.result
-    (guid_at c.args.dir.now.schema o.class) from_parent c.live_sd.ensures guid
+    same_whole (seen c.live_sd-above.result) (sd_at objects o.parent) (seen c.live_sd.result) o.sd
+    c.guid_of-class.result (guid_at c.args.dir.now.schema o.class) from_parent c.live_sd.ensures guid
     ∙ sym (whole_below c.args.dir.now o (λ e.
     c.requires.below (sym (at_number objects c.args.child c.requires.live) ∙ e))) in
     subst (λ (sd : Sd). IfOk c.whole_again.result (λ made. made ≡ sd)) is c.whole_again.ensures
