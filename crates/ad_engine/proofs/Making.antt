@@ -15,7 +15,8 @@ use Rattle.ad_dir_model.proofs.EditLaws.{edited_append}
 use Rattle.ad_dir_model.proofs.StepSound.{step_sound}
 use Rattle.ad_rows_write.specs.Batch.{AreRowsOfEdits}
 use Rattle.ad_dir.specs.Conditions.{MayPend}
-use Rattle.ad_prop.specs.Step.{MakeStepBeside}
+use Rattle.ad_prop.specs.Step.{TakesTurn, turn_edits}
+use Rattle.ad_prop.specs.declared.turning.Turn.{Turn}
 use Rattle.ad_engine.specs.Stepping.{Makes, MakesSteps, MakesBeside, IsMaking}
 
 edited_push : (edits : List Edit) (edit : Edit) (dir : Directory) → all_edited (edits ++ edit ∷ []) dir
@@ -23,7 +24,7 @@ edited_push : (edits : List Edit) (edit : Edit) (dir : Directory) → all_edited
 unfolding all_edited
 edited_push edits edit dir = edited_append edits (edit ∷ []) dir
 
-makes_none : (dir : Directory) (rows : List Row) → Makes [] dir dir rows rows
+pub makes_none : (dir : Directory) (rows : List Row) → Makes [] dir dir rows rows
 unfolding all_edited
 makes_none dir rows = record {
   made = refl;
@@ -95,15 +96,15 @@ steps_from dir queue rows sound = record {
 }
 
 pub steps_more : (n next : ℕ) (queue left after : List Pending) (old mid new : Directory) (rows noted more : List Row)
-    (edits : List EditIn)
-    → MakesBeside n queue left old mid rows noted → next ≡ suc n → MakeStepBeside mid left after edits
-    → Makes (map edit_seen edits) mid new noted more → MakesBeside next queue after old new rows more
-steps_more n next queue left after old mid new rows noted more edits so_far one made makes =
+    (turn : Turn)
+    → MakesBeside n queue left old mid rows noted → next ≡ suc n → TakesTurn mid left after turn
+    → Makes (turn_edits mid turn) mid new noted more → MakesBeside next queue after old new rows more
+steps_more n next queue left after old mid new rows noted more turn so_far one made makes =
     let stepped : with_pending after new ≡ step (with_pending left mid) = ap (λ (d : Directory). with_pending after d)
     (sym makes.made) ∙ made.make in
     subst (λ (k : ℕ). MakesBeside k queue after old new rows more) (sym one) (record {
-      edits = so_far.edits ++ map edit_seen edits;
-      makes = makes_on so_far.edits (map edit_seen edits) old mid new rows noted more so_far.makes makes;
+      edits = so_far.edits ++ turn_edits mid turn;
+      makes = makes_on so_far.edits (turn_edits mid turn) old mid new rows noted more so_far.makes makes;
       stepped = stepped ∙ ap step so_far.stepped ∙ sym (steps_push n (with_pending queue old));
       sound = subst IsSound (sym stepped) (step_sound (with_pending left mid) so_far.sound);
       not_before = λ m less empty. ⊎_elim (λ (lt : m < n). so_far.not_before m lt empty)

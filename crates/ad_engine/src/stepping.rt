@@ -1,17 +1,20 @@
 //! Steps of propagation, made in the directory and noted for the store.
 
-ghost use Rattle.std.specs.Prelude.{◌≡◌, ◌<◌, ◌≤◌, [], ◌∷◌, map, IfOk, OnOk};
+ghost use Rattle.std.specs.Prelude.{◌≡◌, ◌<◌, ◌≤◌, true, [], ◌∷◌, map, IfOk, OnOk};
 ghost use Rattle.ad_dir.specs.Applying.{MayApplyAll};
-ghost use Rattle.ad_dir.specs.Conditions.{MayPend};
+ghost use Rattle.ad_dir.specs.Conditions.{MayPend, MayPut, with_sd};
 ghost use Rattle.ad_dir_objects.specs.Seen.{edit_seen};
-ghost use Rattle.ad_dir_model.specs.Directory.{put_queue, with_pending};
+ghost use Rattle.ad_dir_model.specs.Objects.{is_live, object_at};
+ghost use Rattle.ad_dir_model.specs.Directory.{put_object, put_queue, with_pending};
 ghost use Rattle.ad_dir_model.specs.Soundness.{IsSound};
+ghost use Rattle.ad_prop.specs.Step.{MayTake, turn_edits};
 ghost use Rattle.ad_engine.specs.Stepping.{Makes, MakesSteps, MakesBeside};
 
 use ad_dir::{Dir, Edit};
-use ad_dir_write::copied;
-use ad_prop::step_beside;
+use ad_dir_write::{copied, live_object};
+use ad_prop::{Turn, turn_beside};
 use ad_rows::Batch;
+use ad_sd::NormalSd;
 use prop_queue::Queue;
 use std::alloc::{AllocError, Global};
 
@@ -25,6 +28,28 @@ pub(crate) fn make_all(dir: &mut Dir, batch: &mut Batch, edits: Vec<Edit>) -> Re
         dir.apply(edit)?;
     }
     Ok(())
+}
+
+// Gives a live object this descriptor, and notes its row.
+fn give(dir: &mut Dir, batch: &mut Batch, number: u32, sd: &NormalSd) -> Result<(), AllocError>
+    requires live { is_live dir.old.objects number ≡ true }
+    requires may { MayPut dir.old (with_sd sd.now (object_at dir.old.objects number)) }
+    ensures { OnOk result (Makes (put_object (with_sd sd.now (object_at dir.old.objects number)) ∷ [])
+        dir.old dir.new batch.old batch.new) }
+{
+    batch.note_object(live_object(dir, number), sd)?;
+    dir.put_sd(number, sd)
+}
+
+// Makes what a turn makes of the objects, and notes its row.
+fn take(dir: &mut Dir, batch: &mut Batch, turn: Turn) -> Result<(), AllocError>
+    requires { MayTake dir.old turn }
+    ensures { OnOk result (Makes (turn_edits dir.old turn) dir.old dir.new batch.old batch.new) }
+{
+    match turn {
+        Turn::Child(number, sd) => give(dir, batch, number, &sd),
+        Turn::Head => Ok(()),
+    }
 }
 
 // Makes at most so many steps over a pending list that is kept beside the directory, and notes the rows of the
@@ -42,9 +67,10 @@ fn make_beside(
     ensures most { IfOk result (λ n. n ≤ most) }
     ensures empty { IfOk result (λ n. n < most → queue.new ≡ []) }
 {
+    let mut last = None;
     for done in 0..most {
-        match step_beside(alloc, dir, queue)? {
-            Some(edits) => make_all(dir, batch, edits)?,
+        match turn_beside(alloc, dir, queue, &mut last)? {
+            Some(turn) => take(dir, batch, turn)?,
             None => return Ok(done),
         }
     }

@@ -7,7 +7,7 @@ loop-done-init c = steps_from c.args.dir.now c.args.queue.now c.args.batch.now c
 
 pub loop-done-preserved : goal.loop-done-preserved
 loop-done-preserved c =
-    steps_more c.loop-done.done (c.loop-done.done + 1) c.args.queue.now c.loop-done.queue c.step_beside.new.queue
-    c.args.dir.now c.loop-done.dir c.make_all.new.dir c.args.batch.now c.loop-done.batch c.make_all.new.batch
-    c.in-Some.edits.items
-    c.loop-done.invariant (omega arith) (rw c.in-Some.is at c.in_ok-edits.ensures.made) c.in_ok-make_all-in-Some.ensures
+    steps_more c.loop-done.done (c.loop-done.done + 1) c.args.queue.now c.loop-done.queue c.turn_beside.new.queue
+    c.args.dir.now c.loop-done.dir c.take.new.dir c.args.batch.now c.loop-done.batch c.take.new.batch
+    c.in-Some.turn
+    c.loop-done.invariant (omega arith) (rw c.in-Some.is at c.in_ok-turn.ensures.made) c.in_ok-take-in-Some.ensures
