@@ -1,6 +1,6 @@
 -- The attributes that names lead to.
 use Rattle.std.proofs.Common.{◌≡◌, ℕ, zero, suc, ◌+◌, ◌<◌, ◌≤◌, Bool, true, false, ◌||◌, List, [], ◌∷◌, ◌++◌, length}
-use Rattle.std.proofs.Common.{map, drop, get_or, Option, Some, None, refl, sym, subst, ap, ◌∙◌, arith}
+use Rattle.std.proofs.Common.{map, drop, get_or, Option, Some, None, inl, inr, refl, sym, subst, ap, ◌∙◌, arith}
 use Rattle.std.specs.Prelude.{nat_eq, ◌==◌, slice_get, codes, position, if◌then◌else◌}
 use Rattle.std.specs.Option.{option_map, option_map_or}
 use Rattle.std.specs.List.{list_any}
@@ -12,6 +12,7 @@ use Rattle.std.proofs.lemmas.Option.{none-some, same_Some}
 use Rattle.std.proofs.lemmas.Slice.Eq.{bytes_eq-Decides}
 use Rattle.std.proofs.lemmas.Bool.Decides.{nat_tests}
 use Rattle.ad_schema_classes.specs.Names.{same_name, place_of}
+use Rattle.ad_schema_classes.proofs.IndexLemmas.{position_here, position_next}
 use Rattle.ad_schema.specs.declared.info.AttrId.{AttrId}
 use Rattle.ad_schema.specs.declared.info.AttrInfo.{AttrInfo}
 use Rattle.ad_schema.specs.declared.line.SchemaKind.TheVariants.{Attribute}
@@ -41,7 +42,8 @@ pushed_one schema name old id is attr not_there =
     )
   where
     differ : (a b : ℕ) → nat_eq a b ≡ false → a ≡ b → ⊥
-    differ a b no e = let same : nat_eq a b ≡ true = grind (arith, nat_tests) in absurd (both_ways (nat_eq a b) same no)
+    differ a b apart_by e = let same : nat_eq a b ≡ true = grind (arith, nat_tests) in absurd (both_ways (nat_eq a b)
+        apart_by same)
 
 pub pushed_none : (schema : List SchemaRecord) (name old : List ℕ) → attr_named schema name ≡ None
     → PushesNamed schema name old old
@@ -75,9 +77,12 @@ same_by_lower x a b same = ap (λ (l : List ℕ). bytes_eq (map to_ascii_lowerca
 position_so : (p q : List ℕ → Bool) (names : List (List ℕ)) → ((x : List ℕ) → p x ≡ q x) → position p names
     ≡ position q names
 position_so p q [] same = refl
-position_so p q (x ∷ xs) same =
-    ap (λ (b : Bool). if b then Some 0 else option_map suc (position p xs)) (same x)
-    ∙ ap (λ (found : Option ℕ). if q x then Some 0 else option_map suc found) (position_so p q xs same)
+position_so p q (x ∷ xs) same = elim (cases_Bool (q x)) [
+  | inl has_it ↦ position_here p x xs (same x ∙ has_it) ∙ sym (position_here q x xs has_it)
+  | inr lacks ↦ position_next p x xs (same x ∙ lacks)
+      ∙ ap (λ (found : Option ℕ). option_map (λ (k : ℕ). suc k) found) (position_so p q xs same)
+      ∙ sym (position_next q x xs lacks)
+]
 
 -- the attribute of a name is found by each name that is the same
 leads_to : (schema : List SchemaRecord) (attr : ℕ) (info : AttrInfo) (sent : List ℕ) → NamesAreDistinct schema
@@ -115,9 +120,9 @@ none_more schema sent few more i asked distinct front some pushes so attr info i
     ∙ so attr info is parts.0
   where
     other : (same : Bool) → same_name info.name asked ≡ same → is_named schema asked attr ≡ false → same ≡ false
-    other true same no = absurd (both_ways (is_named schema asked attr)
-        (leads_to schema attr info asked distinct is same) no)
-    other false same no = refl
+    other true same elsewhere = absurd (both_ways (is_named schema asked attr) elsewhere
+        (leads_to schema attr info asked distinct is same))
+    other false same elsewhere = refl
 
 pub none_asks : (schema : List SchemaRecord) (sent : List (List ℕ)) (few : List ℕ) (i : ℕ)
     → (length sent == 0) ≡ false → drop i sent ≡ [] → NoneSoFar schema sent few i → LeavesUnasked schema sent few

@@ -180,7 +180,7 @@ none_judged truth n place = elim (cases_lt place n) [
   | inl within ↦ subst (λ (v : Option Bool). IfSome v (λ s. s ≡ truth place)) (sym (get_or-replicate n place None None
       within)) tt
   | inr past ↦ subst (λ (v : Option Bool). IfSome v (λ s. s ≡ truth place)) (sym (get_or_past (replicate n None) place
-      None (let long : length (replicate {ℓ = 0} {A = Option Bool} n None) ≡ n = length-replicate n None in omega (arith, past, long)))) tt
+      None (let long : length (replicate n (None {A = Bool})) ≡ n = length-replicate n None in omega (arith, past, long)))) tt
 ]
 
 -- ---- what is kept of kinds

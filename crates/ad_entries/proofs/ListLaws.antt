@@ -31,8 +31,8 @@ or_false true b first second = first
 or_false false b first second = second
 
 pub neither : (a b : Bool) → a || b ≡ false → (a ≡ false) × (b ≡ false)
-neither true b no = absurd (both_ways true refl no)
-neither false b no = (refl, no)
+neither true b lacks = absurd (both_ways true lacks refl)
+neither false b lacks = (refl, lacks)
 
 same_place : (k j : ℕ) → (k == j) ≡ true → k ≡ j
 same_place k j is = grind (arith, nat_tests)
@@ -52,7 +52,9 @@ all_by_place P (x ∷ xs) each = (each 0 x (omega arith), all_by_place P xs (λ 
 
 pub all_get : {X : Type 0} → (P : X → Type 0) (xs : List X) (i : ℕ) (d : X) → AllByRecursion P xs → i < length xs
     → P (get_or xs i d)
-all_get P xs i d all lt = all_at P xs i (get_or xs i d) all lt refl
+all_get P [] i d all lt = absurd (omega (arith, lt))
+all_get P (x ∷ xs) zero d all lt = all.0
+all_get P (x ∷ xs) (suc i) d all lt = all_get P xs i d all.1 (omega (arith, lt))
 
 -- What holds of each holds of those that are left where one was taken and the last one stands in its place.
 pub all_left : {X : Type 0} → (P : X → Type 0) (old new : List X) (i : ℕ) → AllByRecursion P old
@@ -62,14 +64,14 @@ pub all_left : {X : Type 0} → (P : X → Type 0) (old new : List X) (i : ℕ) 
     → AllByRecursion P new
 all_left {X} P old new i all long at others = all_by_place P new (λ k d lt. by k d lt (k == i) refl)
   where
+    eq_test : (k j : ℕ) → k ≡ j → (k == j) ≡ true
+    eq_test k j e = grind (arith, nat_tests)
+
     by : (k : ℕ) (d : X) → k < length new → (test : Bool) → (k == i) ≡ test → P (get_or new k d)
     by k d lt true is =
         let here : k ≡ i = same_place k i is in
         subst P (sym (ap (λ (n : ℕ). get_or new n d) here ∙ at d (omega (arith, lt, long, here))))
         (all_get P old (length old - 1) d all (omega (arith, lt, long)))
     by k d lt false is =
-        subst P (sym (others k d (λ (e : k ≡ i). absurd (both_ways (k == i) (eq_test k i e) is))
+        subst P (sym (others k d (λ (e : k ≡ i). absurd (both_ways (k == i) is (eq_test k i e)))
         (omega (arith, lt, long)))) (all_get P old k d all (omega (arith, lt, long)))
-
-    eq_test : (k j : ℕ) → k ≡ j → (k == j) ≡ true
-    eq_test k j e = grind (arith, nat_tests)

@@ -93,8 +93,8 @@ by_source dir token number search source pushed places rest is rises same = reco
     told n = same n ∙ ap (is_in n) is ∙ in_filter given n source
 
     left : (a b : Bool) → b ≡ true → (a && b) ≡ false → a ≡ false
-    left true b so no = absurd (both_ways b so no)
-    left false b so no = refl
+    left true b so lacks = absurd (both_ways b lacks so)
+    left false b so lacks = refl
 
 pub has_few : (dir : Directory) (token : Token) (number : ℕ) (search : SearchValue) (few pushed places : List ℕ)
     → LeavesUnasked dir.schema search.attrs few → pushed ≡ filter (is_given_at dir token number search) few
@@ -102,9 +102,8 @@ pub has_few : (dir : Directory) (token : Token) (number : ℕ) (search : SearchV
     → HasPlaces dir token number search places
 has_few dir token number search few pushed places unasked is rises same =
     by_source dir token number search few pushed places
-    (λ n not_there so. absurd (both_ways (is_asked_at dir.schema search.attrs n)
-    (and_parts (is_asked_at dir.schema search.attrs n) (is_readable_at dir token number n) so).0
-    (unasked n not_there))) is rises same
+    (λ n not_there so. absurd (both_ways (is_asked_at dir.schema search.attrs n) (unasked n not_there)
+    (and_parts (is_asked_at dir.schema search.attrs n) (is_readable_at dir token number n) so).0)) is rises same
 
 -- by what the object holds, its naming attribute, and those that are computed
 pub has_own : (dir : Directory) (token : Token) (number naming : ℕ) (search : SearchValue) (o : Object)
@@ -166,7 +165,7 @@ unfolding is_asked_at
 told_at_places {A} dir token number search f places bare has =
     sym (all_given places has.given)
     ∙ gathered told 0 places (attrs_of dir.schema) (rises_from places has.rise) (λ n le not_there. other n not_there)
-    past
+    (λ n le. past n (omega (arith, le)))
   where
     told : ℕ → List A
     told = told_if dir token number search f

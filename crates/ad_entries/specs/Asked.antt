@@ -1,8 +1,9 @@
 -- What a search asks for, as code keeps it.
-use Rattle.std.specs.Prelude.{◌≡◌, ℕ, false, codes, List, IfSome}
+use Rattle.std.specs.Prelude.{◌≡◌, ℕ, false, codes, List}
 use Rattle.ad_schema.specs.declared.line.SchemaRecord.{SchemaRecord}
 use Rattle.ad_dir_model.specs.Attributes.{is_named}
 use Rattle.ad_entries.specs.declared.asking.Asked.{Asked}
+use Rattle.ad_entries.specs.declared.asking.Asked.TheVariants as asked
 use Rattle.ad_entries.specs.Places.{is_asked_at}
 use Rattle.ad_entries.specs.Rising.{is_in}
 
@@ -25,6 +26,7 @@ pub record IsUncomputed (schema : List SchemaRecord) (attr : ℕ) : Type 0 where
 abbrev pub LeavesUncomputed : List SchemaRecord → List ℕ → Type 0
 LeavesUncomputed schema places = (attr : ℕ) → is_in attr places ≡ false → IsUncomputed schema attr
 
-pub record AreAsked (schema : List SchemaRecord) (sent : List (List ℕ)) (asked : Asked) : Type 0 where
-  pub few : IfSome asked.few (λ few. LeavesUnasked schema sent few.items)
-  pub computed : LeavesUncomputed schema asked.computed.items
+-- what is asked for, or what is computed
+abbrev pub AreAsked : List SchemaRecord → List (List ℕ) → Asked → Type 0
+AreAsked schema sent (asked.Few few) = LeavesUnasked schema sent few.items
+AreAsked schema sent (asked.Own computed) = LeavesUncomputed schema computed.items

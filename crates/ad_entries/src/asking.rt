@@ -16,13 +16,13 @@ const EVERY: &[u8] = b"*";
 // So many names are looked up, and of more each attribute of an object is asked whether one is its own.
 const FEW: usize = 16;
 
-/// What a search asks for.
+/// What a search asks for, as places of attributes.
 #[derive(Drop)]
-pub struct Asked {
-    /// The places of the attributes that are asked for by name, where those are few.
-    pub few: Option<Vec<u32>>,
-    /// The places of the attributes that objects of each class show without storing them.
-    pub computed: Vec<u32>,
+pub enum Asked {
+    /// Those that are asked for by name, where they are few.
+    Few(Vec<u32>),
+    /// Otherwise those that objects of each class show without storing them.
+    Own(Vec<u32>),
 }
 
 fn asks_for(name: &[u8], sent: &[u8]) -> bool
@@ -101,7 +101,8 @@ fn computed(alloc: Global, schema: &Schema) -> Result<Vec<u32>, AllocError>
 pub(crate) fn asked_of(alloc: Global, schema: &Schema, sent: &[Bytes]) -> Result<Asked, AllocError>
     ensures { IfOk result (λ asked. AreAsked schema.now sent.now asked) }
 {
-    let few = few_asked(alloc, schema, sent)?;
-    let computed = computed(alloc, schema)?;
-    Ok(Asked { few, computed })
+    match few_asked(alloc, schema, sent)? {
+        Some(few) => Ok(Asked::Few(few)),
+        None => Ok(Asked::Own(computed(alloc, schema)?)),
+    }
 }

@@ -1,7 +1,7 @@
 //! What is judged in a search of the objects of each kind, once: which attributes may be read, those of them that an
 //! object shows, and what tells what a token may change.
 
-ghost use Rattle.std.specs.Prelude.{◌≡◌, ◌<◌, true, length, slice_index, IfOk, IfSome, OnOk};
+ghost use Rattle.std.specs.Prelude.{◌≡◌, ◌<◌, true, length, slice_index_or, IfOk, IfSome, OnOk};
 ghost use Rattle.std.specs.List.{AllByRecursion};
 ghost use Rattle.ad_ldap.specs.MessageValue.{search_seen};
 ghost use Rattle.ad_dir_model.specs.Objects.{is_live};
@@ -81,7 +81,8 @@ fn place_of(
     requires live { is_live dir.now.objects kind.sample ≡ true }
     requires kind { IsOf dir.now token.now kind number }
     ensures within { IfSome result (λ place. place < length judged.now) }
-    ensures of { IfSome result (λ place. IsOf dir.now token.now (slice_index judged.now place).kind number) }
+    ensures of { IfSome result (λ place. (d : Judged) → IsOf dir.now token.now
+        (slice_index_or judged.now place d).kind number) }
 {
     let _ = token;
     let _ = search;

@@ -204,8 +204,8 @@ pub(crate) fn places_of(
         (search_seen search.now) places.items) }
     ensures known { OnOk result (KnowsOf dir.now token.now kind verdicts.new.items) }
 {
-    match &asked.few {
-        Some(few) => few_places(
+    match asked {
+        Asked::Few(few) => few_places(
             alloc,
             dir,
             token,
@@ -215,13 +215,13 @@ pub(crate) fn places_of(
             kind,
             verdicts,
         ),
-        None => own_places(
+        Asked::Own(computed) => own_places(
             alloc,
             dir,
             token,
             number,
             search,
-            asked.computed.as_slice(),
+            computed.as_slice(),
             kind,
             verdicts,
         ),

@@ -1,4 +1,4 @@
-use Rattle.std.proofs.Common.{arith}
+use Rattle.std.proofs.Common.{get_or, refl, arith}
 use Rattle.ad_ldap.specs.MessageValue.{search_seen}
 use Rattle.ad_entries.specs.Places.{is_given_at}
 use Rattle.ad_entries.proofs.ListLaws.{from_here}
@@ -8,9 +8,10 @@ use Rattle.ad_entries.proofs.places.push_each.Goals as goal
 pub each-preserved : goal.each-preserved
 each-preserved c = (
   filter_more (is_given_at c.args.dir.now c.args.token.now c.args.number (search_seen c.args.search.now))
-      c.args.these.now c.each.place-index c.place-item.result c.args.places.now.items c.each.places.items
+      c.args.these.now c.each.place-index (get_or c.args.these.now c.each.place-index 0) c.args.places.now.items c.each.places.items
       c.push_given.new.places.items
-      (from_here c.args.these.now c.each.place-index c.place-item.result c.each-test.true c.place-item.is)
+      (from_here c.args.these.now c.each.place-index (get_or c.args.these.now c.each.place-index 0) c.each-test.true
+      refl)
       c.each.invariant.0 c.in_ok-push_given.ensures.places,
   c.push_given.ensures.known,
 )
