@@ -174,13 +174,20 @@ kept_true truth verdicts place so lt is are other = by_test (nat_eq place other)
         (sym (get_or-set_other verdicts place other (Some so) None (λ (e : other ≡ place). eqb-false place other apart
         (sym e)))) (are other)
 
+pub cases_verdict : (v : Option Bool) → (v ≡ None) ⊎ ((so : Bool) × (v ≡ Some so))
+cases_verdict None = inl refl
+cases_verdict (Some so) = inr (so, refl)
+
+abbrev no_verdict : Option Bool
+no_verdict = None
+
 -- nothing was judged
 pub none_judged : (truth : ℕ → Bool) (n : ℕ) → AreTrue truth (replicate n None)
 none_judged truth n place = elim (cases_lt place n) [
   | inl within ↦ subst (λ (v : Option Bool). IfSome v (λ s. s ≡ truth place)) (sym (get_or-replicate n place None None
       within)) tt
   | inr past ↦ subst (λ (v : Option Bool). IfSome v (λ s. s ≡ truth place)) (sym (get_or_past (replicate n None) place
-      None (let long : length (replicate n (None {A = Bool})) ≡ n = length-replicate n None in omega (arith, past, long)))) tt
+      None (let long : length (replicate n no_verdict) ≡ n = length-replicate n no_verdict in omega (arith, past, long)))) tt
 ]
 
 -- ---- what is kept of kinds

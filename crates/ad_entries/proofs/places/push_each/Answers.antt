@@ -1,7 +1,7 @@
-use Rattle.std.proofs.Common.{get_or, refl, arith}
+use Rattle.std.proofs.Common.{get_or, arith}
+use Rattle.std.proofs.lemmas.List.{drop_more}
 use Rattle.ad_ldap.specs.MessageValue.{search_seen}
 use Rattle.ad_entries.specs.Places.{is_given_at}
-use Rattle.ad_entries.proofs.ListLaws.{from_here}
 use Rattle.ad_entries.proofs.PlaceLaws.{filter_more, filter_end}
 use Rattle.ad_entries.proofs.places.push_each.Goals as goal
 
@@ -10,8 +10,7 @@ each-preserved c = (
   filter_more (is_given_at c.args.dir.now c.args.token.now c.args.number (search_seen c.args.search.now))
       c.args.these.now c.each.place-index (get_or c.args.these.now c.each.place-index 0) c.args.places.now.items c.each.places.items
       c.push_given.new.places.items
-      (from_here c.args.these.now c.each.place-index (get_or c.args.these.now c.each.place-index 0) c.each-test.true
-      refl)
+      (drop_more c.args.these.now c.each.place-index 0 c.each-test.true)
       c.each.invariant.0 c.in_ok-push_given.ensures.places,
   c.push_given.ensures.known,
 )

@@ -8,7 +8,7 @@ returns-in-Some-clause-so c =
     subst (λ (v : Option Bool). IfSome v (λ so. so ≡ is_readable_at c.args.dir.now c.args.token.now c.args.number
     c.args.attr.0)) c.in-Some.is
     (subst (λ (v : Option Bool). IfSome v (λ so. so ≡ is_readable_at c.args.dir.now c.args.token.now c.args.number
-    c.args.attr.0)) (sym (rw c.as_slice.ensures at c.verdict_at.ensures))
+    c.args.attr.0)) (sym (rw c.as_slice.ensures.value at c.verdict_at.ensures))
     (c.requires.known c.args.number c.requires.kind c.args.attr.0))
 
 pub returns-clause-so : goal.returns-clause-so
