@@ -24,11 +24,11 @@ use Rattle.ad_dir_model.specs.Objects.{sd_at, object_of}
 use Rattle.ad_dir_model.specs.Shown.{shown}
 use Rattle.ad_dir_model.specs.Directory.{Directory}
 use Rattle.ad_access_dir.specs.Sight.{is_granted}
-use Rattle.ad_entries.specs.Seen.{is_readable, read_of, reads_from, parts_read}
-use Rattle.ad_entries.specs.Entry.{Given, values_if, is_asked, attr_given, attrs_given, is_read_if}
+use Rattle.ad_entries.specs.Seen.{is_readable, read_of, parts_read}
+use Rattle.ad_entries.specs.Entry.{Given, values_if, is_asked, attr_given, is_read_if}
 use Rattle.ad_entries.specs.Entry.{is_descriptor_asked, are_read, only_if, parts_asked, descriptor_given}
 use Rattle.ad_entries.specs.Given.{given_if}
-use Rattle.ad_entries.specs.Judged.{is_given, place_if, places_from, places_given, shown_of, shown_at, shown_at_each}
+use Rattle.ad_entries.specs.Places.{shown_at, shown_at_each}
 use Rattle.ad_entries.proofs.ReadLaws.{is_read, not_readable}
 use Rattle.ad_access_dir.proofs.OwnView.{view_shown}
 
@@ -56,7 +56,7 @@ if_asked search info values is =
     by pair false = refl
 
 -- of an attribute that is asked for and may be read, or isn't
-given_by : (dir : Directory) (token : Token) (number : ℕ) (search : SearchValue) (place : ℕ) (info : AttrInfo)
+pub given_by : (dir : Directory) (token : Token) (number : ℕ) (search : SearchValue) (place : ℕ) (info : AttrInfo)
     (asked_for read : Bool) → is_asked search.attrs info.name ≡ asked_for → is_readable dir token number place info
     ≡ read
     → attr_given search info (read_of dir token number place info)
@@ -70,72 +70,6 @@ given_by dir token number search place info false read asks reads
     = not_asked search info (read_of dir token number place info) asks
 
 -- ---- the attributes at some places
-
--- from a place on
-abbrev left : Directory → Token → ℕ → SearchValue → ℕ → List AttrInfo → List Given
-left dir token number search place infos = attrs_given search infos (reads_from dir token number place infos)
-
-left_more : (dir : Directory) (token : Token) (number : ℕ) (search : SearchValue) (place : ℕ) (info : AttrInfo)
-    (infos : List AttrInfo)
-    → left dir token number search place (info ∷ infos)
-    ≡ option_to_list (attr_given search info (read_of dir token number place info))
-    ++ left dir token number search (suc place) infos
-unfolding reads_from attrs_given
-left_more dir token number search place info infos = refl
-
-none_left : (dir : Directory) (token : Token) (number : ℕ) (search : SearchValue) (place : ℕ)
-    → left dir token number search place [] ≡ []
-unfolding attrs_given
-none_left dir token number search place = refl
-
--- what one place more shows
-one_more : (dir : Directory) (number : ℕ) (types_only so : Bool) (place : ℕ) (info : AttrInfo) (places : List ℕ)
-    → slice_get (attrs_of dir.schema) place ≡ Some info
-    → shown_at_each dir number types_only (place_if so place ++ places)
-    ≡ option_to_list (if so then given_if types_only info.name (shown dir number place) else None)
-    ++ shown_at_each dir number types_only places
-unfolding shown_at shown_at_each
-one_more dir number types_only true place info places is =
-    ap (λ (found : Option AttrInfo). option_to_list (shown_of dir number types_only place found)
-    ++ shown_at_each dir number types_only places) is
-one_more dir number types_only false place info places is = refl
-
-each_shown : (dir : Directory) (token : Token) (number : ℕ) (search : SearchValue) (place : ℕ) (infos : List AttrInfo)
-    → ((i : ℕ) (info : AttrInfo) → slice_get infos i ≡ Some info → slice_get (attrs_of dir.schema) (place + i)
-    ≡ Some info)
-    → shown_at_each dir number search.types_only (places_from dir token number search place infos)
-    ≡ left dir token number search place infos
-unfolding places_from shown_at_each
-each_shown dir token number search place [] at = sym (none_left dir token number search place)
-each_shown dir token number search place (info ∷ infos) at =
-    let here : place + 0 ≡ place = omega arith in
-    one_more dir number search.types_only (is_given dir token number search place info) place info
-    (places_from dir token number search (suc place) infos)
-    (subst (λ (n : ℕ). slice_get (attrs_of dir.schema) n ≡ Some info) here (at 0 info refl))
-    ∙ ap (λ (g : Option Given). option_to_list g ++ shown_at_each dir number search.types_only
-    (places_from dir token number search (suc place) infos))
-    (sym (given_by dir token number search place info (is_asked search.attrs info.name)
-    (is_readable dir token number place info) refl refl))
-    ∙ ap (λ (gs : List Given). option_to_list (attr_given search info (read_of dir token number place info)) ++ gs)
-    (each_shown dir token number search (suc place) infos
-    (λ i other is. subst (λ (n : ℕ). slice_get (attrs_of dir.schema) n ≡ Some other) (further i)
-    (at (suc i) other is)))
-    ∙ sym (left_more dir token number search place info infos)
-  where
-    further : (i : ℕ) → place + suc i ≡ suc place + i
-    further i = omega arith
-
--- What the places show that are asked for and may be read are the attributes of an entry.
-pub given_at_places : (dir : Directory) (token : Token) (number : ℕ) (search : SearchValue) (places : List ℕ) → places
-    ≡ places_given dir token number search
-    → shown_at_each dir number search.types_only places ≡ attrs_given search (attrs_of dir.schema)
-    (reads_from dir token number 0 (attrs_of dir.schema))
-given_at_places dir token number search places are =
-    ap (shown_at_each dir number search.types_only) are ∙ each_shown dir token number search 0 (attrs_of dir.schema)
-    (λ i info is. subst (λ (n : ℕ). slice_get (attrs_of dir.schema) n ≡ Some info) (from_none i) is)
-  where
-    from_none : (i : ℕ) → i ≡ 0 + i
-    from_none i = omega arith
 
 -- those so far, and those that are left
 pub shown_more : (dir : Directory) (number : ℕ) (types_only : Bool) (places : List ℕ) (i : ℕ)

@@ -93,7 +93,7 @@ is_descriptor_asked sent = list_any (same_name descriptor_name) sent
 abbrev pub is_read_if : {A : Type 0} → Bool → Option A → Bool
 is_read_if wanted part = not wanted || is_some part
 
--- each part that is asked for may be read: 1 the owner, 2 the group, 4 the discretionary list, 8 the system list
+-- each part that is asked for may be read: 1 the owner, 2 the group, 4 the DACL, 8 the SACL
 unfoldable pub are_read : SdParts → ℕ → Bool
 are_read parts flags =
     is_read_if (says flags 1) parts.owner && is_read_if (says flags 2) parts.group
@@ -117,7 +117,7 @@ unfoldable pub descriptor_given : SearchValue → ℕ → SdParts → Option (Re
 descriptor_given search flags parts =
     if is_descriptor_asked search.attrs && are_read parts flags then Some (written (parts_asked parts flags)) else None
 
--- as an attribute, behind all others
+-- as an attribute, after all others
 abbrev pub descriptor_attr : SearchValue → Option (Result (List ℕ) AclWriteFault) → List Given
 descriptor_attr search None = []
 descriptor_attr search (Some (Ok bytes)) = (descriptor_name, values_if search.types_only (bytes ∷ [])) ∷ []

@@ -59,7 +59,7 @@ reads_from dir token number place (info ∷ infos) = read_of dir token number pl
 
 -- ---- the descriptor
 
--- owner, group and discretionary list are read with read control, the system list with the right for it
+-- owner, group and DACL are read with read control, the SACL with the right for it
 unfoldable pub parts_read : Directory → Token → ℕ → SdParts
 parts_read dir token number =
     let sd = sd_at dir.objects number in

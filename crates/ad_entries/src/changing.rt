@@ -194,7 +194,7 @@ fn copy_attr(alloc: Global, attr: &(Bytes, List<Bytes>)) -> Result<(Bytes, List<
     Ok((name, values))
 }
 
-/// Puts copies of attributes behind others.
+/// Puts copies of attributes after others.
 pub(crate) fn push_copies(
     alloc: Global,
     attrs: &mut List<(Bytes, List<Bytes>)>,

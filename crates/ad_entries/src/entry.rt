@@ -1,20 +1,17 @@
 //! An entry of a search.
 
-ghost use Rattle.std.specs.Prelude.{◌≡◌, ◌<◌, ◌++◌, [], ◌∷◌, true, length, map, option_to_list, IfOk, OnOk};
-ghost use Rattle.std.specs.Str.{bytes_eq};
+ghost use Rattle.std.specs.Prelude.{◌≡◌, ◌++◌, [], ◌∷◌, true, map, option_to_list, IfOk, OnOk};
 ghost use Rattle.ad_schema.specs.Attributes.{attrs_of};
 ghost use Rattle.ad_ldap.specs.MessageValue.{search_seen};
 ghost use Rattle.ad_dir_model.specs.Objects.{is_live};
 ghost use Rattle.ad_dir_model.specs.Names.{rdns_of};
 ghost use Rattle.ad_entries.specs.Seen.{reads_from, seen_of};
 ghost use Rattle.ad_constructed_dir.specs.Changing.{changing_of};
-ghost use Rattle.ad_entries.specs.Entry.{values_if, asks_for, is_asked, attrs_given, changing_attrs, descriptor_attr};
+ghost use Rattle.ad_entries.specs.Entry.{values_if, attrs_given, changing_attrs, descriptor_attr};
 ghost use Rattle.ad_entries.specs.Entry.{entry_of};
-ghost use Rattle.ad_entries.specs.Bare.{IsBareElse};
 ghost use Rattle.ad_entries.specs.Given.{descriptor_seen, given_if, made_seen};
-ghost use Rattle.ad_entries.specs.Judged.{shown_at, shown_at_each, places_given};
+ghost use Rattle.ad_entries.specs.Places.{shown_at, shown_at_each, HasPlaces};
 
-use crate::bare::{flags_of, is_unset};
 use crate::changing::push_copies;
 use crate::descriptor::{self, Descriptor, descriptor_given, is_left_out};
 use ad_bytes::{Bytes, List};
@@ -23,15 +20,8 @@ use ad_dn::Dn;
 use ad_ids::Token;
 use ad_ldap::{Reply, Search, write_reply};
 use ad_schema::{AttrId, AttrInfo};
-use ad_schema_classes::same_name;
 use ad_value::Value;
 use std::alloc::{AllocError, Global};
-
-/// What asks for all attributes (RFC 4511 4.5.1.8).
-const EVERY: &[u8] = b"*";
-
-/// So many attributes are looked at one by one, and of more it is told first of which the object may show something.
-const FEW: usize = 16;
 
 /// An entry's message, and whether its descriptor is left out.
 #[derive(Drop)]
@@ -65,28 +55,6 @@ fn values_if(alloc: Global, types_only: bool, values: Vec<Value>) -> Result<List
 
 // ---- attributes
 
-fn asks_for(name: &[u8], sent: &[u8]) -> bool
-    ensures { result ≡ asks_for name.now sent.now }
-{
-    sent == EVERY || same_name(name, sent)
-}
-
-/// Whether an attribute is asked for.
-#[tactic(auto, unfolding(crate::specs::Entry::is_asked))]
-pub(crate) fn is_asked(sent: &[Bytes], name: &[u8]) -> bool
-    ensures { result ≡ is_asked sent.now name.now }
-{
-    if sent.is_empty() {
-        return true;
-    }
-    for asked in sent {
-        if asks_for(name, asked.as_slice()) {
-            return true;
-        }
-    }
-    false
-}
-
 // What an entry has of an attribute that is asked for and may be read.
 fn with_values(
     alloc: Global,
@@ -105,7 +73,7 @@ fn with_values(
 }
 
 // What an entry has of the attribute at a place.
-#[tactic(auto, unfolding(crate::specs::Judged::shown_at))]
+#[tactic(auto, unfolding(crate::specs::Places::shown_at))]
 fn attr_shown(
     alloc: Global,
     dir: &Dir,
@@ -125,7 +93,7 @@ fn attr_shown(
     }
 }
 
-/// Puts an attribute behind others, if there is one.
+/// Puts an attribute after others, if there is one.
 pub(crate) fn push_if(
     attrs: &mut List<(Bytes, List<Bytes>)>,
     given: Option<(Bytes, List<Bytes>)>,
@@ -138,8 +106,8 @@ pub(crate) fn push_if(
     }
 }
 
-// What an entry has of the attributes at these few places.
-fn few_shown(
+// What an entry has of the attributes at these places.
+fn attrs_shown(
     alloc: Global,
     dir: &Dir,
     number: u32,
@@ -157,65 +125,7 @@ fn few_shown(
     Ok(attrs)
 }
 
-// The same of the attribute at a place, by the flags of those of which the object may show something.
-fn attr_flagged(
-    alloc: Global,
-    dir: &Dir,
-    number: u32,
-    types_only: bool,
-    flags: &[bool],
-    place: u32,
-) -> Result<Option<(Bytes, List<Bytes>)>, AllocError>
-    requires live { is_live dir.now.objects number ≡ true }
-    requires bare { IsBareElse dir.now number flags.now }
-    ensures { IfOk result (λ given. given ≡ shown_at dir.now number types_only place) }
-{
-    if is_unset(flags, place) {
-        return Ok(None);
-    }
-    attr_shown(alloc, dir, number, types_only, place)
-}
-
-// What an entry has of the attributes at these places, without a look at those of which the object shows nothing.
-fn many_shown(
-    alloc: Global,
-    dir: &Dir,
-    number: u32,
-    types_only: bool,
-    flags: &[bool],
-    places: &[u32],
-) -> Result<List<(Bytes, List<Bytes>)>, AllocError>
-    requires live { is_live dir.now.objects number ≡ true }
-    requires bare { IsBareElse dir.now number flags.now }
-    ensures { IfOk result (λ attrs. attrs ≡ shown_at_each dir.now number types_only places.now) }
-{
-    let mut attrs = List::new(alloc);
-    'each: for place in places {
-        let given = attr_flagged(alloc, dir, number, types_only, flags, *place)?;
-        push_if(&mut attrs, given)?;
-    }
-    Ok(attrs)
-}
-
-// What an entry has of the attributes at these places.
-fn attrs_shown(
-    alloc: Global,
-    dir: &Dir,
-    number: u32,
-    types_only: bool,
-    places: &[u32],
-) -> Result<List<(Bytes, List<Bytes>)>, AllocError>
-    requires { is_live dir.now.objects number ≡ true }
-    ensures { IfOk result (λ attrs. attrs ≡ shown_at_each dir.now number types_only places.now) }
-{
-    if places.len() <= FEW {
-        return few_shown(alloc, dir, number, types_only, places);
-    }
-    let flags = flags_of(alloc, dir, number)?;
-    many_shown(alloc, dir, number, types_only, &flags, places)
-}
-
-// The attributes of an entry, where the places are those that are asked for and may be read.
+// The attributes of an entry, where the places are those that it has.
 fn attrs_given(
     alloc: Global,
     dir: &Dir,
@@ -225,7 +135,7 @@ fn attrs_given(
     places: &[u32],
 ) -> Result<List<(Bytes, List<Bytes>)>, AllocError>
     requires live { is_live dir.now.objects number ≡ true }
-    requires places { places.now ≡ places_given dir.now token.now number (search_seen search.now) }
+    requires places { HasPlaces dir.now token.now number (search_seen search.now) places.now }
     ensures { IfOk result (λ attrs. attrs
         ≡ attrs_given (search_seen search.now) (attrs_of dir.now.schema)
         (reads_from dir.now token.now number 0 (attrs_of dir.now.schema))) }
@@ -269,8 +179,8 @@ fn descriptor_attr(
 
 // ---- the entry
 
-/// The entry of an object of this name, of which the attributes at these places are asked for and may be read, and of
-/// which so much is asked of what the token may change.
+/// The entry of an object of this name, which has the attributes at these places, and of which so much is asked of
+/// what the token may change.
 #[tactic(auto, unfolding(crate::specs::Entry::entry_of, crate::specs::Seen::seen_of))]
 pub(crate) fn entry_of(
     alloc: Global,
@@ -286,7 +196,7 @@ pub(crate) fn entry_of(
 ) -> Result<Made, AllocError>
     requires live { is_live dir.now.objects number ≡ true }
     requires name { name.now.rdns ≡ rdns_of dir.now number }
-    requires places { places.now ≡ places_given dir.now token.now number (search_seen search.now) }
+    requires places { HasPlaces dir.now token.now number (search_seen search.now) places.now }
     requires changing { changing.now ≡ changing_attrs (search_seen search.now)
         (changing_of dir.now token.now number) }
     ensures { IfOk result (λ made. made_seen made ≡ entry_of dir.now.schema id

@@ -5,8 +5,8 @@
 //! # Example
 //!
 //! ```text
-//! let mut judged = Vec::new(alloc);
-//! let made = ad_entries::entry_judged(alloc, &dir, &token, number, &name, id, &search, flags, &mut judged)?;
+//! let mut kinds = ad_entries::no_kinds(alloc, &dir, &token, &search)?;
+//! let made = ad_entries::entry_judged(alloc, &dir, &token, number, &name, id, &search, flags, &mut kinds)?;
 //! ```
 //!
 //! # Proved
@@ -16,21 +16,29 @@
 //!
 //! # The caller owes
 //!
-//! A live object with its own name, and one `judged` for the objects of one search.
+//! A live object with its own name, and one `kinds` for the objects of one search.
 //!
 //! # Cost
 //!
-//! Which attributes may be read is judged once for the objects of one descriptor and class.
+//! What the object has: an attribute that it doesn't show isn't looked at, and whether one may be read is judged once
+//! for the objects of one descriptor and class.
 #![tactic(auto)]
 
-mod bare;
+mod asking;
 mod changing;
 mod descriptor;
 mod entry;
 mod judged;
+mod kinds;
+mod places;
 mod reading;
+mod rising;
+mod verdicts;
 
+pub use asking::Asked;
 pub use descriptor::{Descriptor, descriptor_given};
 pub use entry::Made;
-pub use judged::{Judged, Own, entry_judged, judge, known_places};
+pub use judged::{Judged, Kinds, entry_judged, no_kinds, places_judged};
+pub use kinds::{Kind, Own};
 pub use reading::{Sight, is_readable, values_named};
+pub use rising::rise;

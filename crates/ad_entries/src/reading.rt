@@ -71,13 +71,7 @@ fn reads_on(dir: &Dir, token: &Token, number: u32, path: &Path, confidential: bo
 }
 
 /// Whether the token may read this attribute of an object.
-pub fn is_readable(
-    dir: &Dir,
-    token: &Token,
-    number: u32,
-    attr: AttrId,
-    info: &AttrInfo,
-) -> bool
+pub fn is_readable(dir: &Dir, token: &Token, number: u32, attr: AttrId, info: &AttrInfo) -> bool
     requires live { is_live dir.now.objects number ≡ true }
     requires attr { attr.0 < length (attrs_of dir.now.schema) }
     ensures { result ≡ is_readable dir.now token.now number attr.0 info.now }

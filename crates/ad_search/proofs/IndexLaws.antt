@@ -37,13 +37,13 @@ use Rattle.ad_search.specs.declared.indexed.Sought.{Sought}
 use Rattle.ad_entries.specs.Seen.{reads, seen_of}
 use Rattle.ad_search.specs.Search.{is_found}
 use Rattle.ad_search.specs.Steps.{entries_among}
-use Rattle.ad_search.specs.Subtree.{is_in}
-use Rattle.ad_entries.specs.Judged.{place_if}
+use Rattle.ad_entries.specs.Rising.{is_in}
+use Rattle.ad_entries.specs.Places.{place_if}
 use Rattle.ad_search.specs.Needles.{has_key, IsPlain, IsNeedle}
 use Rattle.ad_search.specs.Indexed.{names_one, IsSoughtFor, IsSought, AreSought, IsNever, IsBefore, IsNextShown}
 use Rattle.ad_search.specs.Indexed.{IsNextFor, IsLeftOfAll}
 use Rattle.ad_search.proofs.NeedleLaws.{shows_no_key, not_found, and_none}
-use Rattle.ad_entries.proofs.BareLaws.{or_false}
+use Rattle.ad_entries.proofs.ListLaws.{or_false}
 use Rattle.ad_search.proofs.SeenLaws.{numbers_live}
 use Rattle.ad_search.proofs.SubtreeLaws.{and_false, in_filter, in_numbers, RisesAbove, kept_rising, numbers_rise}
 use Rattle.ad_search.proofs.SubtreeLaws.{same_rising}

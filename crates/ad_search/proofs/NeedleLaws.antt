@@ -40,7 +40,7 @@ use Rattle.ad_search.specs.Search.{is_found}
 use Rattle.ad_search.specs.Steps.{entries_among}
 use Rattle.ad_dir.specs.Values.{may_have}
 use Rattle.ad_search.specs.Needles.{has_key, IsPlain, IsNeedle, IsAskedAs, AreNeedles, HaveSameEntries}
-use Rattle.ad_entries.specs.Judged.{place_if}
+use Rattle.ad_entries.specs.Places.{place_if}
 use Rattle.ad_entries.proofs.ReadLaws.{read_at, is_read, not_readable}
 use Rattle.ad_search.proofs.SeenLaws.{entries_apart, entries_later}
 

@@ -18,7 +18,12 @@ use Rattle.ad_dir_model.specs.Directory.{Directory}
 use Rattle.ad_tried.specs.Tried.{TriedValue, tried_values}
 use Rattle.ad_search.specs.declared.tried_reads.Count.{Count}
 use Rattle.ad_search.specs.Search.{stop_code}
-use Rattle.ad_entries.specs.Judged.{is_given, place_if, places_from, places_given}
+use Rattle.ad_value.specs.Value.{Value}
+use Rattle.ad_entries.specs.Seen.{is_readable}
+use Rattle.ad_entries.specs.Entry.{is_asked}
+use Rattle.ad_entries.specs.Places.{HasPlaces}
+use Rattle.ad_entries.proofs.RisingLaws.{along}
+use Rattle.ad_entries.proofs.PlaceLaws.{told_if, told_at_places, given_of}
 use Rattle.ad_search.specs.Reads.{read_on, has_attr, attr_reads, descriptor_reads, entry_reads, found_among, long}
 use Rattle.ad_search.specs.Reads.{unless_stops, given_from}
 use Rattle.ad_search.specs.ReadSteps.{read_of, read_at, reads_at_each, Counts, reads_behind, reads_on, ReadsOne}
@@ -26,28 +31,35 @@ use Rattle.ad_search.proofs.BaseLaws.{Has}
 
 -- ---- attributes by their places
 
-one_place : (dir : Directory) (number : ℕ) (so : Bool) (place : ℕ) (info : AttrInfo) (places : List ℕ)
+one_read : (dir : Directory) (token : Token) (number : ℕ) (search : SearchValue) (place : ℕ) (info : AttrInfo)
     → slice_get (attrs_of dir.schema) place ≡ Some info
-    → reads_at_each dir number (place_if so place ++ places)
-    ≡ (if so && not (length (shown dir number place) == 0) then read_on dir number place ∷ [] else [])
-    ++ reads_at_each dir number places
-unfolding read_at reads_at_each
-one_place dir number true place info places is
-    = ap (λ (found : Option AttrInfo). read_of dir number place found ++ reads_at_each dir number places) is
-one_place dir number false place info places is = refl
+    → told_if dir token number search (read_at dir number) place
+    ≡ (if has_attr dir token number search place info then read_on dir number place ∷ [] else [])
+unfolding read_at
+one_read dir token number search place info is =
+    ap (λ (b : Bool). if b then read_at dir number place else []) (given_of dir token number search place info is)
+    ∙ ap (λ (found : Option AttrInfo). if is_asked search.attrs info.name && is_readable dir token number place info
+    then read_of dir number place found else []) is
+    ∙ both (is_asked search.attrs info.name && is_readable dir token number place info)
+    (not (length (shown dir number place) == 0))
+  where
+    both : (a b : Bool) → (if a then (if b then read_on dir number place ∷ [] else []) else [])
+        ≡ (if a && b then read_on dir number place ∷ [] else [])
+    both true b = refl
+    both false b = refl
 
 each_read : (dir : Directory) (token : Token) (number : ℕ) (search : SearchValue) (place : ℕ) (infos : List AttrInfo)
     → ((i : ℕ) (info : AttrInfo) → slice_get infos i ≡ Some info → slice_get (attrs_of dir.schema) (place + i)
     ≡ Some info)
-    → reads_at_each dir number (places_from dir token number search place infos) ≡ attr_reads dir token number search
+    → along (told_if dir token number search (read_at dir number)) place infos ≡ attr_reads dir token number search
     place infos
-unfolding places_from reads_at_each attr_reads
+unfolding along attr_reads
 each_read dir token number search place [] at = refl
 each_read dir token number search place (info ∷ infos) at =
     let here : place + 0 ≡ place = omega arith in
-    one_place dir number (is_given dir token number search place info) place info
-    (places_from dir token number search (suc place) infos)
-    (subst (λ (n : ℕ). slice_get (attrs_of dir.schema) n ≡ Some info) here (at 0 info refl))
+    ap (λ (rs : List TriedValue). rs ++ along (told_if dir token number search (read_at dir number)) (suc place) infos)
+    (one_read dir token number search place info
+    (subst (λ (n : ℕ). slice_get (attrs_of dir.schema) n ≡ Some info) here (at 0 info refl)))
     ∙ ap (λ (rs : List TriedValue). (if has_attr dir token number search place info then read_on dir number place ∷ []
     else []) ++ rs)
     (each_read dir token number search (suc place) infos
@@ -57,12 +69,29 @@ each_read dir token number search place (info ∷ infos) at =
     further : (i : ℕ) → place + suc i ≡ suc place + i
     further i = omega arith
 
--- What the places tell that are asked for and may be read is what the attributes of an entry tell.
-read_at_places : (dir : Directory) (token : Token) (number : ℕ) (search : SearchValue) (places : List ℕ) → places
-    ≡ places_given dir token number search
+all_read : (dir : Directory) (number : ℕ) (places : List ℕ) → reads_at_each dir number places
+    ≡ flat_map (read_at dir number) places
+unfolding reads_at_each
+all_read dir number [] = refl
+all_read dir number (p ∷ ps) = ap (λ (rs : List TriedValue). read_at dir number p ++ rs) (all_read dir number ps)
+
+bare_read : (dir : Directory) (number place : ℕ) → shown dir number place ≡ [] → read_at dir number place ≡ []
+unfolding read_at
+bare_read dir number place none = by (slice_get (attrs_of dir.schema) place)
+  where
+    by : (found : Option AttrInfo) → read_of dir number place found ≡ []
+    by None = refl
+    by (Some info) = ap (λ (vs : List Value). if not (length vs == 0) then read_on dir number place ∷ [] else []) none
+
+-- What the places of an entry tell is what its attributes tell.
+read_at_places : (dir : Directory) (token : Token) (number : ℕ) (search : SearchValue) (places : List ℕ)
+    → HasPlaces dir token number search places
     → reads_at_each dir number places ≡ attr_reads dir token number search 0 (attrs_of dir.schema)
-read_at_places dir token number search places are =
-    ap (reads_at_each dir number) are ∙ each_read dir token number search 0 (attrs_of dir.schema)
+read_at_places dir token number search places has =
+    all_read dir number places
+    ∙ told_at_places dir token number search (read_at dir number) places (λ place none. bare_read dir number place none)
+    has
+    ∙ each_read dir token number search 0 (attrs_of dir.schema)
     (λ i info is. subst (λ (n : ℕ). slice_get (attrs_of dir.schema) n ≡ Some info) (from_none i) is)
   where
     from_none : (i : ℕ) → i ≡ 0 + i
@@ -121,7 +150,7 @@ reads_end dir number places i before tried le so_far =
 -- the attributes, and then the descriptor
 pub entry_ok : {A E : Type 0} → (r : Result A E) (dir : Directory) (token : Token) (search : SearchValue)
     (flags number : ℕ) (places : List ℕ) (before between after : List TriedValue)
-    → places ≡ places_given dir token number search → between ≡ before ++ reads_at_each dir number places
+    → HasPlaces dir token number search places → between ≡ before ++ reads_at_each dir number places
     → OnOk r (after ≡ between ++ descriptor_reads dir token number search flags)
     → OnOk r (after ≡ before ++ entry_reads dir token search flags number)
 unfolding entry_reads

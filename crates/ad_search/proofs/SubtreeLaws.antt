@@ -15,7 +15,8 @@ use Rattle.ad_dir_model.specs.Limits.{max_depth}
 use Rattle.ad_dir_model.specs.Directory.{Directory}
 use Rattle.ad_dir_model.specs.Changes.{goes_with}
 use Rattle.ad_dir_model.proofs.Finding.{at-of, of-live, live_above, all_found}
-use Rattle.ad_search.specs.Subtree.{is_in, is_other, below_each, levels_from, subtree}
+use Rattle.ad_entries.specs.Rising.{is_in}
+use Rattle.ad_search.specs.Subtree.{is_other, below_each, levels_from, subtree}
 
 -- ---- truth values
 

@@ -1,14 +1,10 @@
 -- The objects of a subtree, as code gathers them: level by level from the base down.
 use Rattle.std.specs.Prelude.{ℕ, zero, suc, Bool, not, ◌==◌, List, [], ◌∷◌, ◌++◌, filter}
-use Rattle.std.specs.List.{list_any}
 use Rattle.ad_dir_model.specs.Object.{Object}
 use Rattle.ad_dir_model.specs.Objects.{numbers, children}
 use Rattle.ad_dir_model.specs.Tree.{root}
 use Rattle.ad_dir_model.specs.Directory.{Directory}
 use Rattle.ad_dir_model.specs.Changes.{goes_with}
-
-abbrev pub is_in : ℕ → List ℕ → Bool
-is_in number numbers = list_any (λ other. number == other) numbers
 
 -- a number that isn't the root's, which stands below none
 abbrev pub is_other : ℕ → Bool

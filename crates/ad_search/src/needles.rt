@@ -19,7 +19,7 @@ ghost use Rattle.ad_dir_model.specs.Objects.{is_live};
 ghost use Rattle.ad_dir_model.specs.Attributes.{is_named};
 ghost use Rattle.ad_dir_model.specs.Shown.{shown};
 ghost use Rattle.ad_entries.specs.Seen.{reads, seen_of};
-ghost use Rattle.ad_entries.specs.Judged.{place_if};
+ghost use Rattle.ad_entries.specs.Places.{place_if};
 ghost use Rattle.ad_search.specs.Needles.{has_key, IsPlain, IsNeedle, IsAskedAs, AreNeedles, HaveSameEntries};
 
 use ad_bytes::Bytes;

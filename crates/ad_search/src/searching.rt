@@ -14,7 +14,7 @@ ghost use Rattle.ad_filter.specs.ThreeValues.{is_true};
 ghost use Rattle.ad_filter.specs.Filtering.{truth};
 ghost use Rattle.ad_entries.specs.Seen.{seen_of, reads, view};
 ghost use Rattle.ad_search.specs.Search.{is_found, entries_from, answer_at, search_answer};
-ghost use Rattle.ad_entries.specs.Judged.{AreJudged};
+ghost use Rattle.ad_entries.specs.Judged.{AreKinds};
 ghost use Rattle.ad_search.specs.Parents.{IsKept};
 ghost use Rattle.ad_search.specs.Subtree.{subtree};
 ghost use Rattle.ad_search.specs.Steps.{entries_among, Steps, objects_asked};
@@ -28,7 +28,7 @@ use crate::parents::{Parent, is_seen, no_parent};
 use crate::subtree::{ROOT, subtree};
 use ad_dir::Dir;
 use ad_dn::{Dn, DnFault};
-use ad_entries::{Judged, Sight, entry_judged};
+use ad_entries::{Kinds, Sight, entry_judged, no_kinds};
 use ad_filter::{Truth, truth};
 use ad_ids::Token;
 use ad_ldap::Search;
@@ -101,16 +101,15 @@ fn step(
     flags: u8,
     base: &Dn,
     last: &mut Parent,
-    judged: &mut Vec<Judged>,
+    kinds: &mut Kinds,
     joined: &mut Joined,
 ) -> Result<Option<u8>, AllocError>
     requires live { is_live dir.now.objects number ≡ true }
     requires mode { list_mode ≡ list_object_mode dir.now }
     requires kept { IsKept dir.now token.now last.old }
-    requires judged { AreJudged dir.now token.now (search_seen search.now) judged.old.items }
+    requires kinds { AreKinds dir.now token.now (search_seen search.now) kinds.old }
     ensures kept { IsKept dir.now token.now last.new }
-    ensures judged { OnOk result (AreJudged dir.now token.now (search_seen search.now)
-        judged.new.items) }
+    ensures kinds { OnOk result (AreKinds dir.now token.now (search_seen search.now) kinds.new) }
     ensures steps { IfOk result (λ code. Steps id search.now.size joined.old
         (entries_among dir.now token.now id (search_seen search.now) flags base.now (number ∷ []))
         joined.new code) }
@@ -118,7 +117,7 @@ fn step(
     let Some(name) = found_name(alloc, dir, token, list_mode, number, search, base, last)? else {
         return Ok(None);
     };
-    let made = entry_judged(alloc, dir, token, number, &name, id, search, flags, judged)?;
+    let made = entry_judged(alloc, dir, token, number, &name, id, search, flags, kinds)?;
     join(joined, search.size, &made)
 }
 
@@ -141,7 +140,7 @@ fn entries(
 {
     let list_mode = dir.list_mode();
     let mut last = no_parent(dir, token);
-    let mut judged = Vec::new(alloc);
+    let mut kinds = no_kinds(alloc, dir, token, search)?;
     let mut joined = Joined::new(alloc);
     'each: for number in numbers {
         let stop = step(
@@ -155,7 +154,7 @@ fn entries(
             flags,
             base,
             &mut last,
-            &mut judged,
+            &mut kinds,
             &mut joined,
         )?;
         if let Some(code) = stop {

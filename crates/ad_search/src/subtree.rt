@@ -1,11 +1,11 @@
 //! The objects of a subtree: one, and all that are below it.
 
-ghost use Rattle.std.specs.Prelude.{◌≡◌, ◌∷◌, ◌++◌, [], ℕ, true, filter, IfOk, OnOk};
-ghost use Rattle.std.specs.List.Sorted.{IsStrictlyIncreasing};
+ghost use Rattle.std.specs.Prelude.{◌≡◌, ◌∷◌, ◌++◌, [], true, filter, IfOk, OnOk};
 ghost use Rattle.ad_dir_model.specs.Objects.{is_live};
-ghost use Rattle.ad_search.specs.Subtree.{is_in, is_other, below_each, levels_from, subtree};
+ghost use Rattle.ad_search.specs.Subtree.{is_other, below_each, levels_from, subtree};
 
 use ad_dir::Dir;
+use ad_entries::rise;
 use std::alloc::{AllocError, Global};
 
 /// The number of the root.
@@ -60,15 +60,6 @@ fn by_levels(alloc: Global, dir: &Dir, base: u32) -> Result<Vec<u32>, AllocError
         level = below;
     }
     Ok(found)
-}
-
-// Puts numbers in rising order, each once.
-fn rise(numbers: &mut Vec<u32>)
-    ensures rises { IsStrictlyIncreasing numbers.new.items }
-    ensures same { (n : ℕ) → is_in n numbers.new.items ≡ is_in n numbers.old.items }
-{
-    numbers.sort_unstable();
-    numbers.dedup();
 }
 
 /// The numbers of an object and of all below it, rising. It takes n log n steps where there are n of them.

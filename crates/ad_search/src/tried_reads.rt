@@ -9,7 +9,8 @@ ghost use Rattle.ad_dir_model.specs.Objects.{is_live};
 ghost use Rattle.ad_dir_model.specs.Settings.{list_object_mode};
 ghost use Rattle.ad_dir_model.specs.Shown.{shown};
 ghost use Rattle.ad_tried.specs.Tried.{tried_value, tried_values};
-ghost use Rattle.ad_entries.specs.Judged.{places_given, AreJudged};
+ghost use Rattle.ad_entries.specs.Judged.{AreKinds};
+ghost use Rattle.ad_entries.specs.Places.{HasPlaces};
 ghost use Rattle.ad_search.specs.Parents.{IsKept};
 ghost use Rattle.ad_search.specs.Reads.{read_on, part_reads, descriptor_reads, entry_reads, found_among, reads_at};
 ghost use Rattle.ad_search.specs.Reads.{reads_of};
@@ -23,7 +24,7 @@ use ad_access_dir::class_of;
 use ad_acl::{ACCESS_SYSTEM_SECURITY, READ_CONTROL, READ_PROPERTY};
 use ad_dir::Dir;
 use ad_dn::{Dn, DnFault};
-use ad_entries::{Descriptor, Judged, descriptor_given, entry_judged, judge, known_places};
+use ad_entries::{Descriptor, Kinds, descriptor_given, entry_judged, no_kinds, places_judged};
 use ad_ids::Token;
 use ad_ldap::Search;
 use ad_schema::AttrId;
@@ -145,7 +146,7 @@ fn push_descriptor(
     }
 }
 
-// What an entry tried of an object of which the attributes at these places are asked for and may be read.
+// What an entry tried that has the attributes at these places.
 #[tactic(auto, unfolding(crate::specs::Reads::entry_reads))]
 fn push_entry(
     alloc: Global,
@@ -158,7 +159,7 @@ fn push_entry(
     into: &mut Vec<Tried>,
 ) -> Result<(), AllocError>
     requires live { is_live dir.now.objects number ≡ true }
-    requires places { places.now ≡ places_given dir.now token.now number (search_seen search.now) }
+    requires places { HasPlaces dir.now token.now number (search_seen search.now) places.now }
     ensures { OnOk result (tried_values into.new.items
         ≡ tried_values into.old.items ++ entry_reads dir.now token.now (search_seen search.now)
         flags number) }
@@ -198,7 +199,7 @@ fn counts(count: &mut Count, size: u32, long: usize) -> Result<bool, AllocError>
     Ok(true)
 }
 
-// What the entry of an object tried, by what was judged at an object of its kind, where there was one.
+// What the entry of an object tried, by what was judged of its kind.
 fn push_judged(
     alloc: Global,
     dir: &Dir,
@@ -206,31 +207,27 @@ fn push_judged(
     number: u32,
     search: &Search,
     flags: u8,
-    judged: &[Judged],
+    kinds: &mut Kinds,
     into: &mut Vec<Tried>,
 ) -> Result<(), AllocError>
     requires live { is_live dir.now.objects number ≡ true }
-    requires judged { AreJudged dir.now token.now (search_seen search.now) judged.now }
-    ensures { OnOk result (tried_values into.new.items
+    requires kinds { AreKinds dir.now token.now (search_seen search.now) kinds.old }
+    ensures kinds { OnOk result (AreKinds dir.now token.now (search_seen search.now) kinds.new) }
+    ensures tried { OnOk result (tried_values into.new.items
         ≡ tried_values into.old.items ++ entry_reads dir.now token.now (search_seen search.now)
         flags number) }
 {
-    match known_places(judged, dir, token, number, search) {
-        Some(places) => push_entry(alloc, dir, token, number, search, flags, places, into),
-        None => {
-            let places = judge(alloc, dir, token, number, search)?;
-            push_entry(
-                alloc,
-                dir,
-                token,
-                number,
-                search,
-                flags,
-                places.as_slice(),
-                into,
-            )
-        }
-    }
+    let places = places_judged(alloc, dir, token, number, search, kinds)?;
+    push_entry(
+        alloc,
+        dir,
+        token,
+        number,
+        search,
+        flags,
+        places.as_slice(),
+        into,
+    )
 }
 
 // What the entry of one more object tried, where it has one, and whether the search goes on behind it.
@@ -245,17 +242,16 @@ fn read_one(
     flags: u8,
     base: &Dn,
     last: &mut Parent,
-    judged: &mut Vec<Judged>,
+    kinds: &mut Kinds,
     count: &mut Count,
     into: &mut Vec<Tried>,
 ) -> Result<bool, AllocError>
     requires live { is_live dir.now.objects number ≡ true }
     requires mode { list_mode ≡ list_object_mode dir.now }
     requires kept { IsKept dir.now token.now last.old }
-    requires judged { AreJudged dir.now token.now (search_seen search.now) judged.old.items }
+    requires kinds { AreKinds dir.now token.now (search_seen search.now) kinds.old }
     ensures kept { IsKept dir.now token.now last.new }
-    ensures judged { OnOk result (AreJudged dir.now token.now (search_seen search.now)
-        judged.new.items) }
+    ensures kinds { OnOk result (AreKinds dir.now token.now (search_seen search.now) kinds.new) }
     ensures one { IfOk result (λ goes. ReadsOne dir.now token.now id (search_seen search.now) flags
         base.now number
         count.old into.old.items count.new into.new.items goes) }
@@ -263,20 +259,11 @@ fn read_one(
     let Some(name) = found_name(alloc, dir, token, list_mode, number, search, base, last)? else {
         return Ok(true);
     };
-    let made = entry_judged(alloc, dir, token, number, &name, id, search, flags, judged)?;
+    let made = entry_judged(alloc, dir, token, number, &name, id, search, flags, kinds)?;
     if !counts(count, search.size, made.message.as_slice().len())? {
         return Ok(false);
     }
-    push_judged(
-        alloc,
-        dir,
-        token,
-        number,
-        search,
-        flags,
-        judged.as_slice(),
-        into,
-    )?;
+    push_judged(alloc, dir, token, number, search, flags, kinds, into)?;
     Ok(true)
 }
 
@@ -299,7 +286,7 @@ fn reads_among(
 {
     let list_mode = dir.list_mode();
     let mut last = no_parent(dir, token);
-    let mut judged = Vec::new(alloc);
+    let mut kinds = no_kinds(alloc, dir, token, search)?;
     let mut count = Count {
         given: 0,
         joined: 0,
@@ -307,19 +294,8 @@ fn reads_among(
     let mut tried = Vec::new(alloc);
     'each: for number in numbers {
         let goes = read_one(
-            alloc,
-            dir,
-            token,
-            list_mode,
-            *number,
-            id,
-            search,
-            flags,
-            base,
-            &mut last,
-            &mut judged,
-            &mut count,
-            &mut tried,
+            alloc, dir, token, list_mode, *number, id, search, flags, base, &mut last, &mut kinds,
+            &mut count, &mut tried,
         )?;
         if !goes {
             return Ok(tried);

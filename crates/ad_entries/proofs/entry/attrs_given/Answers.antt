@@ -1,7 +1,7 @@
 use Rattle.std.proofs.Common.{◌≡◌, List, IfOk, subst}
 use Rattle.ad_ldap.specs.MessageValue.{search_seen}
 use Rattle.ad_entries.specs.Entry.{Given}
-use Rattle.ad_entries.proofs.EntryLaws.{given_at_places}
+use Rattle.ad_entries.proofs.PlaceLaws.{given_at_places}
 use Rattle.ad_entries.proofs.entry.attrs_given.Goals as goal
 
 pub returns : goal.returns

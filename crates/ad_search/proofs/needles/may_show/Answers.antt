@@ -12,7 +12,7 @@ use Rattle.ad_dir_model.specs.Objects.{sd_at}
 use Rattle.ad_dir_model.specs.Attributes.{is_named}
 use Rattle.std.specs.List.{list_any}
 use Rattle.ad_dir.specs.Values.{may_have}
-use Rattle.ad_entries.proofs.BareLaws.{or_false, apart}
+use Rattle.ad_entries.proofs.ListLaws.{or_false, apart}
 use Rattle.ad_search.proofs.NeedleLaws.{shows_no_key, any_map}
 use Rattle.ad_search.proofs.needles.may_show.Goals as goal
 

@@ -29,7 +29,7 @@ each-preserved c =
           (goes_to c.args.dir.now c.args.token.now c.args.id search c.args.flags c.args.base.now c.args.numbers.now
           c.each.number-index search.size c.each.joined c.step.new.joined c.in_ok-stop.stop whole
           c.each-test.true c.in_ok-stop.ensures.steps c.each.invariant.1),
-      c.in_ok-stop.ensures.judged,
+      c.in_ok-stop.ensures.kinds,
       c.step.ensures.kept,
     )
 

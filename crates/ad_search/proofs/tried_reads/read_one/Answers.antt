@@ -25,4 +25,4 @@ returns-clause-one c =
     c.args.into.now.items c.push_judged.new.into.items (length c.as_slice.result.now) c.in_ok-counts.field-0
     (rw c.in-Some.is at c.in_ok-name.ensures.found)
     (ap length c.as_slice.ensures.value ∙ ap (λ (e : Entry). length e.message) c.in_ok-made.ensures.made)
-    c.if-not-branch.false c.in_ok-counts.ensures c.in_ok-push_judged.ensures
+    c.if-not-branch.false c.in_ok-counts.ensures c.in_ok-push_judged.ensures.tried

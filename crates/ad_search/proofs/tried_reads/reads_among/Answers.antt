@@ -17,7 +17,7 @@ each-preserved c = record {
       c.args.base.now c.args.numbers.now c.each.number-index c.each.count c.read_one.new.count
       c.each.tried.items c.read_one.new.into.items c.in_ok-goes.goes c.each-test.true c.if-not-goes.false
       c.in_ok-goes.ensures.one c.each.invariant.so_far;
-  judged = c.in_ok-goes.ensures.judged;
+  kinds = c.in_ok-goes.ensures.kinds;
   kept = c.read_one.ensures.kept;
 }
 

@@ -1,8 +1,0 @@
-use Rattle.std.proofs.Common.{◌≡◌, ◌++◌, drop}
-use Rattle.ad_entries.specs.Judged.{shown_at_each}
-use Rattle.ad_entries.proofs.entry.many_shown.Given as goal
-
--- those so far and those that are left are all
-abbrev pub invariant-each : goal.invariant-each
-invariant-each l = l.attrs ++ shown_at_each l.dir l.number l.types_only (drop l.place-index l.places)
-    ≡ shown_at_each l.dir l.number l.types_only l.places
