@@ -1,0 +1,11 @@
+pub mod Texts
+pub mod Exact
+pub mod Likeness
+pub mod Live
+pub mod Groups
+pub mod Lacking
+pub mod Refusals
+pub mod Masks
+pub mod Labels
+pub mod Whole
+pub mod Steps

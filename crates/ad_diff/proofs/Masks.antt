@@ -1,0 +1,131 @@
+-- The labels of a mask are those of the rights that are granted.
+use Rattle.std.proofs.Common.{◌≡◌, ◌∙◌, ◌<◌, ℕ, suc, Bool, true, List, [], ◌∷◌, ◌++◌, refl, sym, ap, arith}
+use Rattle.std.proofs.Common.{◌+◌, length, take, get_or, lit<}
+use Rattle.std.specs.List.{flat_map}
+use Rattle.std.proofs.lemmas.List.{take_more, flat_map_more}
+use Rattle.std.proofs.lemmas.List.Elements.{All-from_recursion}
+use Rattle.std.specs.Prelude.{All, ◌&&◌, codes, slice_get, Option, None, Some, if◌then◌else◌}
+use Rattle.std.specs.Option.{option_map_or}
+use Rattle.ad_ids.specs.declared.guid.Guid.{Guid}
+use Rattle.ad_ids.specs.declared.token.Token.{Token}
+use Rattle.ad_acl.specs.Mask.{has_bit, mapped_has}
+use Rattle.ad_schema.specs.declared.info.AttrId.{AttrId}
+use Rattle.ad_schema.specs.declared.info.AttrInfo.{AttrInfo}
+use Rattle.ad_schema.specs.declared.info.ClassId.{ClassId}
+use Rattle.ad_schema.specs.Attributes.{attrs_of}
+use Rattle.ad_types.specs.TypesOf.{path_of}
+use Rattle.ad_dir_model.specs.Directory.{Directory}
+use Rattle.ad_access_dir.specs.Sight.{is_granted}
+use Rattle.ad_access_dir.specs.Masks.{IsMask}
+use Rattle.ad_dsacls.specs.Effective.{label_of}
+use Rattle.ad_diff.specs.declared.codes.Code.{Code}
+use Rattle.ad_diff.specs.Rights.{label_if, labels, object_codes, attribute_codes, extended_codes, validated_codes}
+use Rattle.ad_diff.specs.Rights.{child_codes, attribute_labels, grants_at}
+use Rattle.ad_diff.specs.Steps.{AreWanted, masked_attribute}
+
+pub labels_are : (want mask : ℕ) (grants : ℕ → Bool) (kind : List ℕ) (all : List Code) → IsMask want grants mask
+    → AreWanted want all → labels (has_bit mask) kind all ≡ labels grants kind all
+unfolding labels
+labels_are want mask grants kind [] is wanted = refl
+labels_are want mask grants kind (code ∷ others) is wanted =
+    let own : (code.bit < 32) × (mapped_has want code.bit ≡ true) = wanted 0 code (omega arith) in
+    let bit : has_bit mask code.bit ≡ grants code.bit = is.bits code.bit own.0
+    ∙ ap (λ (b : Bool). b && grants code.bit) own.1 in
+    ap (λ (b : Bool). (if b then (kind ++ code.letters) ∷ [] else []) ++ labels (has_bit mask) kind others) bit
+    ∙ ap (λ (rest : List (List ℕ)). label_if grants kind code ++ rest)
+    (labels_are want mask grants kind others is (λ i d lt. wanted (suc i) d (omega (arith, lt))))
+
+pub at_grants : (dir : Directory) (token : Token) (number want mask : ℕ) (path : List Guid)
+    → IsMask want (is_granted dir token number path) mask → IsMask want (grants_at dir token number path) mask
+unfolding is_granted
+at_grants dir token number want mask path is = record { bits = is.bits }
+
+-- ---- each code is asked for
+
+pub object_wanted : AreWanted 0xf01ff object_codes
+unfolding has_bit
+object_wanted = All-from_recursion (λ (code : Code). (code.bit < 32) × (mapped_has 0xf01ff code.bit ≡ true))
+    object_codes (
+      (lit< tt, refl),
+      (
+        (lit< tt, refl),
+        (
+          (lit< tt, refl),
+          (
+            (lit< tt, refl),
+            (
+              (lit< tt, refl),
+              (
+                (lit< tt, refl),
+                (
+                  (lit< tt, refl),
+                  (
+                    (lit< tt, refl),
+                    (
+                      (lit< tt, refl),
+                      (
+                        (lit< tt, refl),
+                        ((lit< tt, refl), ((lit< tt, refl), ((lit< tt, refl), tt))),
+                      ),
+                    ),
+                  ),
+                ),
+              ),
+            ),
+          ),
+        ),
+      ),
+    )
+
+pub attribute_wanted : AreWanted 0x130 attribute_codes
+unfolding has_bit
+attribute_wanted = All-from_recursion (λ (code : Code). (code.bit < 32) × (mapped_has 0x130 code.bit ≡ true))
+    attribute_codes ((lit< tt, refl), ((lit< tt, refl), ((lit< tt, refl), tt)))
+
+pub extended_wanted : AreWanted 0x100 extended_codes
+unfolding has_bit
+extended_wanted = All-from_recursion (λ (code : Code). (code.bit < 32) × (mapped_has 0x100 code.bit ≡ true))
+    extended_codes ((lit< tt, refl), tt)
+
+pub validated_wanted : AreWanted 0x8 validated_codes
+unfolding has_bit
+validated_wanted = All-from_recursion (λ (code : Code). (code.bit < 32) × (mapped_has 0x8 code.bit ≡ true))
+    validated_codes ((lit< tt, refl), tt)
+
+pub child_wanted : AreWanted 0x3 child_codes
+unfolding has_bit
+child_wanted = All-from_recursion (λ (code : Code). (code.bit < 32) × (mapped_has 0x3 code.bit ≡ true))
+    child_codes ((lit< tt, refl), ((lit< tt, refl), tt))
+
+pub low : (want : ℕ) (all : List Code) → AreWanted want all → All (λ (code : Code). code.bit < 32) all
+low want all wanted i d lt = (wanted i d lt).0
+
+-- ---- an attribute
+
+pub masked_is : (dir : Directory) (token : Token) (number : ℕ) (class : ClassId) (id : AttrId) (mask : ℕ)
+    → IsMask 0x130 (is_granted dir token number (path_of dir.schema class id)) mask
+    → masked_attribute dir.schema id mask ≡ attribute_labels dir.schema (grants_at dir token number) class id
+unfolding masked_attribute attribute_labels
+masked_is dir token number class id mask is = by_info (slice_get (attrs_of dir.schema) id.0)
+  where
+    by_info : (found : Option AttrInfo)
+        → option_map_or (λ (info : AttrInfo). labels (has_bit mask) (label_of (codes "attribute ") info.name)
+        attribute_codes) found []
+        ≡ option_map_or (λ (info : AttrInfo). labels (grants_at dir token number (path_of dir.schema class id))
+        (label_of (codes "attribute ") info.name) attribute_codes) found []
+    by_info None = refl
+    by_info (Some info) = labels_are 0x130 mask (grants_at dir token number (path_of dir.schema class id))
+        (label_of (codes "attribute ") info.name) attribute_codes
+        (at_grants dir token number 0x130 mask (path_of dir.schema class id) is) attribute_wanted
+
+-- ---- labels that grow
+
+pub flat_more : {A B : Type 0} (f : A → List B) (xs : List A) (i : ℕ) (d : A) (before mid after piece : List B)
+    → i < length xs → mid ≡ before ++ flat_map f (take i xs) → piece ≡ f (get_or xs i d) → after ≡ mid ++ piece
+    → after ≡ before ++ flat_map f (take (i + 1) xs)
+flat_more {A} {B} f xs i d before mid after piece lt is same put =
+    put
+    ∙ ap (λ (t : List B). t ++ piece) is
+    ∙ ap (λ (t : List B). (before ++ flat_map f (take i xs)) ++ t) same
+    ∙ flat_map_more f before (take i xs) (get_or xs i d)
+    ∙ ap (λ (t : List A). before ++ flat_map f t) (sym (take_more xs i d lt))

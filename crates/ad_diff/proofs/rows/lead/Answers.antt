@@ -1,0 +1,10 @@
+use Rattle.std.proofs.Common.{◌∙◌, length, ap}
+use Rattle.ad_dir.proofs.NameLaws.{if_ok}
+use Rattle.ad_diff.proofs.Groups.{row_last}
+use Rattle.ad_diff.proofs.rows.lead.Goals as goal
+
+pub returns : goal.returns
+returns c = if_ok c.number_of.result
+    (λ group is. row_last c.args.columns.now c.args.leaders.now.items c.push.new.self.items c.args.place group
+    c.in_ok-push.ensures.items (is ∙ ap length c.as_slice.ensures.value))
+    c.number_of.ensures

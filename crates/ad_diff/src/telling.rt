@@ -1,0 +1,136 @@
+//! The differences of two directories.
+
+ghost use Rattle.std.specs.Prelude.{◌≡◌, ◌++◌, false, true, All, map, codes, IfOk, IfErr, OnOk};
+ghost use Rattle.std.specs.List.{flat_map};
+ghost use Rattle.ad_diff.specs.Both.{objects_of_both, principals_of_both};
+ghost use Rattle.ad_diff.specs.Text.{principal_line, object_line, table_text, only_text, IsDiffText};
+ghost use Rattle.ad_diff.specs.Answers.{DiffTold};
+ghost use Rattle.ad_diff.specs.Steps.{AreNoParties, IsOfLive, IsLiveBoth, all_lines, row_of};
+
+use crate::both::{Both, Grouped, objects_of_both, principals_among};
+use crate::columns::Column;
+use crate::grouping::placed;
+use crate::listing::{put_object_lines, put_only, put_principal_lines};
+use crate::rows::grouped;
+use crate::table::put_table;
+use crate::tokens::{DiffFault, line_of, parties};
+use ad_dir::Dir;
+use std::alloc::{AllocError, Global};
+
+/// A text, and whether it is an answer; else it is the line that says why there is none.
+#[derive(Drop)]
+pub struct Told {
+    pub answered: bool,
+    pub text: Vec<u8>,
+}
+
+// The text of groups and columns.
+fn text_of(
+    alloc: Global,
+    before: &Dir,
+    after: &Dir,
+    principals: &[Grouped],
+    objects: &[Grouped],
+    columns: &[Column],
+    leaders: &[usize],
+) -> Result<Vec<u8>, AllocError>
+    requires principals { All (λ g. IsLiveBoth before.now after.now g.both) principals.now }
+    requires objects { All (λ g. IsLiveBoth before.now after.now g.both) objects.now }
+    ensures { IfOk result (λ text. text.items ≡ flat_map (principal_line after.now) principals.now
+        ++ (flat_map (object_line after.now) objects.now
+        ++ (table_text 1 (map (λ column. row_of leaders.now (all_lines column)) columns.now)
+        ++ (only_text (codes "only before ") before.now after.now
+        ++ only_text (codes "only after ") after.now before.now)))) }
+{
+    let mut text = Vec::new(alloc);
+    put_principal_lines(alloc, &mut text, after, principals)?;
+    put_object_lines(alloc, &mut text, after, objects)?;
+    put_table(&mut text, columns, leaders)?;
+    put_only(alloc, &mut text, b"only before ", before, after)?;
+    put_only(alloc, &mut text, b"only after ", after, before)?;
+    Ok(text)
+}
+
+// The text of the differences of these principals on these objects.
+fn differences(
+    alloc: Global,
+    before: &Dir,
+    after: &Dir,
+    objects: &[Both],
+    principals: &[Both],
+) -> Result<Vec<u8>, DiffFault>
+    requires objects { objects.now ≡ objects_of_both before.now after.now }
+    requires live { All (IsLiveBoth before.now after.now) objects.now }
+    requires principals { principals.now ≡ principals_of_both before.now after.now }
+    ensures text { IfOk result (λ text. IsDiffText before.now after.now text.items) }
+    ensures fault { IfErr result (AreNoParties before.now after.now principals.now) }
+    ensures live { IfErr result (IsOfLive before.now after.now) }
+{
+    let parties = parties(alloc, before, after, principals)?;
+    let placing = placed(alloc, before, after, parties.as_slice(), objects)?;
+    let rows = grouped(alloc, placing.columns.as_slice(), principals)?;
+    Ok(text_of(
+        alloc,
+        before,
+        after,
+        rows.groups.as_slice(),
+        placing.objects.as_slice(),
+        placing.columns.as_slice(),
+        rows.leaders.as_slice(),
+    )?)
+}
+
+// The text of the differences, or the fault.
+fn differing(alloc: Global, before: &Dir, after: &Dir) -> Result<Vec<u8>, DiffFault>
+    ensures text { IfOk result (λ text. IsDiffText before.now after.now text.items) }
+    ensures fault { IfErr result (AreNoParties before.now after.now
+        (principals_of_both before.now after.now)) }
+    ensures live { IfErr result (IsOfLive before.now after.now) }
+{
+    let objects = objects_of_both(alloc, before, after)?;
+    let principals = principals_among(alloc, before, after, objects.as_slice())?;
+    differences(
+        alloc,
+        before,
+        after,
+        objects.as_slice(),
+        principals.as_slice(),
+    )
+}
+
+// The line of a fault, but for want of memory.
+fn refusal(alloc: Global, before: &Dir, after: &Dir, fault: DiffFault) -> Result<Told, AllocError>
+    requires live { IsOfLive before.now after.now fault }
+    requires fault { AreNoParties before.now after.now
+        (principals_of_both before.now after.now) fault }
+    ensures { IfOk result (λ told. DiffTold before.now after.now told.answered told.text.items) }
+{
+    if fault == DiffFault::Memory {
+        return Err(AllocError);
+    }
+    let text = line_of(alloc, before, after, fault)?;
+    Ok(Told {
+        answered: false,
+        text,
+    })
+}
+
+/// What each principal of two directories gains and loses on each object of both, by the tokens and the descriptors of
+/// each: lines of principals and of objects in numbered groups, and for a group of each the lines of what is gained
+/// (`+`) and lost (`-`); and a line for each object that stands in one directory alone. Or the line that names the
+/// first principal of both with more than 1,024 groups, of which directory.
+///
+/// # Errors
+///
+/// Memory ran out, or there are more groups than numbers of 32 bits.
+pub fn diff(alloc: Global, before: &Dir, after: &Dir) -> Result<Told, AllocError>
+    ensures { IfOk result (λ told. DiffTold before.now after.now told.answered told.text.items) }
+{
+    match differing(alloc, before, after) {
+        Ok(text) => Ok(Told {
+            answered: true,
+            text,
+        }),
+        Err(fault) => refusal(alloc, before, after, fault),
+    }
+}
