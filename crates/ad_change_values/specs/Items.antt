@@ -11,6 +11,9 @@ use Rattle.ad_dir_model.specs.Changes.{with_values}
 use Rattle.ad_needs_rules.specs.Checks.{Check, or_code}
 use Rattle.ad_change_values.specs.Values.{is_password, is_single, is_lacking, reads, is_short, leads}
 use Rattle.ad_change_values.specs.Values.{is_no_empty_password, is_given_twice, all_stored, is_among}
+use Rattle.ad_ldap.specs.ResultCodes.{invalid_attribute_syntax, constraint_violation, attribute_or_value_exists}
+use Rattle.ad_ldap.specs.ResultCodes.{no_such_attribute, object_class_violation}
+use Rattle.ad_ldap.specs.Choices.{add_values, delete_values}
 
 -- ---- what an item makes of the stored values of its attribute
 
@@ -22,8 +25,8 @@ taken_from values (first ∷ others) = filter (λ value. not (is_among (first �
 -- 0 adds the values after those that are there, 1 takes these or all away, and 2 puts these in their place
 unfoldable pub values_after : ℕ → List Stored → List Stored → List Stored
 values_after op new values =
-    if op == 0 then values ++ new
-    else (if op == 1 then taken_from values new
+    if op == add_values then values ++ new
+    else (if op == delete_values then taken_from values new
     else new)
 
 -- the attributes without one
@@ -48,11 +51,11 @@ after_items dir values (item ∷ items) = after_items dir (after_item dir values
 
 -- no value that is added is there
 abbrev pub adds_new : ℕ → List Stored → List Stored → Bool
-adds_new op new values = not (op == 0) || not (list_any (is_among values) new)
+adds_new op new values = not (op == add_values) || not (list_any (is_among values) new)
 
 -- no value of an addition or of a replacement is given twice
 abbrev pub gives_once : List SchemaRecord → ActItem → Bool
-gives_once schema item = item.op == 1 || not (is_given_twice schema item.attr.0 item.values)
+gives_once schema item = item.op == delete_values || not (is_given_twice schema item.attr.0 item.values)
 
 -- all values that are deleted are there, each once; and where all are, there are some
 abbrev pub deletes_there : List SchemaRecord → ActItem → List Stored → List Stored → Bool
@@ -65,14 +68,17 @@ item_checks dir held item =
     let attr = item.attr.0 in
     let new = all_stored dir attr item.values in
     let values = stored_in held attr in
-    or_code (list_all (reads dir.schema attr) item.values) 21
-    ∷ or_code (list_all (is_short dir.schema attr) item.values) 19
-    ∷ or_code (list_all (leads dir attr) item.values) 19
-    ∷ or_code (adds_new item.op new values) 20
-    ∷ or_code (gives_once dir.schema item) 20
-    ∷ or_code (not (item.op == 1) || (is_password dir.schema attr || deletes_there dir.schema item new values)) 16
-    ∷ or_code (not (item.op == 1) || (not (is_password dir.schema attr) || deletes_there dir.schema item new values)) 19
-    ∷ or_code (item.op == 1 || list_all (is_no_empty_password dir.schema attr) item.values) 19
+    or_code (list_all (reads dir.schema attr) item.values) invalid_attribute_syntax
+    ∷ or_code (list_all (is_short dir.schema attr) item.values) constraint_violation
+    ∷ or_code (list_all (leads dir attr) item.values) constraint_violation
+    ∷ or_code (adds_new item.op new values) attribute_or_value_exists
+    ∷ or_code (gives_once dir.schema item) attribute_or_value_exists
+    ∷ or_code (not (item.op == delete_values)
+    || (is_password dir.schema attr || deletes_there dir.schema item new values)) no_such_attribute
+    ∷ or_code (not (item.op == delete_values)
+    || (not (is_password dir.schema attr) || deletes_there dir.schema item new values)) constraint_violation
+    ∷ or_code (item.op == delete_values
+    || list_all (is_no_empty_password dir.schema attr) item.values) constraint_violation
     ∷ []
 
 unfoldable pub all_item_checks : Directory → List Held → List ActItem → List Check
@@ -87,7 +93,7 @@ is_item_named items attr = list_any (λ (item : ActItem). item.attr.0 == attr) i
 
 abbrev pub final_checks : List SchemaRecord → ℕ → List Held → ℕ → List Check
 final_checks schema class held attr =
-    or_code (not (is_single schema attr && nat_lt 1 (length (stored_in held attr)))) 19
-    ∷ or_code (is_allowed schema class attr) 65
-    ∷ or_code (not (is_lacking schema class attr (not (length (stored_in held attr) == 0)))) 65
+    or_code (not (is_single schema attr && nat_lt 1 (length (stored_in held attr)))) constraint_violation
+    ∷ or_code (is_allowed schema class attr) object_class_violation
+    ∷ or_code (not (is_lacking schema class attr (not (length (stored_in held attr) == 0)))) object_class_violation
     ∷ []

@@ -15,6 +15,9 @@ use Rattle.ad_change_values.specs.Values.{is_password, all_attrs, value_in, read
 use Rattle.ad_change_values.specs.Values.{is_no_empty_password, all_stored}
 use Rattle.ad_change_values.specs.Items.{adds_new, gives_once, deletes_there, is_item_named, all_item_checks}
 use Rattle.ad_change_values.specs.Items.{final_checks, after_items}
+use Rattle.ad_ldap.specs.ResultCodes.{invalid_attribute_syntax, constraint_violation, attribute_or_value_exists}
+use Rattle.ad_ldap.specs.ResultCodes.{no_such_attribute}
+use Rattle.ad_ldap.specs.Choices.{delete_values}
 
 -- The first check that fails has this code, or memory ran out.
 abbrev pub StopsAt : List Check → Stop → Type 0
@@ -34,25 +37,28 @@ values_in schema attr sent = filter_map (λ bytes. result_ok (value_in schema at
 
 abbrev pub reading_checks : List SchemaRecord → ℕ → List (List ℕ) → List Check
 reading_checks schema attr sent =
-    or_code (list_all (reads schema attr) sent) 21
-    ∷ or_code (list_all (is_short schema attr) sent) 19
+    or_code (list_all (reads schema attr) sent) invalid_attribute_syntax
+    ∷ or_code (list_all (is_short schema attr) sent) constraint_violation
     ∷ []
 
 -- the checks of an item after those of its values alone
 abbrev pub kept_checks : List SchemaRecord → ActItem → List Stored → List Stored → List Check
 kept_checks schema item new values =
-    or_code (adds_new item.op new values) 20
-    ∷ or_code (gives_once schema item) 20
-    ∷ or_code (not (item.op == 1) || (is_password schema item.attr.0 || deletes_there schema item new values)) 16
-    ∷ or_code (not (item.op == 1) || (not (is_password schema item.attr.0) || deletes_there schema item new values)) 19
-    ∷ or_code (item.op == 1 || list_all (is_no_empty_password schema item.attr.0) item.values) 19
+    or_code (adds_new item.op new values) attribute_or_value_exists
+    ∷ or_code (gives_once schema item) attribute_or_value_exists
+    ∷ or_code (not (item.op == delete_values)
+    || (is_password schema item.attr.0 || deletes_there schema item new values)) no_such_attribute
+    ∷ or_code (not (item.op == delete_values)
+    || (not (is_password schema item.attr.0) || deletes_there schema item new values)) constraint_violation
+    ∷ or_code (item.op == delete_values
+    || list_all (is_no_empty_password schema item.attr.0) item.values) constraint_violation
     ∷ []
 
 -- the checks of an item, where its attribute has these values
 abbrev pub checks_on : Directory → List Stored → ActItem → List Check
 checks_on dir stored item =
     reading_checks dir.schema item.attr.0 item.values
-    ++ or_code (list_all (leads dir item.attr.0) item.values) 19
+    ++ or_code (list_all (leads dir item.attr.0) item.values) constraint_violation
     ∷ kept_checks dir.schema item (all_stored dir item.attr.0 item.values) stored
 
 -- those of the items of a Modify, and of the attributes that they name

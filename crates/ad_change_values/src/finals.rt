@@ -18,6 +18,7 @@ use crate::stop::Stop;
 use crate::values::{is_lacking, is_single};
 use ad_bytes::Few;
 use ad_dir::{ActItem, Stored};
+use ad_ldap::result_code;
 use ad_schema::{AttrId, ClassId, Schema, records_are_few};
 use std::alloc::{AllocError, Global};
 
@@ -49,13 +50,13 @@ fn judge_attr(schema: &Schema, class: ClassId, attr: AttrId, count: usize) -> Re
         → Judges (modify.final_checks schema.now class.0 held attr.0) (λ _. Unit {0}) result }
 {
     if are_too_many(schema, attr, count) {
-        return Err(Stop::Refused(19));
+        return Err(Stop::Refused(result_code::CONSTRAINT_VIOLATION));
     }
     if !schema.allowed(class, attr) {
-        return Err(Stop::Refused(65));
+        return Err(Stop::Refused(result_code::OBJECT_CLASS_VIOLATION));
     }
     if is_lacking(schema, class, attr, count != 0) {
-        return Err(Stop::Refused(65));
+        return Err(Stop::Refused(result_code::OBJECT_CLASS_VIOLATION));
     }
     Ok(())
 }

@@ -10,6 +10,8 @@ ghost use Rattle.ad_change_values.specs.Values.{is_among, is_given_twice, is_no_
 ghost use Rattle.ad_change_values.specs.ByAttr.{by_attr};
 ghost use Rattle.ad_change_values.specs.Items as modify;
 ghost use Rattle.ad_change_values.specs.Judging.{Judges, checks_on, kept_checks};
+ghost use Rattle.ad_ldap.specs.Choices.{delete_values};
+ghost use Rattle.ad_ldap.specs.ResultCodes.{constraint_violation, no_such_attribute};
 
 use crate::held::Held;
 use crate::pile::Pile;
@@ -19,6 +21,7 @@ use crate::stop::Stop;
 use crate::values::{has_no_empty_password, is_password, read_values, stored_values};
 use ad_bytes::Few;
 use ad_dir::{ActItem, Dir, Stored};
+use ad_ldap::{ADD_VALUES, DELETE_VALUES, result_code};
 use ad_schema::Schema;
 use std::alloc::{AllocError, Global};
 
@@ -57,7 +60,7 @@ fn adds_new(alloc: Global, op: u8, new: &[Stored], stored: &Pile) -> Result<bool
     ensures { IfOk result (λ fine. fine ≡ modify.adds_new op (map stored_seen new.now)
         (map stored_seen stored.now)) }
 {
-    if op != 0 {
+    if op != ADD_VALUES {
         return Ok(true);
     }
     let any = any_among(alloc, stored, new)?;
@@ -99,12 +102,12 @@ fn deletes_well(
     stored: &Pile,
 ) -> Result<bool, AllocError>
     ensures { IfOk result (λ there. there
-        ≡ (not (item.now.op == 1) || (if length item.now.values == 0
+        ≡ (not (item.now.op == delete_values) || (if length item.now.values == 0
         then not (length (map stored_seen stored.now) == 0)
         else list_all (is_among (map stored_seen stored.now)) (map stored_seen new.now)
         && not twice))) }
 {
-    if item.op != 1 {
+    if item.op != DELETE_VALUES {
         return Ok(true);
     }
     deletes_there(alloc, item, twice, new, stored)
@@ -112,24 +115,28 @@ fn deletes_well(
 
 // Whether no value of an addition or of a replacement is given twice.
 fn gives_once(op: u8, twice: bool) -> bool
-    ensures { result ≡ (op == 1 || not twice) }
+    ensures { result ≡ (op == delete_values || not twice) }
 {
-    op == 1 || !twice
+    op == DELETE_VALUES || !twice
 }
 
 // Whether no new password is empty.
 fn is_filled(schema: &Schema, item: &ActItem) -> bool
-    ensures { result ≡ (item.now.op == 1
+    ensures { result ≡ (item.now.op == delete_values
         || list_all (is_no_empty_password schema.now item.now.attr.0) item.now.values) }
 {
-    item.op == 1 || has_no_empty_password(schema, item.attr, item.values.as_slice())
+    item.op == DELETE_VALUES || has_no_empty_password(schema, item.attr, item.values.as_slice())
 }
 
 // What a deletion of values that aren't there is answered.
 fn absent(password: bool) -> u8
-    ensures { result ≡ (if password then 19 else 16) }
+    ensures { result ≡ (if password then constraint_violation else no_such_attribute) }
 {
-    if password { 19 } else { 16 }
+    if password {
+        result_code::CONSTRAINT_VIOLATION
+    } else {
+        result_code::NO_SUCH_ATTRIBUTE
+    }
 }
 
 // The checks of an item after those of its values alone. It is said whether one of them is given twice.
@@ -148,17 +155,17 @@ fn judge_kept(
 {
     let fresh = adds_new(alloc, item.op, new, stored)?;
     if !fresh {
-        return Err(Stop::Refused(20));
+        return Err(Stop::Refused(result_code::ATTRIBUTE_OR_VALUE_EXISTS));
     }
     if !gives_once(item.op, twice) {
-        return Err(Stop::Refused(20));
+        return Err(Stop::Refused(result_code::ATTRIBUTE_OR_VALUE_EXISTS));
     }
     let there = deletes_well(alloc, item, twice, new, stored)?;
     if !there {
         return Err(Stop::Refused(absent(is_password(schema, item.attr))));
     }
     if !is_filled(schema, item) {
-        return Err(Stop::Refused(19));
+        return Err(Stop::Refused(result_code::CONSTRAINT_VIOLATION));
     }
     Ok(())
 }
@@ -203,10 +210,10 @@ fn values_after(alloc: Global, op: u8, new: Few<Stored>, stored: Pile) -> Result
     ensures { IfOk result (λ after. map stored_seen after
         ≡ modify.values_after op (map stored_seen new) (map stored_seen stored)) }
 {
-    if op == 0 {
+    if op == ADD_VALUES {
         return stored.with(alloc, new);
     }
-    if op == 1 {
+    if op == DELETE_VALUES {
         return taken_from(alloc, stored, new.as_slice());
     }
     Ok(Pile::of(new))

@@ -21,6 +21,7 @@ use crate::stop::Stop;
 use ad_bytes::{Bytes, Few, List};
 use ad_dir::{Dir, Stored};
 use ad_dn::DnFault;
+use ad_ldap::result_code;
 use ad_schema::{AttrId, ClassId, Schema};
 use ad_value::{Value, ValueFault, digest, equal, normal};
 use std::alloc::{AllocError, Global};
@@ -98,7 +99,7 @@ fn read_more(
             Ok(true)
         }
         Err(ValueFault::TooLong) => Ok(false),
-        Err(ValueFault::Syntax) => Err(Stop::Refused(21)),
+        Err(ValueFault::Syntax) => Err(Stop::Refused(result_code::INVALID_ATTRIBUTE_SYNTAX)),
         Err(ValueFault::Memory) => Err(Stop::Memory),
     }
 }
@@ -127,7 +128,7 @@ pub fn read_values(
         short = both(short, one);
     }
     if !short {
-        return Err(Stop::Refused(19));
+        return Err(Stop::Refused(result_code::CONSTRAINT_VIOLATION));
     }
     Ok(read)
 }
@@ -190,7 +191,7 @@ fn links_to(alloc: Global, dir: &Dir, attr: AttrId, sent: &[Bytes]) -> Result<Fe
         let target = target_of(alloc, dir, text.as_slice())?;
         match target {
             Some(number) => stored.push(Stored::Link(number))?,
-            None => return Err(Stop::Refused(19)),
+            None => return Err(Stop::Refused(result_code::CONSTRAINT_VIOLATION)),
         }
     }
     Ok(stored)

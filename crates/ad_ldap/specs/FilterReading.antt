@@ -11,9 +11,9 @@ use Rattle.ad_ldap.specs.FilterValue.{FilterValue, filters_of, And, Or, Not, Equ
 use Rattle.ad_ldap.specs.FilterValue.{Like, Extensible}
 use Rattle.ad_ldap.specs.Reading.{form, begins, ok_or, body_at, ended, some, option_at, default_at, inside_at, each_of}
 use Rattle.ad_ldap.specs.Tags.{octet_string, middle_piece, initial_piece, final_piece, sequence, matching_rule}
-use Rattle.ad_ldap.specs.Tags.{match_type, match_value, match_in_names, and_filter, or_filter, not_filter, equality_match}
-use Rattle.ad_ldap.specs.Tags.{substrings, greater_or_equal, less_or_equal, presence, approximate_match}
-use Rattle.ad_ldap.specs.Tags.{extensible_match}
+use Rattle.ad_ldap.specs.Tags.{match_type, match_value, match_in_names, and_filter, or_filter, not_filter}
+use Rattle.ad_ldap.specs.Tags.{equality_match, substrings, greater_or_equal, less_or_equal, presence}
+use Rattle.ad_ldap.specs.Tags.{approximate_match, extensible_match}
 
 -- ---- the parts of an item
 

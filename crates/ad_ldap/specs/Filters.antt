@@ -6,9 +6,9 @@ use Rattle.ad_ldap.specs.FilterValue.{FilterValue, FilterList, And, Or, Not, Equ
 use Rattle.ad_ldap.specs.FilterValue.{Like, Extensible, none, more, depth}
 use Rattle.ad_ldap.specs.Elements.{IsEmpty, Tagged, SpellsOctets, SpellsOption, SpellsBoolean, SpellsDefault}
 use Rattle.ad_ldap.specs.Tags.{octet_string, sequence, initial_piece, middle_piece, final_piece, matching_rule}
-use Rattle.ad_ldap.specs.Tags.{match_type, match_value, match_in_names, and_filter, or_filter, not_filter, equality_match}
-use Rattle.ad_ldap.specs.Tags.{substrings, greater_or_equal, less_or_equal, presence, approximate_match}
-use Rattle.ad_ldap.specs.Tags.{extensible_match}
+use Rattle.ad_ldap.specs.Tags.{match_type, match_value, match_in_names, and_filter, or_filter, not_filter}
+use Rattle.ad_ldap.specs.Tags.{equality_match, substrings, greater_or_equal, less_or_equal, presence}
+use Rattle.ad_ldap.specs.Tags.{approximate_match, extensible_match}
 
 -- one part of a text, and then another
 pub record Joined (P Q : List ℕ → Type 0) (text : List ℕ) : Type 0 where
