@@ -1,5 +1,5 @@
 -- A comparison, from what the slots of two stores are opened as and from what was emitted.
-use Rattle.std.proofs.Common.{◌≡◌, ◌⊎◌, inl, inr, ℕ, ◌≤◌, Bool, true, false, List, ◌++◌, Option, Some, None, Err, refl}
+use Rattle.std.proofs.Common.{◌≡◌, ◌⊎◌, inl, inr, ℕ, Bool, true, false, List, ◌++◌, Option, Err, refl}
 use Rattle.std.proofs.Common.{sym, subst, arith}
 use Rattle.std.specs.Option.{IfSome}
 use Rattle.site_io.specs.Counts.{HasRisen}
@@ -12,9 +12,9 @@ use Rattle.ad_rows_write.specs.Rows.{IsStoreOf}
 use Rattle.ad_rows.proofs.Once.{one_store}
 use Rattle.ad_engine.specs.Opening.{is_outside}
 use Rattle.cmd_call.specs.Call.{IsTold}
-use Rattle.cmd_call.specs.Store.{HasFailed, KeepsSlots, Emits, EmitsPart, SaysUnless}
+use Rattle.cmd_call.specs.Store.{HasFailed, KeepsSlots, Emits, SaysUnless}
 use Rattle.cmd_call.specs.declared.outcome.Outcome.{Outcome}
-use Rattle.cmd_call.specs.declared.outcome.Outcome.TheVariants.{Done, NoStore, NoObject, SiteFailed, NoMemory}
+use Rattle.cmd_call.specs.declared.outcome.Outcome.TheVariants.{NoStore, SiteFailed, NoMemory}
 use Rattle.cmd_call.proofs.Moments.{told_meets, told_clash, stays_same, looks_keep, goes_not, IsLawful}
 use Rattle.cmd_call.proofs.Telling.{Tells, whole, part, nothing, telling_by, unhealthy}
 use Rattle.cmd_store.specs.EngineWords.{Refuses, IsOpenedAs, OpenFault}
@@ -23,9 +23,9 @@ use Rattle.cmd_store.specs.Opened.{IsDirStore, NoDirStore}
 use Rattle.cmd_store.proofs.Refusing.{inside, never_refused}
 use Rattle.cmd_store.specs.Lines.{store_line}
 use Rattle.cmd_diff.specs.Lines.{first_word, second_word, first_line, second_line}
-use Rattle.cmd_diff.specs.Compares.{Question, IsFirst, IsSecond, IsNoFirst, IsNoSecond, IsTextFor, IsPartlyCompared}
+use Rattle.cmd_diff.specs.Compares.{Question, IsFirst, IsSecond, IsNoFirst, IsNoSecond, IsPartlyCompared}
 use Rattle.cmd_diff.specs.Compares.{AreHealthy, ComparesDoes}
-use Rattle.cmd_diff.specs.Steps.{outcome_of, TellsOf, RefusedAs, TellsBoth, RefusesSecond, ComparesBeside}
+use Rattle.cmd_diff.specs.Steps.{outcome_of, TellsOf, RefusedAs, ComparesBeside}
 
 -- ---- stores
 

@@ -1,5 +1,5 @@
 -- Only for private contracts and proofs: the steps of the command.
-use Rattle.std.specs.Prelude.{◌≡◌, ◌⊎◌, ℕ, Bool, true, false, List, ◌++◌, Ok, Err, IfSome}
+use Rattle.std.specs.Prelude.{◌≡◌, ◌⊎◌, ℕ, Bool, true, false, List, ◌++◌, IfSome}
 use Rattle.site_io.specs.Counts.{HasRisen}
 use Rattle.site_io.specs.Outside.{OnlyLooks}
 use Rattle.site_io.specs.declared.site.Site.{Ghosts as SiteGhosts}

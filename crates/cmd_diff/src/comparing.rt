@@ -7,7 +7,6 @@ ghost use Rattle.cmd_call.specs.Store.{HasFailed, SaysUnless};
 ghost use Rattle.cmd_call.specs.declared.outcome.Outcome.TheVariants.{SiteFailed, NoStore};
 ghost use Rattle.cmd_store.specs.Lines.{store_line};
 ghost use Rattle.cmd_diff.specs.Compares.{DiffDoes};
-ghost use Rattle.cmd_diff.specs.Lines.{second_word};
 ghost use Rattle.cmd_diff.specs.Steps.{outcome_of, TellsOf, RefusedAs, ComparesBeside};
 
 use crate::lines::line_of;
