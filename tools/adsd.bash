@@ -9,13 +9,15 @@ _adsd_stores() {
 
 _adsd() {
     local word=${COMP_WORDS[COMP_CWORD]} command=${COMP_WORDS[1]-}
-    local commands="access sddl change load serve settle check audit grants list effective token who can sample"
+    local commands="access sddl change load serve settle check audit grants list effective token who can diff sample"
     COMPREPLY=()
     if [ "$COMP_CWORD" -eq 1 ]; then
         mapfile -t COMPREPLY < <(compgen -W "$commands help --help --version" -- "$word")
     elif [ "$command" = help ]; then
         [ "$COMP_CWORD" -eq 2 ] && mapfile -t COMPREPLY < <(compgen -W "$commands" -- "$word")
-    elif [ "$COMP_CWORD" -eq 2 ] && [[ " load serve settle check audit grants list effective token who can sample " == *" $command "* ]]; then
+    elif [ "$COMP_CWORD" -eq 2 ] && [[ " load serve settle check audit grants list effective token who can diff sample " == *" $command "* ]]; then
+        _adsd_stores "$word"
+    elif [ "$COMP_CWORD" -eq 3 ] && [ "$command" = diff ]; then
         _adsd_stores "$word"
     fi
 }
@@ -28,7 +30,7 @@ _adsd_companion() {
         adsd-ask) words="access frames replies" ;;
         adsd-ldap) words="serve name" ;;
         adsd-replica) words="begin copy serve status forget compare" ;;
-        adsd-who) words="token who can" ;;
+        adsd-who) words="token who can diff" ;;
     esac
     if [ "$COMP_CWORD" -eq 1 ] && [ -n "$words" ] && [[ $word != -* ]]; then
         mapfile -t COMPREPLY < <(compgen -W "$words" -- "$word")

@@ -1,4 +1,4 @@
-"""What the contract of `run` rests on: docs/trust.md."""
+"""What the contract of `run_beside` rests on: docs/trust.md."""
 
 import os
 import re
@@ -51,13 +51,13 @@ def line_of(house, file, names):
 
 def faults(writes):
     house = House()
-    code = house.code["adsd/src/run.rt"]
-    head = dict(code.functions())["run"]
+    code = house.code["adsd/src/beside.rt"]
+    head = dict(code.functions())["run_beside"]
     reached, foreign = house.closure(head, code.imports, [("site_io", "Source"), ("site_io", "Site")])
     found, lines = [], []
     count = sum(len(names) for names in reached.values())
     lines += wrapped(
-        f"The contract of `run` rests on {count} definitions and types in {len(reached)} files of this repository. "
+        f"The contract of `run_beside` rests on {count} definitions and types in {len(reached)} files of this repository. "
         "Top down, with what each file says, and in brackets what of it is reached:"
     )
     for crate in reversed(list(house.crates)):
@@ -73,4 +73,4 @@ def faults(writes):
     for module in sorted(foreign):
         names = ", ".join(f"`{name}`" for name in sorted(foreign[module]))
         lines += wrapped(f"- `{module}`: {names}")
-    return found + generated.faults(os.path.join(TOP, "docs/trust.md"), "what run rests on", lines, writes)
+    return found + generated.faults(os.path.join(TOP, "docs/trust.md"), "what run_beside rests on", lines, writes)

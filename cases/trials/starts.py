@@ -104,6 +104,11 @@ class Starts:
         slots = self.base()
         return Start(slots, ("audit", "S"), b"".join(program.frames_of([TOKEN, ASKS, CHANGE_ROOT, *FEW])), [slots], once=True)
 
+    def diff(self):
+        """Of a store and itself, so that each call comes for either."""
+        slots = self.base()
+        return Start(slots, ("diff", "S", "S"), b"", [slots], once=True)
+
     def settle(self):
         return self.settled(0 if self.short else 1200)
 

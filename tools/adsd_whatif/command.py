@@ -12,7 +12,7 @@ from adsd_names.accounts import Accounts
 from adsd_report import program, store
 from adsd_report.front import BadFrames
 
-from . import answers, questions, told
+from . import answers, differing, questions, told
 from .moments import Unanswered, frames, moments
 
 ABOUT = """Serves frames on a copy of a store and tells who gains and who loses a right by them: before the frames, right
@@ -21,6 +21,7 @@ after them, and once every list is passed down (`adsd settle`). The store stays 
     adsd-whatif corp frames WP:member 'CN=Domain Admins,CN=Users,DC=corp,DC=example'
     adsd-whatif corp grants.txt --grants --as Administrator
     adsd-whatif corp changes.ldif --changes --as Administrator --json
+    adsd-whatif corp frames --diff
 
 FRAMES is a file of frames, or of lines as `adsd-ask frames` takes them; with --grants of lines of `adsd grants`, with
 --changes of change records; - is standard input. RIGHT and NAME are as of `adsd who`. Without them the dangerous rights
@@ -28,7 +29,10 @@ are asked on the objects that the frames touch, on those that a list is passed d
 for those of one class and one descriptor. A line of a change has a sign, what decides at the three moments (no: it
 isn't granted), the identifier and the name: + gained, - lost, +- and -+ only until all is passed down.
 
-Every line comes from `adsd who` on the three copies. The program is the launcher's, or the one that the environment's
+With --diff all that anyone gains or loses on any object is told instead, as the lines of `adsd diff` (docs/profile/diff.md):
+from before the frames to right after them, and to when all is passed down.
+
+Every line comes from `adsd who` or `adsd diff` on the three copies. The program is the launcher's, or the one that the environment's
 ADSD names. This script is not proved."""
 STATUSES = """status: 0 written; 1 the store, the frames or a question can't be taken; 2 usage; 4 a file can't be read;
 5 the output can't be written. Where it isn't 0, nothing is written."""
@@ -68,6 +72,7 @@ def parsed(arguments):
     form.add_argument("--kinds", metavar="N", type=positive, default=40,
                       help="without questions: so many kinds of objects are asked about at most (%(default)s)")
     form.add_argument("--every", action="store_true", help="tell the questions in which nothing changes too")
+    form.add_argument("--diff", action="store_true", help="tell everyone's gains and losses on all objects, as `adsd diff`")
     form.add_argument("--json", action="store_true", help="write one document of JSON")
     form.add_argument("--jobs", metavar="N", type=positive, default=min(4, os.cpu_count() or 1),
                       help="how many questions are asked at once (%(default)s)")
@@ -76,6 +81,8 @@ def parsed(arguments):
     asked = form.parse_intermixed_args(arguments)
     if len(asked.asked) % 2:
         form.error("a RIGHT wants a NAME behind it")
+    if asked.diff and (asked.asked or asked.all or asked.each or asked.every):
+        form.error("--diff tells of all rights and objects: it takes no RIGHT NAME, --all, --each or --every")
     if (asked.grants or asked.changes) and asked.as_name is None:
         form.error("--grants and --changes want --as NAME, whose token the changes are made with")
     return asked
@@ -98,6 +105,9 @@ def built(asked, place):
     # What is no directory is refused by the program before any of it is read here.
     program.counts(path, copy)
     made = moments(path, copy, frames(asked, path, copy, data, Accounts(copy)))
+    if asked.diff:
+        said = differing.texts(path, made)
+        return differing.document(made, said) + "\n" if asked.json else "\n".join(differing.lines(made, said)) + "\n"
     if asked.asked:
         found, left_out, notes = questions.of_words(asked.asked), 0, []
     else:
@@ -123,7 +133,7 @@ def main(arguments):
     except (store.Broken, program.Failed, ber.Broken) as why:
         say(f"{asked.store}: {why}")
         return 1
-    except (words.Wrong, filters.NoFilter, BadFrames, Unanswered, replies.Broken) as why:
+    except (words.Wrong, filters.NoFilter, BadFrames, Unanswered, replies.Broken, differing.Refused) as why:
         say(f"{asked.frames}: {why}" if str(why).startswith(("line ", "frame ", "adsd ")) else why)
         return 1
     except OSError as fault:

@@ -61,6 +61,12 @@ def lines(moments, questions, left_out, notes, every):
         yield f"keep {keep}"
 
 
+def counts_of(moments):
+    """What JSON says of the frames and of what was pending after them."""
+    return {"frames": {"count": moments.count, "refused": [{"frame": number, "result": line} for number, line in moments.answered]},
+            "after": {"pending": moments.pending, "stale": moments.stale, "stepsToSettle": moments.steps}}
+
+
 def document(moments, questions, left_out, notes, every):
     """The same as JSON: `null` where a right isn't granted, else what decides."""
     told, quiet = [], 0
@@ -73,8 +79,5 @@ def document(moments, questions, left_out, notes, every):
                      "noAnswer": {word: question.answers[word].why_not for word in MOMENTS
                                   if question.answers[word].why_not},
                      "changes": [vars(one) for one in found], **({"was": question.was} if question.was else {})})
-    made = {"frames": {"count": moments.count, "refused": [{"frame": number, "result": line}
-                                                           for number, line in moments.answered]},
-            "after": {"pending": moments.pending, "stale": moments.stale, "stepsToSettle": moments.steps},
-            "questions": told, "withoutChange": quiet, "kindsNotAsked": left_out, "notes": list(notes)}
+    made = {**counts_of(moments), "questions": told, "withoutChange": quiet, "kindsNotAsked": left_out, "notes": list(notes)}
     return json.dumps(made, indent=1, ensure_ascii=False)

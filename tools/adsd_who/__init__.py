@@ -1,1 +1,1 @@
-"""The answers of `token`, `who` and `can` with names and the entries that decide, as JSON, CSV or a table. Not proved."""
+"""The answers of `token`, `who`, `can` and `diff` with names and the entries that decide, as JSON, CSV or a table. Not proved."""

@@ -11,17 +11,18 @@ from adsd_names.accounts import Accounts
 from adsd_report import store
 from adsd_report.names import WELL_KNOWN
 
-from . import written
+from . import differences, written
 from .entries import Changed, Entries
 
-ABOUT = """Asks `adsd token`, `adsd who` or `adsd can`, and writes what it answers with the names of accounts and with the entry
-that decides, as the text of it:
+ABOUT = """Asks `adsd token`, `adsd who`, `adsd can` or `adsd diff`, and writes what it answers with the names of accounts and with
+the entry that decides, as the text of it:
 
     adsd-who who corp CR:User-Force-Change-Password ann
     adsd-who can corp bob WP:member --csv >bob.csv
     adsd-who token corp bob S-1-5-2 --json
+    adsd-who diff before after --csv
 
-The words are those of the program (docs/profile/who.md), and so is each right that is told; names and entries are those of
+The words are those of the program (docs/profile/who.md, docs/profile/diff.md), and so is each right that is told; names and entries are those of
 the store behind it. This script is not proved."""
 STATUSES = """status: as the program's: 0 answered, 3 no answer, with why; and 1 the store can't be read, 2 usage, 5 the output can't be
 written. Where it isn't 0, nothing is written."""
@@ -47,10 +48,11 @@ def parsed(arguments):
     forms = shape.add_mutually_exclusive_group()
     forms.add_argument("--json", dest="form", action="store_const", const="json", help="write JSON")
     forms.add_argument("--csv", dest="form", action="store_const", const="csv", help="write CSV, with a line of headings")
-    words = form.add_subparsers(dest="word", required=True, metavar="token|who|can")
+    words = form.add_subparsers(dest="word", required=True, metavar="token|who|can|diff")
     for word, told, names in (("token", "the token of a principal", ["NAME", "SID.."]),
                               ("who", "who has a right on an object", ["RIGHT", "NAME"]),
-                              ("can", "on which objects a principal has a right", ["NAME", "RIGHT", "BASE"])):
+                              ("can", "on which objects a principal has a right", ["NAME", "RIGHT", "BASE"]),
+                              ("diff", "who gains and who loses a right from a store to another", ["STORE2"])):
         one = words.add_parser(word, parents=[shape], help=told, description=f"Tells {told}, as a table if nothing else is asked for.")
         for name in ("STORE", *names):
             one.add_argument(name.strip(".").lower(), metavar=name, nargs={"SID..": "*", "BASE": "?"}.get(name))
@@ -140,7 +142,20 @@ class Asked:
                 "objects": [{"name": dn, "decides": self.entries.decides(word, self.number(dn))} for word, dn in lines]}
 
 
+    def diff(self, before):
+        """From another store to this one. The account is that of this one, as the identifier and the name are."""
+        text = program("diff", before, self.path).decode("utf-8", "backslashreplace")
+        try:
+            made = differences.read(text)
+        except (differences.Unread, ValueError):
+            raise Changed from None
+        principals = [{**one, "account": self.called(one["sid"])} for one in made["principals"]]
+        return {"command": "diff", "before": before, "after": self.path, **made, "principals": principals}
+
+
 def answered(asked):
+    if asked.word == "diff":
+        return Asked(asked.store2).diff(asked.store)
     of = Asked(asked.store)
     if asked.word == "token":
         return of.token(asked.name, asked.sid)

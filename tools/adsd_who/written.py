@@ -6,9 +6,12 @@ import json
 
 from adsd_import.report import seen
 
+from . import differences
+
 HEADS = {"token": ("part", "sid", "account"),
          "who": ("decides", "place", "entry", "sid", "account", "name"),
-         "can": ("decides", "place", "entry", "name")}
+         "can": ("decides", "place", "entry", "name"),
+        "diff": ("change", "of", "of name", "code", "sid", "account", "name", "object")}
 
 
 def decides(told):
@@ -24,7 +27,17 @@ def rows(made):
         return found + [["privilege", "", name] for name in made["privileges"]]
     if made["command"] == "who":
         return [decides(one["decides"]) + [one["sid"], one["account"], one["name"]] for one in made["principals"]]
+    if made["command"] == "diff":
+        return diff_rows(made)
     return [decides(one["decides"]) + [one["name"]] for one in made["objects"]]
+
+
+def diff_rows(made):
+    """One of each right of each principal on each object, and one of each object that isn't in both stores."""
+    found = [[sign, right["of"], right["name"] or "", right["code"], who["sid"], who["account"] or "", who["name"], one["name"]]
+             for sign, right, who, one in differences.expanded(made)]
+    return found + [[word, "", "", "", "", "", "", name] for word, key in (("only before", "onlyBefore"), ("only after", "onlyAfter"))
+                    for name in made[key]]
 
 
 def as_json(made):

@@ -134,3 +134,36 @@ not_two NoMemory only is = omega (arith, is)
 pub clash : (b : Bool) → b ≡ true → b ≡ false → ⊥
 clash true is other = cc
 clash false is other = cc
+
+-- a command that reads no input doesn't end for the source, and 5 is the site's
+pub not_four : (outcome : Outcome) → IsOfList outcome → status_of outcome ≡ 4 → ⊥
+not_four Done only is = omega (arith, is)
+not_four NotOfForm only is = only
+not_four NoCommand only is = only
+not_four NoStore only is = omega (arith, is)
+not_four NoObject only is = omega (arith, is)
+not_four TooMany only is = only
+not_four SourceFailed only is = only
+not_four SiteFailed only is = omega (arith, is)
+not_four NoMemory only is = omega (arith, is)
+
+pub is_five : (outcome : Outcome) → IsOfList outcome → status_of outcome ≡ 5 → outcome ≡ SiteFailed
+is_five Done only is = absurd (omega (arith, is))
+is_five NotOfForm only is = absurd only
+is_five NoCommand only is = absurd only
+is_five NoStore only is = absurd (omega (arith, is))
+is_five NoObject only is = absurd (omega (arith, is))
+is_five TooMany only is = absurd only
+is_five SourceFailed only is = absurd only
+is_five SiteFailed only is = refl
+is_five NoMemory only is = absurd (omega (arith, is))
+
+-- ---- beside another form
+
+pub with_other : (other is : Bool) → other ≡ true → other || is ≡ true
+with_other true is other = refl
+with_other false is other = cc
+
+pub without_other : (other is : Bool) → other ≡ false → other || is ≡ is
+without_other false is other = refl
+without_other true is other = cc

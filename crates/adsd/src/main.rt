@@ -3,24 +3,25 @@
 //! # Example
 //!
 //! ```text
-//! let status = run::run(alloc, &words, &mut source, &mut site);
+//! let status = beside::run_beside(alloc, &words, &mut source, &mut site, &mut other);
 //! ```
 //!
 //! # Proved
 //!
-//! The status is that of the outcome of the command that the words name, which did with source and site what its
+//! The status is that of the outcome of the command that the words name, which did with source and sites what its
 //! record says; 2 comes exactly where the words are no form, and then nothing is touched. `main` around it is
 //! tested.
 //!
 //! # The caller owes
 //!
-//! Nothing: any words, any source, any site.
+//! Nothing: any words, any source, any two sites.
 //!
 //! # Cost
 //!
 //! What its command takes.
 #![tactic(auto)]
 
+mod beside;
 mod reason;
 mod run;
 mod streams;
@@ -86,7 +87,8 @@ fn run_over(rt: &HostRuntime, streams: &Streams, words: &[String], store: &str) 
         return NO_MEMORY;
     };
     let mut source = StdSource::new(rt.stdin());
-    let status = run::run(rt.alloc(), words, &mut source, &mut site);
+    let mut none = OutSite::new(rt.stdout());
+    let status = beside::run_beside(rt.alloc(), words, &mut source, &mut site, &mut none);
     let makes_store = run::makes_store(words);
     if makes_store && is_cut_short(status, site.fault()) {
         let _ = site.remove_made();
@@ -101,11 +103,45 @@ fn run_over(rt: &HostRuntime, streams: &Streams, words: &[String], store: &str) 
     status
 }
 
+// Runs over the files of the two stores that the words name, which are only looked at.
+fn run_over_both(
+    rt: &HostRuntime,
+    streams: &Streams,
+    words: &[String],
+    first: &str,
+    second: &str,
+) -> u8 {
+    let Ok(mut site) = site_of(rt, first, true) else {
+        reason::tell_no_memory(rt);
+        return NO_MEMORY;
+    };
+    let Ok(mut other) = site_of(rt, second, true) else {
+        reason::tell_no_memory(rt);
+        return NO_MEMORY;
+    };
+    let mut source = StdSource::new(rt.stdin());
+    let status = beside::run_beside(rt.alloc(), words, &mut source, &mut site, &mut other);
+    match status {
+        REFUSED => {
+            reason::tell_refusal(rt, first, false, &site);
+            reason::tell_refusal(rt, second, false, &other);
+        }
+        SITE_FAILED => {
+            reason::tell_site(rt, streams, first, site.fault());
+            reason::tell_site(rt, streams, second, other.fault());
+        }
+        NO_MEMORY => reason::tell_no_memory(rt),
+        _ => {}
+    }
+    status
+}
+
 // Runs without a store.
 fn run_plain(rt: &HostRuntime, streams: &Streams, words: &[String]) -> u8 {
     let mut source = StdSource::new(rt.stdin());
     let mut site = OutSite::new(rt.stdout());
-    let status = run::run(rt.alloc(), words, &mut source, &mut site);
+    let mut none = OutSite::new(rt.stdout());
+    let status = beside::run_beside(rt.alloc(), words, &mut source, &mut site, &mut none);
     match status {
         NO_FORM => reason::tell_words(rt, words),
         NO_INPUT => reason::tell_input(rt, streams, source.cause()),
@@ -130,8 +166,11 @@ fn main(rt: HostRuntime) -> ExitCode {
             });
         }
     };
-    ExitCode::from(match run::store_named(&words) {
-        Some(store) => run_over(&rt, &streams, &words, store),
-        None => run_plain(&rt, &streams, &words),
+    let first = beside::first_compared(&words);
+    let second = beside::second_compared(&words);
+    ExitCode::from(match (first, second, run::store_named(&words)) {
+        (Some(first), Some(second), _) => run_over_both(&rt, &streams, &words, first, second),
+        (_, _, Some(store)) => run_over(&rt, &streams, &words, store),
+        _ => run_plain(&rt, &streams, &words),
     })
 }

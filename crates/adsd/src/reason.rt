@@ -10,7 +10,7 @@ use std::{fmt, io};
 use strsim::osa_distance;
 
 /// The forms of the words after the names of their commands.
-static FORMS: [(&str, &str); 15] = [
+static FORMS: [(&str, &str); 16] = [
     ("access", ""),
     ("sddl", ""),
     ("change", ""),
@@ -25,6 +25,7 @@ static FORMS: [(&str, &str); 15] = [
     ("token", " STORE NAME SID.., and there may be no SID"),
     ("who", " STORE RIGHT NAME"),
     ("can", " STORE NAME RIGHT BASE, and BASE may be left out"),
+    ("diff", " STORE STORE2"),
     ("sample", " STORE N, and N is from 1 to 1000"),
 ];
 
@@ -85,7 +86,7 @@ fn is_near(alloc: Global, word: &str, name: &str) -> bool {
 
 // The number of the form whose command's name is nearest to a word, where one is near.
 fn nearest(alloc: Global, word: &str) -> Option<usize>
-    ensures { IfSome result (λ i. i < 15) }
+    ensures { IfSome result (λ i. i < 16) }
 {
     for i in 0..FORMS.len() {
         if is_near(alloc, word, FORMS[i].0) {
@@ -128,7 +129,7 @@ fn tell_forms(rt: &HostRuntime, first: &str) -> io::Result<()> {
         eprint!(rt; "adsd: there is no command {word}")?;
     }
     eprintln!(rt;
-        "; the commands: access, sddl, change, and of a STORE load, serve, settle, check, audit, grants, list, effective, token, who, can, sample"
+        "; the commands: access, sddl, change, and of a STORE load, serve, settle, check, audit, grants, list, effective, token, who, can, diff, sample"
     )
 }
 
