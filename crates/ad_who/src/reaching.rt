@@ -3,9 +3,7 @@
 ghost use Rattle.std.specs.Prelude.{◌≡◌, ◌++◌, ◌∷◌, [], Ok, true, All, filter, if◌then◌else◌, IfOk, IfErr, OnOk};
 ghost use Rattle.std.specs.List.{flat_map};
 ghost use Rattle.ad_dir_model.specs.Changes.{goes_with};
-ghost use Rattle.ad_dir_model.specs.Directory.{parents};
 ghost use Rattle.ad_dir_model.specs.Objects.{is_live};
-ghost use Rattle.ad_dir_model.specs.Tree.{is_below};
 ghost use Rattle.ad_ids.specs.declared.token.Token.{Token as TokenValue};
 ghost use Rattle.ad_principals.specs.Tokens.{IsTokenOf};
 ghost use Rattle.ad_who.specs.Asked.{IsAsked};
@@ -20,43 +18,8 @@ use crate::pieces::{put_decider, put_name};
 use crate::tokens::{object_named, token_for};
 use ad_dir::Dir;
 use ad_ids::Token;
-use ad_needs_rules::{ROOT, parent_of};
+use ad_needs_rules::{ROOT, goes_with};
 use std::alloc::{AllocError, Global};
-
-/// So many parents stand above an object at most.
-const LEVELS: u32 = 64;
-
-// ---- where an object stands
-
-// Whether the other stands above a live object.
-#[tactic(auto, unfolding(ad_dir_model::specs::Tree::is_below, ad_dir_model::specs::Limits::max_depth))]
-fn is_below(dir: &Dir, other: u32, number: u32) -> bool
-    requires { is_live dir.now.objects number ≡ true }
-    ensures { result ≡ is_below (parents dir.now) other number }
-{
-    let mut at = number;
-    let mut left = LEVELS;
-    'up: while left > 0 {
-        if at == ROOT {
-            return false;
-        }
-        left -= 1;
-        at = parent_of(dir, at);
-        if at == other {
-            return true;
-        }
-    }
-    false
-}
-
-// Whether a live object is the base, or stands below it.
-#[tactic(auto, unfolding(ad_dir_model::specs::Changes::goes_with))]
-fn goes_with(dir: &Dir, base: u32, number: u32) -> bool
-    requires { is_live dir.now.objects number ≡ true }
-    ensures { result ≡ goes_with dir.now base number }
-{
-    number == base || is_below(dir, base, number)
-}
 
 // ---- the lines
 
