@@ -9,3 +9,5 @@ pub mod Masks
 pub mod Labels
 pub mod Whole
 pub mod Steps
+pub mod Unchanged
+pub mod OneValue

@@ -11,8 +11,8 @@ use ad_access_dir::class_of;
 use ad_dir::Dir;
 use ad_ids::Sid;
 
-// Whether both identifiers are the same, or there are none.
-fn same_sid(a: Option<&Sid>, b: Option<&Sid>) -> bool
+/// Whether both identifiers are the same, or there are none.
+pub(crate) fn same_sid(a: Option<&Sid>, b: Option<&Sid>) -> bool
     ensures { result ≡ true → option_copied a.entry ≡ option_copied b.entry }
 {
     match (a, b) {
