@@ -21,9 +21,10 @@
 //!
 //! # Cost
 //!
-//! Each principal is judged once for each class, pair of descriptors and own identifiers among the objects: with p
-//! principals and g such groups of objects p times g judgements, each a sweep for the tree of attributes, and one
-//! for each right and class that is asked for. What differs takes room once for each kind of lines.
+//! Each principal is judged once for each class and pair of descriptors among the objects, and for each pair of own
+//! identifiers where an entry asks for it: with p principals and g such groups of objects p times g judgements, each a
+//! sweep for the tree of attributes, and one for each right and class that is asked for. What differs takes room once
+//! for each kind of lines.
 #![tactic(auto)]
 
 mod alike;
@@ -34,6 +35,7 @@ mod columns;
 mod grouping;
 mod laws;
 mod listing;
+mod own;
 mod pieces;
 mod rights;
 mod rows;
