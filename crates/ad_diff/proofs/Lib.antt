@@ -1,5 +1,7 @@
 pub mod Texts
 pub mod Exact
+pub mod Pointwise
+pub mod Unasked
 pub mod Likeness
 pub mod Live
 pub mod Groups

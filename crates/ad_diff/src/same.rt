@@ -2,12 +2,11 @@
 
 ghost use Rattle.std.specs.Prelude.{◌≡◌, true};
 ghost use Rattle.ad_sd.specs.Seen.{seen};
-ghost use Rattle.ad_dir_model.specs.Objects.{is_live, sd_at};
 ghost use Rattle.ad_diff.specs.Same.{IsUnchanged};
 ghost use Rattle.ad_diff.specs.Steps.{IsLiveBoth};
 
-use crate::alike::same_sid;
 use crate::both::Both;
+use crate::own::{same_sid, view_of};
 use ad_access_dir::class_of;
 use ad_dir::Dir;
 use ad_ids::{Sid, Token};
@@ -122,17 +121,6 @@ pub(crate) fn same_token(a: &Token, b: &Token) -> bool
 }
 
 // ---- an object
-
-// The descriptor of a live object.
-fn view_of(dir: &Dir, number: u32) -> SdView<'_>
-    requires { is_live dir.now.objects number ≡ true }
-    ensures { seen result ≡ sd_at dir.entry.now.objects number }
-{
-    match dir.sd(number) {
-        Some(view) => view,
-        None => unreachable!(),
-    }
-}
 
 // Whether two descriptors are equal, by their normal bytes.
 fn same_views(a: SdView<'_>, b: SdView<'_>) -> bool
