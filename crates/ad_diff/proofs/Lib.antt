@@ -1,5 +1,7 @@
 pub mod Texts
 pub mod Exact
+pub mod Pointwise
+pub mod Unasked
 pub mod Likeness
 pub mod Live
 pub mod Groups
@@ -9,3 +11,5 @@ pub mod Masks
 pub mod Labels
 pub mod Whole
 pub mod Steps
+pub mod Unchanged
+pub mod OneValue

@@ -1,26 +1,37 @@
 -- No right tells objects apart that are alike.
-use Rattle.std.proofs.Common.{◌≡◌, ◌∙◌, ℕ, List, [], ◌∷◌, refl, ap}
+use Rattle.std.proofs.Common.{◌≡◌, ◌∙◌, ℕ, List, [], ◌∷◌, refl, ap, inl, inr}
 use Rattle.ad_ids.specs.SidValue.{SidValue}
 use Rattle.ad_ids.specs.declared.token.Token.{Token}
 use Rattle.ad_sd.specs.declared.parts.Sd.{Sd}
 use Rattle.ad_dir_model.specs.Directory.{Directory}
-use Rattle.ad_dir_model.specs.Objects.{object_at, sd_at}
+use Rattle.ad_dir_model.specs.Objects.{sd_at}
 use Rattle.ad_dir_model.specs.Identity.{self_sid}
 use Rattle.std.specs.Prelude.{Option}
 use Rattle.ad_diff.specs.declared.both.Both.{Both}
 use Rattle.ad_diff.specs.declared.tokens.Party.{Party}
-use Rattle.ad_diff.specs.Rights.{rights_by, grants_by, rights}
+use Rattle.ad_diff.specs.Rights.{rights_by, grants_by, class_at, rights}
 use Rattle.ad_diff.specs.Changes.{change_lines, changes}
-use Rattle.ad_diff.specs.Steps.{IsAlikeIn, IsAlike, lines_on}
+use Rattle.ad_diff.specs.Steps.{IsSameOwn, IsAlikeIn, IsAlike, lines_on}
+use Rattle.ad_diff.proofs.Unasked.{granted_any}
+use Rattle.ad_diff.proofs.Pointwise.{same_by}
+
+same_own : (dir : Directory) (token : Token) (a b : ℕ) → IsSameOwn dir a b
+    → rights_by dir.schema (grants_by (sd_at dir.objects a) token (self_sid dir a)) (class_at dir a)
+    ≡ rights_by dir.schema (grants_by (sd_at dir.objects a) token (self_sid dir b)) (class_at dir a)
+same_own dir token a b (inl same) =
+    ap (λ (self : Option SidValue). rights_by dir.schema (grants_by (sd_at dir.objects a) token self)
+    (class_at dir a)) same
+same_own dir token a b (inr none) =
+    let sd = sd_at dir.objects a in
+    same_by dir.schema (grants_by sd token (self_sid dir a)) (grants_by sd token (self_sid dir b)) (class_at dir a)
+    (λ path bit. granted_any sd.owner sd.dacl.entries token (self_sid dir a) (self_sid dir b) path bit none)
 
 pub same_rights : (dir : Directory) (token : Token) (a b : ℕ) → IsAlikeIn dir a b
     → rights dir token a ≡ rights dir token b
 unfolding rights
 same_rights dir token a b is =
-    ap (λ (sd : Sd). rights_by dir.schema (grants_by sd token (self_sid dir a))
-    (record { 0 = (object_at dir.objects a).class })) is.sd
-    ∙ ap (λ (self : Option SidValue). rights_by dir.schema (grants_by (sd_at dir.objects b) token self)
-    (record { 0 = (object_at dir.objects a).class })) is.self
+    same_own dir token a b is.self
+    ∙ ap (λ (sd : Sd). rights_by dir.schema (grants_by sd token (self_sid dir b)) (class_at dir a)) is.sd
     ∙ ap (λ (class : ℕ). rights_by dir.schema (grants_by (sd_at dir.objects b) token (self_sid dir b))
     (record { 0 = class })) is.class
 

@@ -6,3 +6,4 @@ pub mod Text
 pub mod Answers
 -- only for private contracts, invariants and proofs
 pub mod Steps
+pub mod Same

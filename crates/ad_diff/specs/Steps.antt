@@ -3,8 +3,12 @@
 use Rattle.std.specs.Prelude.{◌≡◌, ◌⊎◌, ℕ, suc, ◌<◌, Bool, true, false, Some, List, [], ◌∷◌, ◌++◌, Vec, All, map}
 use Rattle.std.specs.Prelude.{codes, get_or, length, slice_get}
 use Rattle.std.specs.declared.alloc.Global.{Global}
+use Rattle.std.specs.List.{list_any}
 use Rattle.std.specs.Option.{option_map_or}
+use Rattle.ad_ids.specs.SidValue.{same_sid}
+use Rattle.ad_acl.specs.Entry.{Entry}
 use Rattle.ad_acl.specs.Mask.{has_bit, mapped_has}
+use Rattle.ad_access.specs.WellKnown.{principal_self}
 use Rattle.ad_schema.specs.declared.line.SchemaRecord.{SchemaRecord}
 use Rattle.ad_schema.specs.declared.info.AttrId.{AttrId}
 use Rattle.ad_schema.specs.declared.info.AttrInfo.{AttrInfo}
@@ -49,11 +53,20 @@ pub record IsLiveBoth (before after : Directory) (o : Both) : Type 0 where
   pub first : is_live before.objects o.before ≡ true
   pub second : is_live after.objects o.after ≡ true
 
--- Two objects of a directory have one class, descriptor and identifier, so that no right tells them apart.
+-- the entry is for the object itself
+abbrev pub is_for_self : Entry → Bool
+is_for_self entry = same_sid entry.sid principal_self
+
+-- Two objects of a directory have one own identifier, or the descriptor of the first has no entry that asks for it.
+abbrev pub IsSameOwn : Directory → ℕ → ℕ → Type 0
+IsSameOwn dir a b = (self_sid dir a ≡ self_sid dir b)
+    ⊎ (list_any is_for_self (sd_at dir.objects a).dacl.entries ≡ false)
+
+-- They have one class and one descriptor, and one identifier where that counts, so that no right tells them apart.
 pub record IsAlikeIn (dir : Directory) (a b : ℕ) : Type 0 where
   pub class : (object_at dir.objects a).class ≡ (object_at dir.objects b).class
   pub sd : sd_at dir.objects a ≡ sd_at dir.objects b
-  pub self : self_sid dir a ≡ self_sid dir b
+  pub self : IsSameOwn dir a b
 
 pub record IsAlike (before after : Directory) (a b : Both) : Type 0 where
   pub first : IsAlikeIn before a.before b.before

@@ -1,28 +1,15 @@
 //! Which objects are alike, so that no principal gains or loses on one what it doesn't on the other.
 
 ghost use Rattle.std.specs.Prelude.{◌≡◌, true, IfSome};
-ghost use Rattle.std.specs.Option.{option_copied};
 ghost use Rattle.ad_dir_model.specs.Objects.{is_live};
-ghost use Rattle.ad_dir_model.specs.Identity.{self_sid};
 ghost use Rattle.ad_diff.specs.Steps.{IsAlike, IsAlikeIn, IsLiveBoth};
 
 use crate::both::Both;
+use crate::own::{is_same_own, names_self};
 use ad_access_dir::class_of;
 use ad_dir::Dir;
-use ad_ids::Sid;
 
-// Whether both identifiers are the same, or there are none.
-fn same_sid(a: Option<&Sid>, b: Option<&Sid>) -> bool
-    ensures { result ≡ true → option_copied a.entry ≡ option_copied b.entry }
-{
-    match (a, b) {
-        (None, None) => true,
-        (Some(a), Some(b)) => *a == *b,
-        _ => false,
-    }
-}
-
-// Whether two live objects have the same class, descriptor and identifier.
+// Whether two live objects have the same class and descriptor, and the same identifier where that counts.
 fn is_alike_in(dir: &Dir, a: u32, b: u32) -> bool
     requires a { is_live dir.now.objects a ≡ true }
     requires b { is_live dir.now.objects b ≡ true }
@@ -34,10 +21,10 @@ fn is_alike_in(dir: &Dir, a: u32, b: u32) -> bool
     if !dir.same_descriptor(a, b) {
         return false;
     }
-    same_sid(dir.self_sid(a), dir.self_sid(b))
+    is_same_own(dir, a, b)
 }
 
-/// Whether two objects have the same class, descriptor and identifier in each directory.
+/// Whether two objects have the same class and descriptor in each directory, and the same identifier where that counts.
 pub(crate) fn is_alike(before: &Dir, after: &Dir, a: Both, b: Both) -> bool
     requires a { IsLiveBoth before.now after.now a }
     requires b { IsLiveBoth before.now after.now b }
@@ -60,13 +47,21 @@ fn mixed_bytes(hash: u64, bytes: &[u8]) -> u64 {
     hash
 }
 
+fn mixed_own(hash: u64, dir: &Dir, number: u32) -> u64 {
+    match dir.self_sid(number) {
+        Some(_) => mixed(hash, u64::from(number)),
+        None => hash,
+    }
+}
+
 fn mixed_object(hash: u64, dir: &Dir, number: u32) -> u64
     requires { is_live dir.now.objects number ≡ true }
 {
     let hash = mixed(hash, u64::from(class_of(dir, number).0));
-    let hash = match dir.self_sid(number) {
-        Some(_) => mixed(hash, u64::from(number)),
-        None => hash,
+    let hash = if names_self(dir, number) {
+        mixed_own(hash, dir, number)
+    } else {
+        hash
     };
     match dir.sd(number) {
         Some(view) => mixed_bytes(hash, view.as_bytes()),

@@ -2,12 +2,13 @@
 
 ghost use Rattle.std.specs.Prelude.{◌≡◌, ◌<◌, ◌++◌, ◌∷◌, [], ℕ, List, get_or, slice_get, length, IfOk, IfSome, OnOk};
 ghost use Rattle.std.specs.List.{list_all};
-ghost use Rattle.ad_diff.specs.Changes.{changes};
+ghost use Rattle.ad_diff.specs.Same.{AreSteady};
 ghost use Rattle.ad_diff.specs.Steps.{texts, kind_at, all_lines, lines_at, lines_on, is_none, IsKind, IsSound};
 ghost use Rattle.ad_diff.specs.Steps.{IsPushed, IsLiveBoth};
 
 use crate::both::Both;
-use crate::changes::changes;
+use crate::same::is_unchanged;
+use crate::steady::{is_marked, lines_of};
 use crate::tokens::Party;
 use ad_dir::Dir;
 use std::alloc::{AllocError, Global};
@@ -114,7 +115,7 @@ fn empty(alloc: Global) -> Result<Column, AllocError>
     })
 }
 
-/// The column of an object that is live in both.
+/// The column of an object that is live in both. Whether the object is unchanged is looked up once.
 ///
 /// # Errors
 ///
@@ -124,16 +125,20 @@ pub(crate) fn column_of(
     before: &Dir,
     after: &Dir,
     parties: &[Party],
+    marks: &[bool],
     o: Both,
 ) -> Result<Column, AllocError>
-    requires { IsLiveBoth before.now after.now o }
+    requires live { IsLiveBoth before.now after.now o }
+    requires steady { AreSteady before.now after.now parties.now marks.now }
     ensures sound { IfOk result IsSound }
     ensures lines { IfOk result (λ column. all_lines column
         ≡ lines_on before.now after.now parties.now o) }
 {
     let mut column = empty(alloc)?;
-    for party in parties {
-        let lines = changes(alloc, before, after, &party.was, &party.is, o)?;
+    let unchanged = is_unchanged(before, after, o);
+    'each: for i in 0..parties.len() {
+        let steady = is_marked(marks, i);
+        let lines = lines_of(alloc, before, after, &parties[i], steady, o, unchanged)?;
         push_lines(&mut column, lines)?;
     }
     Ok(column)

@@ -2,11 +2,13 @@
 
 ghost use Rattle.std.specs.Prelude.{◌≡◌, ◌++◌, ◌∷◌, [], ℕ, Some, All, length, slice_get, OnOk, IfOk, IfSome};
 ghost use Rattle.ad_diff.specs.Text.{members};
+ghost use Rattle.ad_diff.specs.Same.{AreSteady};
 ghost use Rattle.ad_diff.specs.Steps.{all_lines, lines_on, IsLiveBoth, ArePlaced, IsGroupOfAlike, IsAdded};
 
 use crate::alike::{hash_of, is_alike};
 use crate::both::{Both, Grouped};
 use crate::columns::{Column, column_of, is_quiet, number_of};
+use crate::steady::steady_marks;
 use crate::tokens::Party;
 use ad_dir::Dir;
 use indexmap::IndexMap;
@@ -75,6 +77,7 @@ fn group_of(
     before: &Dir,
     after: &Dir,
     parties: &[Party],
+    marks: &[bool],
     objects: &[Grouped],
     columns: &mut Vec<Column>,
     place: Option<usize>,
@@ -83,13 +86,14 @@ fn group_of(
     requires objects { All (λ g. IsLiveBoth before.now after.now g.both) objects.now }
     requires live { IsLiveBoth before.now after.now o }
     requires placed { ArePlaced before.now after.now parties.now columns.now.items objects.now }
+    requires steady { AreSteady before.now after.now parties.now marks.now }
     ensures { IfOk result (IsAdded parties.now columns.old.items columns.new.items
         (lines_on before.now after.now parties.now o)) }
 {
     if let Some(group) = alike_at(before, after, objects, place, o) {
         return Ok(group);
     }
-    let column = column_of(alloc, before, after, parties, o)?;
+    let column = column_of(alloc, before, after, parties, marks, o)?;
     add(columns, column, parties)
 }
 
@@ -99,6 +103,7 @@ fn place(
     before: &Dir,
     after: &Dir,
     parties: &[Party],
+    marks: &[bool],
     placing: &mut Placing,
     at: Option<usize>,
     o: Both,
@@ -107,6 +112,7 @@ fn place(
     requires live { IsLiveBoth before.now after.now o }
     requires placed { ArePlaced before.now after.now parties.now placing.now.columns.items
         placing.now.objects.items }
+    requires steady { AreSteady before.now after.now parties.now marks.now }
     ensures members { OnOk result (members placing.new.objects.items
         ≡ members placing.old.objects.items ++ (o ∷ [])) }
     ensures placed { OnOk result (ArePlaced before.now after.now parties.now
@@ -117,6 +123,7 @@ fn place(
         before,
         after,
         parties,
+        marks,
         placing.objects.as_slice(),
         &mut placing.columns,
         at,
@@ -143,6 +150,7 @@ pub(crate) fn placed(
     ensures placed { IfOk result (λ placing. ArePlaced before.now after.now parties.now
         placing.columns.items placing.objects.items) }
 {
+    let marks = steady_marks(alloc, before, after, parties)?;
     let mut places: IndexMap<u64, usize> = IndexMap::new(alloc);
     let mut placing = Placing {
         objects: Vec::new(alloc),
@@ -151,7 +159,16 @@ pub(crate) fn placed(
     for o in objects {
         let hash = hash_of(before, after, *o);
         let at = places.get(&hash).copied();
-        place(alloc, before, after, parties, &mut placing, at, *o)?;
+        place(
+            alloc,
+            before,
+            after,
+            parties,
+            marks.as_slice(),
+            &mut placing,
+            at,
+            *o,
+        )?;
         places.insert(hash, placing.objects.len() - 1)?;
     }
     Ok(placing)

@@ -21,9 +21,12 @@
 //!
 //! # Cost
 //!
-//! Each principal is judged once for each class, pair of descriptors and own identifiers among the objects: with p
-//! principals and g such groups of objects p times g judgements, each a sweep for the tree of attributes, and one
-//! for each right and class that is asked for. What differs takes room once for each kind of lines.
+//! Each principal is judged once for each class and pair of descriptors among the objects, and for each pair of own
+//! identifiers where an entry asks for it: with p principals and g such groups of objects p times g judgements, each a
+//! sweep for the tree of attributes, and one for each right and class that is asked for. What differs takes room once
+//! for each kind of lines. Nothing is judged where nothing can differ: the schemas are equal, so are the principal's
+//! tokens, and the group's first object has the class, the descriptor and the identifier in both. The schemas are
+//! compared once, the tokens once for each principal, and the objects once for each group.
 #![tactic(auto)]
 
 mod alike;
@@ -34,9 +37,12 @@ mod columns;
 mod grouping;
 mod laws;
 mod listing;
+mod own;
 mod pieces;
 mod rights;
 mod rows;
+mod same;
+mod steady;
 mod table;
 mod telling;
 mod tokens;
