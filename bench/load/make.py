@@ -1,5 +1,5 @@
 #!/usr/bin/env python3
-"""Writes an LDIF text like the export of a directory with its schema: make.py FILE USERS [big] [plain] [real] [lean] [slapd].
+"""Writes an LDIF text like the export of a directory with its schema: make.py FILE USERS [big] [plain] [real] [lean] [slapd [whole]].
 
 Below a root there is a unit for each hundred users, and in it one for its people and one for its groups. A user has the some 30
 lines that an account usually has, and a descriptor of 3.4 KB: the 24 entries that accounts get at birth, and what they took over
@@ -11,7 +11,8 @@ With `big` there is a group more, of which each user is a member. With `plain` n
 the schema is as large as that of a domain: 1,500 attributes of which 300 are indexed, and 270 classes, of which 80 are auxiliary to
 users and give them 400 attributes more; and a user's list has 44 entries. With `lean` users have a third of their lines, and no descriptor
 of their own, so that 60,000 of them are a text that is taken. With `slapd`
-the text has no schema, and nothing that another server makes itself, so that slapadd can read it under the schema of `run`."""
+the text has no schema, and nothing that another server makes itself, so that slapadd can read it under the schema of `slapd.py`; `whole`
+leaves in it what the program stores and another server doesn't: an object's names, and the groups that it is a member of."""
 import base64
 import random
 import struct
@@ -154,7 +155,7 @@ def line(name, value):
 
 class Text:
     def __init__(self, out, words):
-        self.out, self.slapd, self.plain, self.count = out, "slapd" in words, "plain" in words, 0
+        self.out, self.bare, self.plain, self.count = out, "slapd" in words and "whole" not in words, "plain" in words, 0
         self.real, self.lean = "real" in words, "lean" in words
 
     def record(self, name, lines):
@@ -164,7 +165,7 @@ class Text:
         self.count += 1
         lines = [one for one in lines if not (self.plain and name != ROOT and one[0] == "objectSid")]
         kept = [("objectClass", one) for one in classes] + lines
-        if not self.slapd:
+        if not self.bare:
             naming = name.split(",")[0].split("=")[1]
             kept += [("distinguishedName", name), ("name", naming)] + [("memberOf", one) for one in groups]
         self.record(name, kept + ([("nTSecurityDescriptor", sd)] if sd else []))
@@ -183,14 +184,20 @@ def classes(real):
     return [(one, beside if one[0] == "user" else []) for one in CLASSES + more]
 
 
+def indexed(real):
+    """The attributes that are indexed, first those that objects have."""
+    more = attributes(real)[len(ATTRIBUTES):len(ATTRIBUTES) + REAL_INDEXED - len(INDEXED)]
+    return [*INDEXED, *(one[0] for one in more)] if real else []
+
+
 def schema(text):
     real = text.real
+    flagged = set(indexed(real))
     for i, (name, syntax, single, link) in enumerate(attributes(real)):
-        flagged = real and (name in INDEXED or len(ATTRIBUTES) <= i < len(ATTRIBUTES) + REAL_INDEXED - len(INDEXED))
         lines = [("objectClass", "attributeSchema"), ("lDAPDisplayName", name), ("attributeSyntax", "2.5.5.%d" % syntax),
                  ("schemaIDGUID", b"attribute%07d" % i)]
         lines += [("isSingleValued", "TRUE")] if single else []
-        lines += [("searchFlags", 1)] if flagged else []
+        lines += [("searchFlags", 1)] if name in flagged else []
         text.record("CN=" + name, lines + ([("linkID", link)] if link else []))
     for i, ((name, above, category, naming, may, below), beside) in enumerate(classes(real)):
         own = guid({"user": CLASS_USER, "group": CLASS_GROUP}[name]) if name in ("user", "group") else b"class%011d" % i
