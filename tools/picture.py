@@ -48,4 +48,5 @@ def faults(writes):
     rows = re.findall(r"^\| `(\w+)` \|", text, re.M)
     found = [f"docs/architecture.md: the table has no row for {name}" for name in below if name not in rows]
     found += [f"docs/architecture.md: the table has a row for {name}, which crates.txt doesn't list" for name in rows if name not in below]
+    found += [f"docs/architecture.md: {name} is in more rooms than one" for name in sorted(set(rows)) if rows.count(name) > 1]
     return found + generated.faults(path, "picture", lines_of(below), writes)
