@@ -4,7 +4,7 @@ import os
 import re
 
 import generated
-from specs import CRATES, TOP, House, text_of
+from specs import CRATES, TOP, House, crates, text_of
 
 WIDTH = 120
 
@@ -49,6 +49,15 @@ def line_of(house, file, names):
     return f"- {link}: {specs.about.rstrip('.')}. ({told})"
 
 
+def ports():
+    """The crates of the toolchain that the program names and docs/trust.md doesn't."""
+    told, known, found = text_of(os.path.join(TOP, "docs/trust.md")), crates(), set()
+    for name, below in known.items():
+        if not name.startswith(("tests_", "example_")):
+            found.update(other for other in below if other not in known and f"`{other}`" not in told)
+    return [f"docs/trust.md: the toolchain's {name} isn't told" for name in sorted(found)]
+
+
 def faults(writes):
     house = House()
     code = house.code["adsd/src/beside.rt"]
@@ -73,4 +82,4 @@ def faults(writes):
     for module in sorted(foreign):
         names = ", ".join(f"`{name}`" for name in sorted(foreign[module]))
         lines += wrapped(f"- `{module}`: {names}")
-    return found + generated.faults(os.path.join(TOP, "docs/trust.md"), "what run_beside rests on", lines, writes)
+    return found + ports() + generated.faults(os.path.join(TOP, "docs/trust.md"), "what run_beside rests on", lines, writes)
