@@ -12,7 +12,7 @@ the schema is as large as that of a domain: 1,500 attributes of which 300 are in
 users and give them 400 attributes more; and a user's list has 44 entries. With `lean` users have a third of their lines, and no descriptor
 of their own, so that 60,000 of them are a text that is taken. With `slapd`
 the text has no schema, and nothing that another server makes itself, so that slapadd can read it under the schema of `slapd.py`; `whole`
-leaves in it what the program stores and another server doesn't: an object's names, and the groups that it is a member of."""
+leaves in it the names of each object that the program shows (distinguishedName and name)."""
 import base64
 import random
 import struct
@@ -155,7 +155,8 @@ def line(name, value):
 
 class Text:
     def __init__(self, out, words):
-        self.out, self.bare, self.plain, self.count = out, "slapd" in words and "whole" not in words, "plain" in words, 0
+        self.out, self.slapd, self.plain, self.count = out, "slapd" in words, "plain" in words, 0
+        self.named = not self.slapd or "whole" in words
         self.real, self.lean = "real" in words, "lean" in words
 
     def record(self, name, lines):
@@ -165,9 +166,10 @@ class Text:
         self.count += 1
         lines = [one for one in lines if not (self.plain and name != ROOT and one[0] == "objectSid")]
         kept = [("objectClass", one) for one in classes] + lines
-        if not self.bare:
-            naming = name.split(",")[0].split("=")[1]
-            kept += [("distinguishedName", name), ("name", naming)] + [("memberOf", one) for one in groups]
+        if self.named:
+            kept += [("distinguishedName", name), ("name", name.split(",")[0].split("=")[1])]
+        if not self.slapd:
+            kept += [("memberOf", one) for one in groups]
         self.record(name, kept + ([("nTSecurityDescriptor", sd)] if sd else []))
 
 

@@ -10,7 +10,7 @@ SYNTAX = {1: 12, 2: 26, 9: 27, 10: 40, 12: 15, 16: 27, 17: 40}
 MATCH = {1: "distinguishedNameMatch", 2: "caseIgnoreIA5Match", 9: "integerMatch", 10: "octetStringMatch", 12: "caseIgnoreMatch",
          16: "integerMatch", 17: "octetStringMatch"}
 BUILT_IN = ("objectClass", "cn", "distinguishedName", "name", "description")
-KEPT = ["description", "nTSecurityDescriptor", "distinguishedName", "name", "memberOf"]
+KEPT = ["description", "nTSecurityDescriptor", "distinguishedName", "name"]
 # A line of slapd.conf has so few words that the attributes of many classes are taken from abstract classes with so many each.
 MOST_NAMES = 80
 # A database of mdb takes so many indexes at most, that of objectClass among them.
