@@ -17,7 +17,7 @@ from adsd_ask import ber, requests
 PATH = os.environ.get("PATH", "") + ":/usr/sbin"
 SLAPD = os.environ.get("SLAPD") or shutil.which("slapd", path=PATH)
 SLAPADD = os.environ.get("SLAPADD") or shutil.which("slapadd", path=PATH)
-ENTRY, MOST, TRIES = 0x64, 300_000, 7
+ENTRY, MOST, TRIES = 0x64, 100_000, 15
 # The words that are in front of a program whose instructions are counted, and the line that tells them.
 COUNTING = ["valgrind", "--tool=callgrind", "--callgrind-out-file=/dev/null"]
 COUNTED = re.compile(rb"Collected : (\d+)")
@@ -111,7 +111,7 @@ class Timer:
         return self.served.connection.asked(messages(lines))
 
     def each(self, lines, times, alone=False):
-        """The least of some tries for so many requests, or as many as take some tenths of a second."""
+        """The least of some tries for so many requests, or as many as take a tenth of a second."""
         sent = messages(max(1, min(times, int(MOST / self.taken(messages(lines), alone)))) * lines)
         return min(self.taken(sent, alone) for _ in range(TRIES)) / len(sent)
 
