@@ -2,6 +2,7 @@
 
 It gets the same LDAP messages as the program, and its entries have the same values. Time is that of a processor of all its threads, user's and
 system's, by the clock of the process. Instructions are counted by callgrind over a whole life of it, without those of a life that only opens."""
+import atexit
 import os
 import re
 import shutil
@@ -86,6 +87,7 @@ class Served:
             os.remove(path)
         called = [*before, SLAPD, "-d", "0", "-f", config, "-h", "ldapi://" + path.replace("/", "%2F")]
         self.running = subprocess.Popen(called, stdout=subprocess.DEVNULL, stderr=subprocess.PIPE)
+        atexit.register(self.running.terminate)
         self.connection = Connection(path)
 
     def ended(self):
