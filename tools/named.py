@@ -1,4 +1,4 @@
-"""What documents name: files that are there, names that are words of the code, crates of tables, and options of scripts."""
+"""What documents name: files that are there, names that are words of the code, crates of tables, options of scripts."""
 
 import os
 import re
@@ -13,11 +13,12 @@ OTHERS = {"plant", "logic", "dac8208d650f15bf", "CALLING.md", "src/m.rt", "proof
 # Options of other programs.
 OPTIONS = {"--cross-ncs"}
 FENCED = re.compile(r"```.*?```", re.S)
-PATH = re.compile(r"(?:[\w-]+/)*[\w-]+\.(?:rt|antt|edit|py|md|tsv|ldif|txt)|(?:src|specs|proofs|must-fail|cases|examples|tools|bench|docs)/(?:[\w.-]+/?)*")
+FOLDERS = r"(?:src|specs|proofs|must-fail|cases|examples|tools|bench|docs)"
+PATH = re.compile(rf"(?:[\w-]+/)*[\w-]+\.(?:rt|antt|edit|py|md|tsv|ldif|txt)|{FOLDERS}/(?:[\w.-]+/?)*")
 
 
 def code_words():
-    """The words of all files but documents, without the comments of code and definitions, and the parts of their paths."""
+    """The words of all files but documents, without comments of code and definitions, and the parts of their paths."""
     found = set()
     for path in listed():
         found.update(re.findall(r"[\w']+", path))
@@ -33,7 +34,7 @@ def code_words():
 
 
 def blocks(path):
-    """The paragraphs and the points of lists of a document, each with the line where it begins, but for code in fences."""
+    """The paragraphs and points of lists of a document, each with the line where it begins, but for code in fences."""
     text = FENCED.sub(lambda match: "\n" * match[0].count("\n"), text_of(os.path.join(TOP, path)))
     at = 1
     for block in re.split(r"(?<=\n)(?=\n|- |\d+\. |\| )", text):
@@ -42,7 +43,7 @@ def blocks(path):
 
 
 def ends_of(paths):
-    """For each end of a path, of a folder's and of a file's without its ending too, the crates that it stands in, or none where it is in no crate."""
+    """The crates that each end of a path stands in, a folder's too, and a file's without its ending; None for no crate."""
     found = {}
     for path in paths:
         parts = path.split("/")
@@ -64,7 +65,8 @@ def options():
                 scripts[path] = file.read()
     for part in text_of(os.path.join(TOP, "tools/README.md")).split("\n## "):
         told = [name for name in re.findall(r"(?:tools/)?\b([a-z][\w/-]+)", part) if "tools/" + name in scripts]
-        own = [text for path, text in scripts.items() for name in set(told) if path == "tools/" + name or path.startswith(f"tools/{name.replace('-', '_')}/")]
+        folders = tuple(f"tools/{name.replace('-', '_')}/" for name in told)
+        own = [text for path, text in scripts.items() if path[6:] in told or path.startswith(folders)]
         for option in sorted(set(re.findall(r"(?<![\w-])--[a-z][\w-]+", part)) - OPTIONS):
             if not any(option in text for text in own):
                 yield f"tools/README.md: no script of '{part.splitlines()[0].strip('# ')}' has the option {option}"
@@ -77,19 +79,26 @@ def tables():
             yield f"docs/proofs.md: a table has a row for {name}, which crates.txt doesn't list"
 
 
+def faults_of(document, line, code, named, ends, words):
+    """What is wrong with a name in backticks in the same block as the names of these crates."""
+    if PATH.fullmatch(code) and code not in OTHERS:
+        where = ends.get(code.rstrip("/"), set())
+        is_of_crate = named and code.startswith(("src/", "specs/", "proofs/"))
+        if not where or is_of_crate and not named & where:
+            yield f"{document}:{line}: there is no file {code}" + (f" of {', '.join(sorted(named))}" if named else "")
+    elif document.startswith(NAMING) and "*" not in code and ".." not in code:
+        for word in re.findall(r"[A-Za-z_][\w']*", code):
+            if len(word) > 2 and word not in words:
+                yield f"{document}:{line}: `{word}` is no word of the code"
+
+
 def faults():
     paths, found, words = listed(), [], code_words() | OTHERS
     ends, known = ends_of(paths), set(crates())
     for document in [path for path in paths if path.endswith(".md") and path != "CHANGELOG.md"]:
         for at, block in blocks(document):
-            codes = [(block.count("\n", 0, match.start()) + at, " ".join(match[1].split())) for match in re.finditer(r"`([^`]+)`", block)]
+            codes = [(match.start(), " ".join(match[1].split())) for match in re.finditer(r"`([^`]+)`", block)]
             named = {code for _, code in codes if code in known} if document == "docs/architecture.md" else set()
-            for line, code in codes:
-                if PATH.fullmatch(code) and code not in OTHERS:
-                    crates_of = ends.get(code.rstrip("/"), set())
-                    if not crates_of or named and code.startswith(("src/", "specs/", "proofs/")) and not named & crates_of:
-                        found.append(f"{document}:{line}: there is no file {code}" + (f" of {', '.join(sorted(named))}" if named else ""))
-                elif document.startswith(NAMING) and "*" not in code and ".." not in code:
-                    unknown = [word for word in re.findall(r"[A-Za-z_][\w']*", code) if len(word) > 2 and word not in words]
-                    found += [f"{document}:{line}: `{word}` is no word of the code" for word in unknown]
+            for start, code in codes:
+                found += faults_of(document, block.count("\n", 0, start) + at, code, named, ends, words)
     return found + list(options()) + list(tables())
