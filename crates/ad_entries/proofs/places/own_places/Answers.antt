@@ -25,14 +25,14 @@ returns-clause-places c =
     let o = object_seen c.live_object-object.result.now (sd_at c.args.dir.now.objects c.args.number) in
     let given = is_given_at c.args.dir.now c.args.token.now c.args.number (search_seen c.args.search.now) in
     has_own c.args.dir.now c.args.token.now c.args.number c.class_info.result.now.naming.0
-    (search_seen c.args.search.now) o c.args.computed.now
+    (search_seen c.args.search.now) o c.args.asked.now.computed.items
     c.push_held.new.places.items c.push_given.new.places.items c.push_each.new.places.items c.rise.new.numbers.items
     c.live_object-object.ensures
     (subst (λ (s : List SchemaRecord). c.class_info.result.now.naming.0
     ≡ naming_of s c.live_object-object.result.now.class.0) c.schema.ensures
     (class_naming c.schema.result.now c.live_object-object.result.now.class.0 c.class_info.result.now
     c.class_info.ensures.info))
-    c.requires.computed
+    c.requires.asked.computed
     (c.in_ok-push_held.ensures.places
     ∙ ap (λ (old : List ℕ). old ++ filter given (map (λ (held : Held). held.attr)
     (map held_seen c.as_slice-values.result.now))) c.new-places.ensures.items
