@@ -187,7 +187,7 @@ pub record SoFar (schema : List SchemaRecord) (sent : List (List ℕ)) (flags : 
   pub len : length flags ≡ length (attrs_of schema)
   pub each : (attr : ℕ) (info : AttrInfo) → slice_get (attrs_of schema) attr ≡ Some info
       → (get_or flags attr false || list_any (asks_for info.name) (drop i sent)) ≡ list_any (asks_for info.name) sent
-  pub named : LeavesUnflagged flags named
+  pub listed : LeavesUnflagged flags named
 
 abbrev unset : Bool
 unset = false
@@ -205,7 +205,7 @@ none_begins schema sent = record {
   len = length-replicate (length (attrs_of schema)) unset;
   each = λ attr info is. ap (λ (b : Bool). b || list_any (asks_for info.name) sent)
       (none_set (length (attrs_of schema)) attr);
-  named = λ attr not_there. none_set (length (attrs_of schema)) attr;
+  listed = λ attr not_there. none_set (length (attrs_of schema)) attr;
 }
 
 pub one_more : (schema : List SchemaRecord) (sent : List (List ℕ)) (old new : List Bool) (before after : List ℕ) (i : ℕ)
@@ -223,7 +223,7 @@ one_more schema sent old new before after i asked distinct front some flags so =
       ap (λ (b : Bool). b || rest) (flags.each attr)
       ∙ grouped (get_or old attr false) (is_named schema asked attr) rest
       ∙ sym (ap (λ (b : Bool). get_or old attr false || b) step) ∙ so.each attr info is);
-  named = flags.named so.named;
+  listed = flags.named so.listed;
 }
   where
     grouped : (a b c : Bool) → ((a || b) || c) ≡ (a || (b || c))

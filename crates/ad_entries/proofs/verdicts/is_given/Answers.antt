@@ -13,10 +13,10 @@ returns-then-place-attrs-clause-so c =
 pub returns-then-not-is_flagged-clause-so : goal.returns-then-not-is_flagged-clause-so
 returns-then-not-is_flagged-clause-so c =
     ap (λ (b : Bool). b && is_readable_at c.args.dir.now c.args.token.now c.args.number c.args.place)
-    (rw c.as_slice.ensures at c.if-not-is_flagged.ensures ∙ c.requires.asked.flags c.args.place)
+    (rw c.as_slice.ensures.value at c.if-not-is_flagged.ensures ∙ c.requires.asked.flags c.args.place)
 
 pub returns-clause-so : goal.returns-clause-so
 returns-clause-so c =
     c.is_readable_so.ensures.so
     ∙ ap (λ (b : Bool). b && is_readable_at c.args.dir.now c.args.token.now c.args.number c.args.place)
-    (rw c.as_slice.ensures at c.if-not-is_flagged.ensures ∙ c.requires.asked.flags c.args.place)
+    (rw c.as_slice.ensures.value at c.if-not-is_flagged.ensures ∙ c.requires.asked.flags c.args.place)
