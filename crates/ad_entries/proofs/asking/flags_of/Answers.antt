@@ -20,7 +20,7 @@ returns-clause-flags c =
     (drop_all c.loop-asked.asked-index c.args.sent.now (omega (arith, c.loop-asked-test.false))) c.loop-asked.invariant
 
 pub all_flags-requires-then-is_empty : goal.all_flags-requires-then-is_empty
-all_flags-requires-then-is_empty c = all_by_none c.args.sent.now ?
+all_flags-requires-then-is_empty c = all_by_none c.args.sent.now (sym c.is_empty.ensures ∙ c.if-is_empty.true)
 
 pub all_flags-requires-then-is_every : goal.all_flags-requires-then-is_every
 all_flags-requires-then-is_every c =
