@@ -19,11 +19,19 @@ returns-clause-flags c =
     c.loop-asked.asked-index (sym c.is_empty.ensures ∙ c.if-is_empty.false)
     (drop_all c.loop-asked.asked-index c.args.sent.now (omega (arith, c.loop-asked-test.false))) c.loop-asked.invariant
 
-pub all_flags-requires-then-is_empty : goal.all_flags-requires-then-is_empty
-all_flags-requires-then-is_empty c = all_by_none c.args.sent.now (sym c.is_empty.ensures ∙ c.if-is_empty.true)
+pub all_flags-requires : goal.all_flags-requires
+all_flags-requires c = all_by_none c.args.sent.now (sym c.is_empty.ensures ∙ c.if-is_empty.true)
 
 pub all_flags-requires-then-is_every : goal.all_flags-requires-then-is_every
 all_flags-requires-then-is_every c =
     all_by_every c.args.sent.now c.loop-asked.asked-index c.asked-item.result
     (from_here c.args.sent.now c.loop-asked.asked-index c.asked-item.result c.loop-asked-test.true c.asked-item.is)
     (rw c.as_slice.ensures at (sym c.is_every.ensures ∙ c.if-is_every.true))
+
+pub returns-clause-named : goal.returns-clause-named
+returns-clause-named c =
+    leaves_unasked c.args.schema.now c.args.sent.now c.loop-asked.flags.items c.loop-asked.named.items
+    (flags_end c.args.schema.now c.args.sent.now c.loop-asked.flags.items c.loop-asked.named.items
+    c.loop-asked.asked-index (sym c.is_empty.ensures ∙ c.if-is_empty.false)
+    (drop_all c.loop-asked.asked-index c.args.sent.now (omega (arith, c.loop-asked-test.false)))
+    c.loop-asked.invariant) c.loop-asked.invariant.listed

@@ -38,4 +38,6 @@ returns-clause-places c =
     (map held_seen c.as_slice-values.result.now))) c.new-places.ensures.items
     ∙ ap (λ (values : List (AttrId × List StoredIn)). filter given (map (λ (held : Held). held.attr)
     (map held_seen values))) c.as_slice-values.ensures)
-    c.in_ok-push_given.ensures.places c.in_ok-push_each.ensures.places c.rise.ensures.rises c.rise.ensures.same
+    c.in_ok-push_given.ensures.places
+    (c.in_ok-push_each.ensures.places ∙ ap (λ (these : List ℕ). c.push_given.new.places.items ++ filter given these)
+    c.as_slice.ensures.value) c.rise.ensures.rises c.rise.ensures.same
