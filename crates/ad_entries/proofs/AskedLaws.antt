@@ -1,7 +1,7 @@
 -- The attributes that names lead to, and the flags of those that are asked for.
-use Rattle.std.proofs.Common.{◌≡◌, ℕ, zero, suc, ◌+◌, ◌<◌, ◌≤◌, Bool, true, false, ◌||◌, List, [], ◌∷◌, ◌++◌, length}
-use Rattle.std.proofs.Common.{map, set, replicate, drop, get_or, Option, Some, None, inl, inr, refl, sym, subst, ap, ◌∙◌, arith}
-use Rattle.std.specs.Prelude.{nat_eq, ◌==◌, slice_get, codes, position, if◌then◌else◌}
+use Rattle.std.proofs.Common.{◌≡◌, ℕ, zero, suc, ◌+◌, ◌<◌, Bool, true, false, ◌||◌, List, [], ◌∷◌, ◌++◌, length}
+use Rattle.std.proofs.Common.{map, set, replicate, drop, get_or, Option, Some, None, inl, inr, refl, sym, ap, ◌∙◌, arith}
+use Rattle.std.specs.Prelude.{nat_eq, ◌==◌, slice_get, codes, position}
 use Rattle.std.specs.Option.{option_map, option_map_or}
 use Rattle.std.specs.List.{list_any}
 use Rattle.std.specs.Char.{to_ascii_lowercase}
@@ -27,7 +27,7 @@ use Rattle.ad_entries.specs.Entry.{asks_for, is_asked}
 use Rattle.ad_entries.specs.Rising.{is_in}
 use Rattle.ad_entries.specs.Places.{is_asked_of, is_asked_at}
 use Rattle.ad_entries.specs.Asked.{AsksAll, AreFlags, LeavesUnflagged, Flags, LeavesUnasked, PushesNamed}
-use Rattle.ad_entries.specs.Asked.{IsUncomputed, LeavesUncomputed}
+use Rattle.ad_entries.specs.Asked.{LeavesUncomputed}
 use Rattle.ad_dir_model.proofs.AdminCount.{places_apart}
 use Rattle.ad_entries.proofs.ListLaws.{neither, apart, or_true, or_none}
 

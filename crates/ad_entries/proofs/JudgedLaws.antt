@@ -1,6 +1,6 @@
 -- What is judged of one object holds of each that has its descriptor and class, and to whose identifier the holders
 -- answer alike.
-use Rattle.std.proofs.Common.{◌≡◌, ℕ, ◌+◌, ◌<◌, ◌≤◌, Bool, true, false, ◌&&◌, ◌||◌, List, [], ◌∷◌, ◌++◌, length}
+use Rattle.std.proofs.Common.{◌≡◌, ℕ, ◌<◌, ◌≤◌, Bool, true, false, ◌&&◌, ◌||◌, List, [], ◌∷◌, ◌++◌, length}
 use Rattle.std.proofs.Common.{get_or, replicate, ◌⊎◌, Option, Some, None, inl, inr, IfSome, refl, sym, subst, ap, ◌∙◌, arith}
 use Rattle.std.specs.Prelude.{not, nat_eq, slice_get, slice_set}
 use Rattle.std.specs.List.{AllByRecursion}

@@ -1,4 +1,4 @@
-use Rattle.std.proofs.Common.{Bool, List, sym, subst}
+use Rattle.std.proofs.Common.{sym, subst}
 use Rattle.ad_entries.specs.Asked.{AreFlags}
 use Rattle.ad_entries.proofs.AskedLaws.{all_set}
 use Rattle.ad_entries.proofs.asking.all_flags.Goals as goal

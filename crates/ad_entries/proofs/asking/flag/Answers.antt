@@ -1,4 +1,4 @@
-use Rattle.std.proofs.Common.{◌≡◌, ℕ, List, true, sym, subst, ◌∙◌}
+use Rattle.std.proofs.Common.{ℕ, List, true, sym, subst}
 use Rattle.std.specs.Prelude.{◌==◌, slice_set}
 use Rattle.ad_entries.specs.Asked.{Flags}
 use Rattle.ad_entries.proofs.AskedLaws.{flag_set, flag_there}

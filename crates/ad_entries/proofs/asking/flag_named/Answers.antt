@@ -1,4 +1,4 @@
-use Rattle.std.proofs.Common.{◌≡◌, ℕ, Option, false, OnOk, sym, subst}
+use Rattle.std.proofs.Common.{ℕ, Option, false, OnOk, sym, subst}
 use Rattle.std.specs.Prelude.{◌==◌}
 use Rattle.std.specs.Option.{option_map, option_map_or}
 use Rattle.ad_schema.specs.declared.info.AttrId.{AttrId}

@@ -1,7 +1,7 @@
-use Rattle.std.proofs.Common.{◌≡◌, false, sym, subst, ◌∙◌, arith}
+use Rattle.std.proofs.Common.{sym, ◌∙◌, arith}
 use Rattle.std.proofs.lemmas.List.{drop_all}
 use Rattle.ad_entries.proofs.ListLaws.{from_here}
-use Rattle.ad_entries.proofs.AskedLaws.{none_begins, one_more, flags_end, leaves_unasked, all_by_none, all_by_every}
+use Rattle.ad_entries.proofs.AskedLaws.{one_more, flags_end, leaves_unasked, all_by_none, all_by_every}
 use Rattle.ad_entries.proofs.asking.flags_of.Goals as goal
 
 pub loop-asked-preserved : goal.loop-asked-preserved

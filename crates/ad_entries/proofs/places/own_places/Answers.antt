@@ -1,7 +1,6 @@
-use Rattle.std.proofs.Common.{◌≡◌, ◌++◌, List, ℕ, map, sym, subst, ap, ◌∙◌}
+use Rattle.std.proofs.Common.{◌≡◌, ◌++◌, List, ℕ, map, subst, ap, ◌∙◌}
 use Rattle.std.specs.Prelude.{filter}
 use Rattle.ad_schema.specs.Classes.{naming_of}
-use Rattle.ad_schema.specs.declared.info.ClassInfo.{ClassInfo}
 use Rattle.ad_schema.specs.declared.line.SchemaRecord.{SchemaRecord}
 use Rattle.ad_schema.specs.declared.info.AttrId.{AttrId}
 use Rattle.ad_schema.proofs.LookupLemmas.{class_naming}

@@ -1,4 +1,4 @@
-use Rattle.std.proofs.Common.{◌≡◌, Bool, ◌&&◌, sym, ap, ◌∙◌, arith}
+use Rattle.std.proofs.Common.{Bool, ◌&&◌, sym, ap, ◌∙◌}
 use Rattle.ad_ldap.specs.MessageValue.{search_seen}
 use Rattle.ad_entries.specs.Places.{is_readable_at}
 use Rattle.ad_entries.proofs.JudgedLaws.{none_asked}
