@@ -80,6 +80,13 @@ def attributes(count):
     return asked(BASE, [search(BOB, attributes=[value.decode() for value in several(count, "a")])], 0)
 
 
+@case("attributes-entries", 400, 100)
+def attributes_entries(count):
+    """A search of so many objects that asks for four times as many attributes by name, and for one as often."""
+    names = [value.decode() for value in several(4 * count, "a")] + 4 * count * ["description"]
+    return asked(with_users(count), [search(ROOT, attributes=names, scope=2)], 0)
+
+
 @case("controls", 2000, 500)
 def controls(count):
     """So many different controls."""

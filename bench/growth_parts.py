@@ -39,10 +39,10 @@ def message(request, controls=()):
     return frame(2, 1, ber.sequence(ber.number(1), request, *behind))
 
 
-def search(base, filter_of=PRESENT, attributes=("cn",)):
-    nothing, enumerated = ber.number(0), ber.number(0, ber.ENUMERATED)
+def search(base, filter_of=PRESENT, attributes=("cn",), scope=0):
+    nothing, never = ber.number(0), ber.number(0, ber.ENUMERATED)
     names = ber.sequence(*(ber.octets(name.encode()) for name in attributes))
-    head = ber.octets(base.encode()), enumerated, enumerated, nothing, nothing, ber.truth(False)
+    head = ber.octets(base.encode()), ber.number(scope, ber.ENUMERATED), never, nothing, nothing, ber.truth(False)
     return ber.sequence(*head, filter_of, names, tag=0x63)
 
 

@@ -1,8 +1,7 @@
 -- The attributes of an entry, one after the other.
-use Rattle.std.proofs.Common.{◌≡◌, ℕ, suc, ◌+◌, ◌<◌, ◌≤◌, Bool, true, false, ◌&&◌, ◌||◌, List, [], ◌∷◌, ◌++◌, map}
-use Rattle.std.proofs.Common.{length, drop, get_or, Option, Some, None, refl, sym, subst, ap, ◌∙◌, append_assoc}
-use Rattle.std.proofs.Common.{arith}
-use Rattle.std.specs.Prelude.{not, slice_get, if◌then◌else◌, option_to_list, option_map, ◌==◌, Result}
+use Rattle.std.proofs.Common.{◌≡◌, ℕ, ◌+◌, ◌<◌, ◌≤◌, Bool, true, false, ◌&&◌, ◌||◌, List, [], ◌++◌, map}
+use Rattle.std.proofs.Common.{length, drop, get_or, Option, Some, None, refl, sym, ap, ◌∙◌, append_assoc}
+use Rattle.std.specs.Prelude.{not, if◌then◌else◌, option_to_list, option_map, ◌==◌, Result}
 use Rattle.std.proofs.lemmas.List.{append-nil, drop_all, drop_more}
 use Rattle.std.proofs.lemmas.Bool.{and_parts, both_ways}
 use Rattle.ad_ids.specs.SidValue.{SidValue}
@@ -17,7 +16,6 @@ use Rattle.ad_sd.specs.Shown.{asked, parts_shown}
 use Rattle.ad_sd.specs.Writing.{written}
 use Rattle.ad_value.specs.Value.{Value}
 use Rattle.ad_schema.specs.declared.info.AttrInfo.{AttrInfo}
-use Rattle.ad_schema.specs.Attributes.{attrs_of}
 use Rattle.ad_ldap.specs.MessageValue.{SearchValue}
 use Rattle.ad_dir_model.specs.Object.{Object}
 use Rattle.ad_dir_model.specs.Objects.{sd_at, object_of}

@@ -1,6 +1,6 @@
 -- What is judged of one object holds of each that has its descriptor and class, and to whose identifier the holders
 -- answer alike.
-use Rattle.std.proofs.Common.{◌≡◌, ℕ, ◌+◌, ◌<◌, ◌≤◌, Bool, true, false, ◌&&◌, ◌||◌, List, [], ◌∷◌, ◌++◌, length}
+use Rattle.std.proofs.Common.{◌≡◌, ℕ, ◌<◌, ◌≤◌, Bool, true, false, ◌&&◌, ◌||◌, List, [], ◌∷◌, ◌++◌, length}
 use Rattle.std.proofs.Common.{get_or, replicate, ◌⊎◌, Option, Some, None, inl, inr, IfSome, refl, sym, subst, ap, ◌∙◌, arith}
 use Rattle.std.specs.Prelude.{not, nat_eq, slice_get, slice_set}
 use Rattle.std.specs.List.{AllByRecursion}
@@ -32,7 +32,7 @@ use Rattle.ad_access_dir.specs.Sight.{is_granted}
 use Rattle.ad_entries.specs.declared.kinds.Own.{Own}
 use Rattle.ad_entries.specs.declared.kinds.Kind.{Kind}
 use Rattle.ad_entries.specs.Seen.{is_never_read, is_granted_on, is_readable}
-use Rattle.ad_entries.specs.Entry.{is_asked, changing_attrs}
+use Rattle.ad_entries.specs.Entry.{changing_attrs}
 use Rattle.ad_entries.specs.Kinds.{AnswersSo, IsOf}
 use Rattle.ad_entries.specs.Places.{is_asked_of, is_asked_at, is_readable_of, is_readable_at}
 use Rattle.ad_entries.specs.Verdicts.{AreTrue, KnowsOf}
@@ -139,11 +139,6 @@ pub readable_here : (dir : Directory) (token : Token) (number attr : ℕ) (info 
     → is_readable dir token number attr info ≡ is_readable_at dir token number attr
 unfolding is_readable_at
 readable_here dir token number attr info is = sym (ap (is_readable_of dir token number attr) is)
-
-pub asked_here : (schema : List SchemaRecord) (sent : List (List ℕ)) (attr : ℕ) (info : AttrInfo)
-    → slice_get (attrs_of schema) attr ≡ Some info → is_asked sent info.name ≡ is_asked_at schema sent attr
-unfolding is_asked_at
-asked_here schema sent attr info is = sym (ap (is_asked_of sent) is)
 
 pub none_asked : (schema : List SchemaRecord) (sent : List (List ℕ)) (attr : ℕ) → length (attrs_of schema) ≤ attr
     → is_asked_at schema sent attr ≡ false

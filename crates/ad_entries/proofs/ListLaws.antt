@@ -30,6 +30,14 @@ pub or_false : (a b : Bool) → a ≡ false → b ≡ false → a || b ≡ false
 or_false true b first second = first
 or_false false b first second = second
 
+pub or_true : (a : Bool) → (a || true) ≡ true
+or_true true = refl
+or_true false = refl
+
+pub or_none : (a : Bool) → (a || false) ≡ a
+or_none true = refl
+or_none false = refl
+
 pub neither : (a b : Bool) → a || b ≡ false → (a ≡ false) × (b ≡ false)
 neither true b lacks = absurd (both_ways true lacks refl)
 neither false b lacks = (refl, lacks)

@@ -1,12 +1,13 @@
 -- What is told of rising numbers is what is told of all numbers of which anything is told.
-use Rattle.std.proofs.Common.{◌≡◌, ℕ, zero, suc, ◌+◌, ◌<◌, ◌≤◌, Bool, true, false, ◌&&◌, ◌||◌, List, [], ◌∷◌, ◌++◌}
+use Rattle.std.proofs.Common.{◌≡◌, ℕ, suc, ◌+◌, ◌<◌, ◌≤◌, Bool, true, false, ◌&&◌, ◌||◌, List, [], ◌∷◌, ◌++◌}
 use Rattle.std.proofs.Common.{length, inl, inr, refl, sym, subst, ap, ◌∙◌, arith}
-use Rattle.std.specs.Prelude.{nat_eq, ◌==◌, filter, if◌then◌else◌}
+use Rattle.std.specs.Prelude.{nat_eq, filter}
 use Rattle.std.specs.List.{AllPairs, flat_map}
 use Rattle.std.specs.List.Sorted.{IsStrictlyIncreasing}
-use Rattle.std.proofs.lemmas.Bool.{cases_Bool, cases_lt, eqb-true, eq-eqb, ne_eqb, both_ways}
+use Rattle.std.proofs.lemmas.Bool.{cases_Bool, cases_lt, eqb-true, eq-eqb, ne_eqb}
 use Rattle.std.proofs.lemmas.List.Kept.{AllPairs-from_increasing}
 use Rattle.ad_entries.specs.Rising.{is_in}
+use Rattle.ad_entries.proofs.ListLaws.{or_true}
 
 -- ---- numbers in a list
 
@@ -32,10 +33,6 @@ in_filter test n (x ∷ xs) = elim (cases_Bool (nat_eq n x)) [
 
 pub is_first : (x : ℕ) (xs : List ℕ) → is_in x (x ∷ xs) ≡ true
 is_first x xs = rw (eq-eqb x x refl) refl
-
-or_true : (a : Bool) → (a || true) ≡ true
-or_true true = refl
-or_true false = refl
 
 pub is_further : (n x : ℕ) (xs : List ℕ) → is_in n xs ≡ true → is_in n (x ∷ xs) ≡ true
 is_further n x xs there = ap (λ (b : Bool). nat_eq n x || b) there ∙ or_true (nat_eq n x)

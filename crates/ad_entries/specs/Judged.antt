@@ -1,5 +1,5 @@
 -- What is judged in a search of the objects of each kind, once.
-use Rattle.std.specs.Prelude.{◌≡◌, ℕ, true, List}
+use Rattle.std.specs.Prelude.{◌≡◌, ℕ, true}
 use Rattle.std.specs.List.{AllByRecursion}
 use Rattle.ad_ids.specs.declared.token.Token.{Token}
 use Rattle.ad_ldap.specs.MessageValue.{SearchValue}

@@ -1,5 +1,5 @@
 -- Which attributes an entry has, by their places in the schema.
-use Rattle.std.specs.Prelude.{◌≡◌, ℕ, suc, Bool, true, false, ◌&&◌, if◌then◌else◌, Option, Some, None, slice_get}
+use Rattle.std.specs.Prelude.{◌≡◌, ℕ, Bool, true, false, ◌&&◌, if◌then◌else◌, Option, Some, None, slice_get}
 use Rattle.std.specs.Prelude.{option_to_list, List, [], ◌∷◌, ◌++◌, map}
 use Rattle.std.specs.List.Sorted.{IsStrictlyIncreasing}
 use Rattle.ad_ids.specs.declared.token.Token.{Token}

@@ -1,50 +1,44 @@
-//! Which attributes a search asks for.
+//! Which attributes a search asks for. Each name that was sent is looked up once, however many there are: then a flag
+//! for each attribute of the schema tells whether it is asked for.
 
-ghost use Rattle.std.specs.Prelude.{◌≡◌, codes, IfOk, IfSome, OnOk};
+ghost use Rattle.std.specs.Prelude.{◌≡◌, ◌<◌, ◌==◌, false, codes, length, slice_index_or, IfOk, IfSome, OnOk};
 ghost use Rattle.std.specs.Str.{bytes_eq};
-ghost use Rattle.ad_entries.specs.Entry.{asks_for, is_asked};
-ghost use Rattle.ad_entries.specs.Asked.{PushesNamed, LeavesUnasked, LeavesUncomputed, AreAsked};
+ghost use Rattle.ad_schema.specs.Attributes.{attrs_of};
+ghost use Rattle.ad_dir_model.specs.Attributes.{is_named};
+ghost use Rattle.ad_entries.specs.Asked.{AreFlags, Flags, LeavesUnasked, PushesNamed, LeavesUncomputed};
+ghost use Rattle.ad_entries.specs.Asked.{AsksAll, AreApart, AreAsked};
 
+use crate::changing::{ATTRIBUTES, CHILDREN, PARTS, is_sent};
+use crate::descriptor::is_descriptor_asked;
 use ad_bytes::Bytes;
 use ad_schema::{Schema, names_are_distinct};
-use ad_schema_classes::same_name;
 use std::alloc::{AllocError, Global};
 
 /// What asks for all attributes (RFC 4511 4.5.1.8).
 const EVERY: &[u8] = b"*";
 
-// So many names are looked up, and of more each attribute of an object is asked whether one is its own.
-const FEW: usize = 16;
-
-/// What a search asks for, as places of attributes.
+/// What a search asks for.
 #[derive(Drop)]
-pub enum Asked {
-    /// Those that are asked for by name, where they are few.
-    Few(Vec<u32>),
-    /// Otherwise those that objects of each class show without storing them.
-    Own(Vec<u32>),
+pub struct Asked {
+    /// Of each attribute by its place whether it is asked for.
+    pub flags: Vec<bool>,
+    /// The places of those that are asked for, each once, unless all are.
+    pub named: Option<Vec<u32>>,
+    /// The places of those that objects of each class show without storing them.
+    pub computed: Vec<u32>,
+    pub apart: Apart,
 }
 
-fn asks_for(name: &[u8], sent: &[u8]) -> bool
-    ensures { result ≡ asks_for name.now sent.now }
-{
-    sent == EVERY || same_name(name, sent)
-}
-
-/// Whether an attribute is asked for.
-#[tactic(auto, unfolding(crate::specs::Entry::is_asked))]
-pub(crate) fn is_asked(sent: &[Bytes], name: &[u8]) -> bool
-    ensures { result ≡ is_asked sent.now name.now }
-{
-    if sent.is_empty() {
-        return true;
-    }
-    for asked in sent {
-        if asks_for(name, asked.as_slice()) {
-            return true;
-        }
-    }
-    false
+/// Which of those that are asked for by their names alone a search asks for.
+#[derive(Clone, Copy)]
+pub struct Apart {
+    pub descriptor: bool,
+    /// The attributes that the token may write.
+    pub attributes: bool,
+    /// The classes of which it may create a child.
+    pub children: bool,
+    /// The parts of the descriptor that it may write.
+    pub parts: bool,
 }
 
 fn is_every(sent: &[u8]) -> bool
@@ -52,6 +46,93 @@ fn is_every(sent: &[u8]) -> bool
 {
     sent == EVERY
 }
+
+// ---- flags
+
+/// Whether the attribute at a place is flagged.
+pub(crate) fn is_flagged(flags: &[bool], place: u32) -> bool
+    ensures { result ≡ slice_index_or flags.now place false }
+{
+    match flags.get(place as usize) {
+        Some(flag) => *flag,
+        None => false,
+    }
+}
+
+// Flags the attribute at a place, and puts the place at the end of those that are flagged, if it isn't there.
+fn flag(place: u32, flags: &mut Vec<bool>, named: &mut Vec<u32>) -> Result<(), AllocError>
+    requires { place < length flags.old.items }
+    ensures { OnOk result (Flags (λ other. place == other) flags.old.items flags.new.items
+        named.old.items named.new.items) }
+{
+    if is_flagged(flags.as_slice(), place) {
+        return Ok(());
+    }
+    named.push(place)?;
+    flags[place as usize] = true;
+    Ok(())
+}
+
+// The same for the attribute that a name leads to, if it leads to one.
+fn flag_named(
+    schema: &Schema,
+    name: &[u8],
+    flags: &mut Vec<bool>,
+    named: &mut Vec<u32>,
+) -> Result<(), AllocError>
+    requires { length flags.old.items ≡ length (attrs_of schema.now) }
+    ensures { OnOk result (Flags (is_named schema.now name.now) flags.old.items flags.new.items
+        named.old.items named.new.items) }
+{
+    match schema.attr(name) {
+        Some(attr) => flag(attr.0, flags, named),
+        None => Ok(()),
+    }
+}
+
+// The flags, each set, where all attributes are asked for.
+fn all_flags(
+    alloc: Global,
+    schema: &Schema,
+    sent: &[Bytes],
+) -> Result<(Vec<bool>, Option<Vec<u32>>), AllocError>
+    requires { AsksAll sent.now }
+    ensures flags { IfOk result (λ it. AreFlags schema.now sent.now it.0.items) }
+    ensures named { IfOk result (λ it. IfSome it.1 (λ named. LeavesUnasked schema.now sent.now
+        named.items)) }
+{
+    let _ = sent;
+    let flags = vec![in alloc; true; schema.attrs().len()]?;
+    Ok((flags, None))
+}
+
+// The flags of what is asked for, and the places that are flagged, unless all are.
+fn flags_of(
+    alloc: Global,
+    schema: &Schema,
+    sent: &[Bytes],
+) -> Result<(Vec<bool>, Option<Vec<u32>>), AllocError>
+    ensures flags { IfOk result (λ it. AreFlags schema.now sent.now it.0.items) }
+    ensures named { IfOk result (λ it. IfSome it.1 (λ named. LeavesUnasked schema.now sent.now
+        named.items)) }
+{
+    schema.make_schema();
+    names_are_distinct();
+    if sent.is_empty() {
+        return all_flags(alloc, schema, sent);
+    }
+    let mut flags = vec![in alloc; false; schema.attrs().len()]?;
+    let mut named = Vec::new(alloc);
+    for asked in sent {
+        if is_every(asked.as_slice()) {
+            return all_flags(alloc, schema, sent);
+        }
+        flag_named(schema, asked.as_slice(), &mut flags, &mut named)?;
+    }
+    Ok((flags, Some(named)))
+}
+
+// ---- what objects show without storing it
 
 // Puts the place of the attribute that a name leads to at the end, if it leads to one.
 fn push_named(schema: &Schema, name: &[u8], places: &mut Vec<u32>) -> Result<(), AllocError>
@@ -61,25 +142,6 @@ fn push_named(schema: &Schema, name: &[u8], places: &mut Vec<u32>) -> Result<(),
         places.push(attr.0)?;
     }
     Ok(())
-}
-
-// The places of the attributes that are asked for by their names, where those are few.
-fn few_asked(alloc: Global, schema: &Schema, sent: &[Bytes]) -> Result<Option<Vec<u32>>, AllocError>
-    ensures { IfOk result (λ few. IfSome few (λ few. LeavesUnasked schema.now sent.now few.items)) }
-{
-    schema.make_schema();
-    names_are_distinct();
-    if sent.is_empty() || sent.len() > FEW {
-        return Ok(None);
-    }
-    let mut few = Vec::new(alloc);
-    for asked in sent {
-        if is_every(asked.as_slice()) {
-            return Ok(None);
-        }
-        push_named(schema, asked.as_slice(), &mut few)?;
-    }
-    Ok(Some(few))
 }
 
 // The places of the attributes that objects of each class show without storing them.
@@ -93,6 +155,17 @@ fn computed(alloc: Global, schema: &Schema) -> Result<Vec<u32>, AllocError>
     Ok(places)
 }
 
+fn apart_of(sent: &[Bytes]) -> Apart
+    ensures { AreApart sent.now result }
+{
+    Apart {
+        descriptor: is_descriptor_asked(sent),
+        attributes: is_sent(sent, ATTRIBUTES),
+        children: is_sent(sent, CHILDREN),
+        parts: is_sent(sent, PARTS),
+    }
+}
+
 /// What a search asks for, and what objects show without storing it.
 ///
 /// # Errors
@@ -101,8 +174,12 @@ fn computed(alloc: Global, schema: &Schema) -> Result<Vec<u32>, AllocError>
 pub(crate) fn asked_of(alloc: Global, schema: &Schema, sent: &[Bytes]) -> Result<Asked, AllocError>
     ensures { IfOk result (λ asked. AreAsked schema.now sent.now asked) }
 {
-    match few_asked(alloc, schema, sent)? {
-        Some(few) => Ok(Asked::Few(few)),
-        None => Ok(Asked::Own(computed(alloc, schema)?)),
-    }
+    let (flags, named) = flags_of(alloc, schema, sent)?;
+    let computed = computed(alloc, schema)?;
+    Ok(Asked {
+        flags,
+        named,
+        computed,
+        apart: apart_of(sent),
+    })
 }

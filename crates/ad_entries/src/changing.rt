@@ -8,7 +8,9 @@ ghost use Rattle.ad_constructed_dir.specs.Changing.{changing_of};
 ghost use Rattle.ad_entries.specs.Given.{given_values};
 ghost use Rattle.ad_entries.specs.Entry.{values_if, attributes_name, children_name, parts_name, is_sent};
 ghost use Rattle.ad_entries.specs.Entry.{changing_attr, changing_attrs};
+ghost use Rattle.ad_entries.specs.Asked.{AreApart};
 
+use crate::asking::Apart;
 use crate::entry::push_if;
 use ad_bytes::{Bytes, List};
 use ad_constructed_dir::{attributes_written, children_created, parts_written};
@@ -19,11 +21,11 @@ use ad_schema_classes::same_name;
 use itoa::Buffer;
 use std::alloc::{AllocError, Global};
 
-const ATTRIBUTES: &[u8] = b"allowedAttributesEffective";
+pub(crate) const ATTRIBUTES: &[u8] = b"allowedAttributesEffective";
 
-const CHILDREN: &[u8] = b"allowedChildClassesEffective";
+pub(crate) const CHILDREN: &[u8] = b"allowedChildClassesEffective";
 
-const PARTS: &[u8] = b"sDRightsEffective";
+pub(crate) const PARTS: &[u8] = b"sDRightsEffective";
 
 /// Whether some name that was sent is this one.
 #[tactic(auto, unfolding(crate::specs::Entry::is_sent))]
@@ -100,13 +102,15 @@ fn attributes_given(
     token: &Token,
     number: u32,
     search: &Search,
+    asked: bool,
 ) -> Result<Option<(Bytes, List<Bytes>)>, AllocError>
-    requires { is_live dir.now.objects number ≡ true }
+    requires live { is_live dir.now.objects number ≡ true }
+    requires asked { asked ≡ is_sent (search_seen search.now).attrs attributes_name }
     ensures { IfOk result (λ given. option_to_list given
         ≡ changing_attr (search_seen search.now) attributes_name
         (changing_of dir.now token.now number).attributes) }
 {
-    if !is_sent(search.attrs.as_slice(), ATTRIBUTES) {
+    if !asked {
         return Ok(None);
     }
     let names = attributes_written(alloc, dir, token, number)?;
@@ -119,13 +123,15 @@ fn children_given(
     token: &Token,
     number: u32,
     search: &Search,
+    asked: bool,
 ) -> Result<Option<(Bytes, List<Bytes>)>, AllocError>
-    requires { is_live dir.now.objects number ≡ true }
+    requires live { is_live dir.now.objects number ≡ true }
+    requires asked { asked ≡ is_sent (search_seen search.now).attrs children_name }
     ensures { IfOk result (λ given. option_to_list given
         ≡ changing_attr (search_seen search.now) children_name
         (changing_of dir.now token.now number).children) }
 {
-    if !is_sent(search.attrs.as_slice(), CHILDREN) {
+    if !asked {
         return Ok(None);
     }
     let names = children_created(alloc, dir, token, number)?;
@@ -139,12 +145,14 @@ fn parts_given(
     token: &Token,
     number: u32,
     search: &Search,
+    asked: bool,
 ) -> Result<Option<(Bytes, List<Bytes>)>, AllocError>
-    requires { is_live dir.now.objects number ≡ true }
+    requires live { is_live dir.now.objects number ≡ true }
+    requires asked { asked ≡ is_sent (search_seen search.now).attrs parts_name }
     ensures { IfOk result (λ given. option_to_list given ≡ changing_attr (search_seen search.now)
         parts_name (changing_of dir.now token.now number).parts) }
 {
-    if !is_sent(search.attrs.as_slice(), PARTS) {
+    if !asked {
         return Ok(None);
     }
     let values = number_value(alloc, parts_written(dir, token, number))?;
@@ -159,17 +167,19 @@ pub(crate) fn changing_attrs(
     token: &Token,
     number: u32,
     search: &Search,
+    apart: Apart,
 ) -> Result<List<(Bytes, List<Bytes>)>, AllocError>
-    requires { is_live dir.now.objects number ≡ true }
+    requires live { is_live dir.now.objects number ≡ true }
+    requires apart { AreApart (search_seen search.now).attrs apart }
     ensures { IfOk result (λ attrs. attrs ≡ changing_attrs (search_seen search.now)
         (changing_of dir.now token.now number)) }
 {
     let mut attrs = List::new(alloc);
-    let attributes = attributes_given(alloc, dir, token, number, search)?;
+    let attributes = attributes_given(alloc, dir, token, number, search, apart.attributes)?;
     push_if(&mut attrs, attributes)?;
-    let children = children_given(alloc, dir, token, number, search)?;
+    let children = children_given(alloc, dir, token, number, search, apart.children)?;
     push_if(&mut attrs, children)?;
-    let parts = parts_given(alloc, dir, token, number, search)?;
+    let parts = parts_given(alloc, dir, token, number, search, apart.parts)?;
     push_if(&mut attrs, parts)?;
     Ok(attrs)
 }

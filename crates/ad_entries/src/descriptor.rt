@@ -51,9 +51,9 @@ fn is_named_so(sent: &[u8]) -> bool
     same_name(NAME, sent)
 }
 
-// It is asked for by its name.
+/// Whether it is asked for by its name.
 #[tactic(auto, unfolding(crate::specs::Entry::is_descriptor_asked))]
-fn is_descriptor_asked(sent: &[Bytes]) -> bool
+pub(crate) fn is_descriptor_asked(sent: &[Bytes]) -> bool
     ensures { result ≡ is_descriptor_asked sent.now }
 {
     for name in sent {
@@ -118,21 +118,24 @@ fn written(alloc: Global, dir: &Dir, number: u32, flags: u8) -> Result<Descripto
     }
 }
 
-/// What an entry has of the descriptor.
+/// What an entry has of the descriptor, where it is told whether it is asked for.
 #[tactic(auto, unfolding(crate::specs::Entry::descriptor_given))]
-pub fn descriptor_given(
+pub(crate) fn descriptor_given(
     alloc: Global,
     dir: &Dir,
     token: &Token,
     number: u32,
     search: &Search,
+    asked: bool,
     flags: u8,
 ) -> Result<Descriptor, AllocError>
-    requires { is_live dir.now.objects number ≡ true }
+    requires live { is_live dir.now.objects number ≡ true }
+    requires asked { asked ≡ is_descriptor_asked (search_seen search.now).attrs }
     ensures { IfOk result (λ d. descriptor_seen d ≡ descriptor_given (search_seen search.now) flags
         (parts_read dir.now token.now number)) }
 {
-    if !is_descriptor_asked(search.attrs.as_slice()) {
+    let _ = search;
+    if !asked {
         return Ok(Descriptor::Absent);
     }
     if !are_read(dir, token, number, flags) {

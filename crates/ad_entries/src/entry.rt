@@ -8,7 +8,7 @@ ghost use Rattle.ad_dir_model.specs.Names.{rdns_of};
 ghost use Rattle.ad_entries.specs.Seen.{reads_from, seen_of};
 ghost use Rattle.ad_constructed_dir.specs.Changing.{changing_of};
 ghost use Rattle.ad_entries.specs.Entry.{values_if, attrs_given, changing_attrs, descriptor_attr};
-ghost use Rattle.ad_entries.specs.Entry.{entry_of};
+ghost use Rattle.ad_entries.specs.Entry.{is_descriptor_asked, entry_of};
 ghost use Rattle.ad_entries.specs.Given.{descriptor_seen, given_if, made_seen};
 ghost use Rattle.ad_entries.specs.Places.{shown_at, shown_at_each, HasPlaces};
 
@@ -179,8 +179,8 @@ fn descriptor_attr(
 
 // ---- the entry
 
-/// The entry of an object of this name, which has the attributes at these places, and of which so much is asked of
-/// what the token may change.
+/// The entry of an object of this name, which has the attributes at these places, and of which the token may change so
+/// much. It has the descriptor where that is asked for.
 #[tactic(auto, unfolding(crate::specs::Entry::entry_of, crate::specs::Seen::seen_of))]
 pub(crate) fn entry_of(
     alloc: Global,
@@ -193,19 +193,21 @@ pub(crate) fn entry_of(
     flags: u8,
     places: &[u32],
     changing: &[(Bytes, List<Bytes>)],
+    asked: bool,
 ) -> Result<Made, AllocError>
     requires live { is_live dir.now.objects number ≡ true }
     requires name { name.now.rdns ≡ rdns_of dir.now number }
     requires places { HasPlaces dir.now token.now number (search_seen search.now) places.now }
     requires changing { changing.now ≡ changing_attrs (search_seen search.now)
         (changing_of dir.now token.now number) }
+    requires asked { asked ≡ is_descriptor_asked (search_seen search.now).attrs }
     ensures { IfOk result (λ made. made_seen made ≡ entry_of dir.now.schema id
         (search_seen search.now) flags (seen_of dir.now token.now number)) }
 {
     let name = name.text(alloc)?;
     let mut attrs = attrs_given(alloc, dir, token, number, search, places)?;
     push_copies(alloc, &mut attrs, changing)?;
-    let descriptor = descriptor_given(alloc, dir, token, number, search, flags)?;
+    let descriptor = descriptor_given(alloc, dir, token, number, search, asked, flags)?;
     let is_short = is_left_out(&descriptor);
     let last = descriptor_attr(alloc, search, descriptor)?;
     push_if(&mut attrs, last)?;

@@ -6,16 +6,17 @@ ghost use Rattle.std.specs.List.{AllByRecursion};
 ghost use Rattle.ad_ldap.specs.MessageValue.{search_seen};
 ghost use Rattle.ad_dir_model.specs.Objects.{is_live};
 ghost use Rattle.ad_dir_model.specs.Names.{rdns_of};
-ghost use Rattle.ad_entries.specs.Seen.{seen_of};
-ghost use Rattle.ad_entries.specs.Entry.{entry_of};
-ghost use Rattle.ad_entries.specs.Given.{made_seen};
-ghost use Rattle.ad_entries.specs.Asked.{AreAsked};
+ghost use Rattle.ad_entries.specs.Seen.{parts_read, seen_of};
+ghost use Rattle.ad_entries.specs.Entry.{descriptor_given, entry_of};
+ghost use Rattle.ad_entries.specs.Given.{descriptor_seen, made_seen};
+ghost use Rattle.ad_entries.specs.Asked.{AreApart, AreAsked};
 ghost use Rattle.ad_entries.specs.Kinds.{IsOf};
 ghost use Rattle.ad_entries.specs.Places.{HasPlaces};
 ghost use Rattle.ad_entries.specs.Judged.{IsJudged, AreKinds};
 
-use crate::asking::{Asked, asked_of};
+use crate::asking::{Apart, Asked, asked_of};
 use crate::changing::changing_attrs;
+use crate::descriptor::{Descriptor, descriptor_given};
 use crate::entry::{Made, entry_of};
 use crate::kinds::{Kind, kind_of, same_kind};
 use crate::places::places_of;
@@ -104,8 +105,10 @@ fn unjudged(
     token: &Token,
     number: u32,
     search: &Search,
+    apart: Apart,
     kind: Kind,
 ) -> Result<Judged, AllocError>
+    requires apart { AreApart (search_seen search.now).attrs apart }
     requires live { is_live dir.now.objects number ≡ true }
     requires sample { is_live dir.now.objects kind.sample ≡ true }
     requires kind { IsOf dir.now token.now kind number }
@@ -113,7 +116,7 @@ fn unjudged(
     ensures of { IfOk result (λ one. IsOf dir.now token.now one.kind number) }
 {
     let verdicts = vec![in alloc; None; dir.schema().attrs().len()]?;
-    let changing = changing_attrs(alloc, dir, token, number, search)?;
+    let changing = changing_attrs(alloc, dir, token, number, search, apart)?;
     Ok(Judged {
         kind,
         verdicts,
@@ -128,8 +131,10 @@ fn taken(
     token: &Token,
     number: u32,
     search: &Search,
+    apart: Apart,
     judged: &mut Vec<Judged>,
 ) -> Result<Judged, AllocError>
+    requires apart { AreApart (search_seen search.now).attrs apart }
     requires live { is_live dir.now.objects number ≡ true }
     requires judged { AllByRecursion (IsJudged dir.now token.now (search_seen search.now)) judged.old.items }
     ensures one { IfOk result (IsJudged dir.now token.now (search_seen search.now)) }
@@ -140,7 +145,7 @@ fn taken(
     let kind = kind_of(dir, token, number);
     match place_of(judged.as_slice(), dir, token, search, number, kind) {
         Some(place) => Ok(judged.swap_remove(place)),
-        None => unjudged(alloc, dir, token, number, search, kind),
+        None => unjudged(alloc, dir, token, number, search, apart, kind),
     }
 }
 
@@ -217,7 +222,8 @@ pub fn places_judged(
         (search_seen search.now) places.items) }
     ensures kinds { OnOk result (AreKinds dir.now token.now (search_seen search.now) kinds.new) }
 {
-    let mut one = taken(alloc, dir, token, number, search, &mut kinds.judged)?;
+    let apart = kinds.asked.apart;
+    let mut one = taken(alloc, dir, token, number, search, apart, &mut kinds.judged)?;
     let places = places_by(alloc, dir, token, number, search, &kinds.asked, &mut one)?;
     put_back(dir, token, search, one, &mut kinds.judged)?;
     Ok(places)
@@ -247,7 +253,8 @@ pub fn entry_judged(
         (search_seen search.now) flags (seen_of dir.now token.now number)) }
     ensures kinds { OnOk result (AreKinds dir.now token.now (search_seen search.now) kinds.new) }
 {
-    let mut one = taken(alloc, dir, token, number, search, &mut kinds.judged)?;
+    let apart = kinds.asked.apart;
+    let mut one = taken(alloc, dir, token, number, search, apart, &mut kinds.judged)?;
     let places = places_by(alloc, dir, token, number, search, &kinds.asked, &mut one)?;
     let made = entry_of(
         alloc,
@@ -260,7 +267,38 @@ pub fn entry_judged(
         flags,
         places.as_slice(),
         one.changing.as_slice(),
+        apart.descriptor,
     )?;
     put_back(dir, token, search, one, &mut kinds.judged)?;
     Ok(made)
+}
+
+/// What the entry has of the descriptor of a live object.
+///
+/// # Errors
+///
+/// Out of memory.
+pub fn descriptor_judged(
+    alloc: Global,
+    dir: &Dir,
+    token: &Token,
+    number: u32,
+    search: &Search,
+    flags: u8,
+    kinds: &Kinds,
+) -> Result<Descriptor, AllocError>
+    requires live { is_live dir.now.objects number ≡ true }
+    requires kinds { AreKinds dir.now token.now (search_seen search.now) kinds.now }
+    ensures { IfOk result (λ d. descriptor_seen d ≡ descriptor_given (search_seen search.now) flags
+        (parts_read dir.now token.now number)) }
+{
+    descriptor_given(
+        alloc,
+        dir,
+        token,
+        number,
+        search,
+        kinds.asked.apart.descriptor,
+        flags,
+    )
 }

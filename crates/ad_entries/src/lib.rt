@@ -20,8 +20,9 @@
 //!
 //! # Cost
 //!
-//! What the object has: an attribute that it doesn't show isn't looked at, and whether one may be read is judged once
-//! for the objects of one descriptor and class.
+//! Each name that is asked for is looked up once in a search. Then an entry costs what its object has, or as many
+//! attributes as are asked for by name, where these are fewer; and whether one may be read is judged once for the
+//! objects of one descriptor and class.
 #![tactic(auto)]
 
 mod asking;
@@ -35,10 +36,10 @@ mod reading;
 mod rising;
 mod verdicts;
 
-pub use asking::Asked;
-pub use descriptor::{Descriptor, descriptor_given};
+pub use asking::{Apart, Asked};
+pub use descriptor::Descriptor;
 pub use entry::Made;
-pub use judged::{Judged, Kinds, entry_judged, no_kinds, places_judged};
+pub use judged::{Judged, Kinds, descriptor_judged, entry_judged, no_kinds, places_judged};
 pub use kinds::{Kind, Own};
 pub use reading::{Sight, is_readable, values_named};
 pub use rising::rise;

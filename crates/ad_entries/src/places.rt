@@ -1,12 +1,12 @@
 //! Of which attributes an entry has something: told from what its object stores and shows beside, so that of the
 //! others nothing is judged.
 
-ghost use Rattle.std.specs.Prelude.{◌≡◌, ◌++◌, true, filter, map, IfOk, OnOk};
+ghost use Rattle.std.specs.Prelude.{◌≡◌, ◌+◌, ◌++◌, true, nat_le, length, filter, map, IfOk, OnOk};
 ghost use Rattle.ad_ldap.specs.MessageValue.{search_seen};
 ghost use Rattle.ad_dir_objects.specs.Seen.{held_seen};
-ghost use Rattle.ad_dir_model.specs.Objects.{is_live};
+ghost use Rattle.ad_dir_model.specs.Objects.{is_live, object_at};
 ghost use Rattle.ad_entries.specs.Kinds.{IsOf};
-ghost use Rattle.ad_entries.specs.Asked.{LeavesUnasked, LeavesUncomputed, AreAsked};
+ghost use Rattle.ad_entries.specs.Asked.{LeavesUnasked, AreAsked};
 ghost use Rattle.ad_entries.specs.Places.{place_if, is_given_at, HasPlaces};
 ghost use Rattle.ad_entries.specs.Verdicts.{KnowsOf};
 
@@ -36,11 +36,13 @@ fn push_given(
     token: &Token,
     number: u32,
     search: &Search,
+    asked: &Asked,
     place: u32,
     kind: Kind,
     verdicts: &mut Vec<Option<bool>>,
     places: &mut Vec<u32>,
 ) -> Result<(), AllocError>
+    requires asked { AreAsked dir.now.schema (search_seen search.now).attrs asked.now }
     requires live { is_live dir.now.objects number ≡ true }
     requires kind { IsOf dir.now token.now kind number }
     requires known { KnowsOf dir.now token.now kind verdicts.old.items }
@@ -48,7 +50,7 @@ fn push_given(
         ++ place_if (is_given_at dir.now token.now number (search_seen search.now) place) place) }
     ensures known { KnowsOf dir.now token.now kind verdicts.new.items }
 {
-    let so = is_given(dir, token, number, search, place, kind, verdicts);
+    let so = is_given(dir, token, number, search, asked, place, kind, verdicts);
     push_place(places, so, place)
 }
 
@@ -58,11 +60,13 @@ fn push_each(
     token: &Token,
     number: u32,
     search: &Search,
+    asked: &Asked,
     these: &[u32],
     kind: Kind,
     verdicts: &mut Vec<Option<bool>>,
     places: &mut Vec<u32>,
 ) -> Result<(), AllocError>
+    requires asked { AreAsked dir.now.schema (search_seen search.now).attrs asked.now }
     requires live { is_live dir.now.objects number ≡ true }
     requires kind { IsOf dir.now token.now kind number }
     requires known { KnowsOf dir.now token.now kind verdicts.old.items }
@@ -71,7 +75,9 @@ fn push_each(
     ensures known { OnOk result (KnowsOf dir.now token.now kind verdicts.new.items) }
 {
     'each: for place in these {
-        push_given(dir, token, number, search, *place, kind, verdicts, places)?;
+        push_given(
+            dir, token, number, search, asked, *place, kind, verdicts, places,
+        )?;
     }
     Ok(())
 }
@@ -82,11 +88,13 @@ fn push_held(
     token: &Token,
     number: u32,
     search: &Search,
+    asked: &Asked,
     values: &[(AttrId, Few<Stored>)],
     kind: Kind,
     verdicts: &mut Vec<Option<bool>>,
     places: &mut Vec<u32>,
 ) -> Result<(), AllocError>
+    requires asked { AreAsked dir.now.schema (search_seen search.now).attrs asked.now }
     requires live { is_live dir.now.objects number ≡ true }
     requires kind { IsOf dir.now token.now kind number }
     requires known { KnowsOf dir.now token.now kind verdicts.old.items }
@@ -96,7 +104,9 @@ fn push_held(
     ensures known { OnOk result (KnowsOf dir.now token.now kind verdicts.new.items) }
 {
     'each: for held in values {
-        push_given(dir, token, number, search, held.0.0, kind, verdicts, places)?;
+        push_given(
+            dir, token, number, search, asked, held.0.0, kind, verdicts, places,
+        )?;
     }
     Ok(())
 }
@@ -108,12 +118,12 @@ fn own_places(
     token: &Token,
     number: u32,
     search: &Search,
-    computed: &[u32],
+    asked: &Asked,
     kind: Kind,
     verdicts: &mut Vec<Option<bool>>,
 ) -> Result<Vec<u32>, AllocError>
+    requires asked { AreAsked dir.now.schema (search_seen search.now).attrs asked.now }
     requires live { is_live dir.now.objects number ≡ true }
-    requires computed { LeavesUncomputed dir.now.schema computed.now }
     requires kind { IsOf dir.now token.now kind number }
     requires known { KnowsOf dir.now token.now kind verdicts.old.items }
     ensures places { IfOk result (λ places. HasPlaces dir.now token.now number
@@ -130,6 +140,7 @@ fn own_places(
         token,
         number,
         search,
+        asked,
         values,
         kind,
         verdicts,
@@ -140,6 +151,7 @@ fn own_places(
         token,
         number,
         search,
+        asked,
         naming,
         kind,
         verdicts,
@@ -150,7 +162,8 @@ fn own_places(
         token,
         number,
         search,
-        computed,
+        asked,
+        asked.computed.as_slice(),
         kind,
         verdicts,
         &mut places,
@@ -166,10 +179,12 @@ fn few_places(
     token: &Token,
     number: u32,
     search: &Search,
+    asked: &Asked,
     few: &[u32],
     kind: Kind,
     verdicts: &mut Vec<Option<bool>>,
 ) -> Result<Vec<u32>, AllocError>
+    requires asked { AreAsked dir.now.schema (search_seen search.now).attrs asked.now }
     requires live { is_live dir.now.objects number ≡ true }
     requires few { LeavesUnasked dir.now.schema (search_seen search.now).attrs few.now }
     requires kind { IsOf dir.now token.now kind number }
@@ -179,9 +194,57 @@ fn few_places(
     ensures known { OnOk result (KnowsOf dir.now token.now kind verdicts.new.items) }
 {
     let mut places = Vec::new(alloc);
-    push_each(dir, token, number, search, few, kind, verdicts, &mut places)?;
+    push_each(
+        dir,
+        token,
+        number,
+        search,
+        asked,
+        few,
+        kind,
+        verdicts,
+        &mut places,
+    )?;
     rise(&mut places);
     Ok(places)
+}
+
+// Whether no more attributes are asked for by name than the object stores and shows without storing them.
+fn are_few(dir: &Dir, number: u32, named: &[u32], computed: &[u32]) -> bool
+    requires { is_live dir.now.objects number ≡ true }
+    ensures { result ≡ nat_le (length named.now)
+        (length (object_at dir.now.objects number).values + length computed.now) }
+{
+    named.len() <= live_object(dir, number).values.as_slice().len() + computed.len()
+}
+
+// Of those that are asked for by name, or of the object's own, whichever are fewer.
+fn named_places(
+    alloc: Global,
+    dir: &Dir,
+    token: &Token,
+    number: u32,
+    search: &Search,
+    asked: &Asked,
+    named: &[u32],
+    kind: Kind,
+    verdicts: &mut Vec<Option<bool>>,
+) -> Result<Vec<u32>, AllocError>
+    requires asked { AreAsked dir.now.schema (search_seen search.now).attrs asked.now }
+    requires live { is_live dir.now.objects number ≡ true }
+    requires named { LeavesUnasked dir.now.schema (search_seen search.now).attrs named.now }
+    requires kind { IsOf dir.now token.now kind number }
+    requires known { KnowsOf dir.now token.now kind verdicts.old.items }
+    ensures places { IfOk result (λ places. HasPlaces dir.now token.now number
+        (search_seen search.now) places.items) }
+    ensures known { OnOk result (KnowsOf dir.now token.now kind verdicts.new.items) }
+{
+    if are_few(dir, number, named, asked.computed.as_slice()) {
+        return few_places(
+            alloc, dir, token, number, search, asked, named, kind, verdicts,
+        );
+    }
+    own_places(alloc, dir, token, number, search, asked, kind, verdicts)
 }
 
 /// The places of the attributes that an entry has of a live object of this kind, rising: those that are asked for
@@ -204,26 +267,18 @@ pub(crate) fn places_of(
         (search_seen search.now) places.items) }
     ensures known { OnOk result (KnowsOf dir.now token.now kind verdicts.new.items) }
 {
-    match asked {
-        Asked::Few(few) => few_places(
+    match &asked.named {
+        Some(named) => named_places(
             alloc,
             dir,
             token,
             number,
             search,
-            few.as_slice(),
+            asked,
+            named.as_slice(),
             kind,
             verdicts,
         ),
-        Asked::Own(computed) => own_places(
-            alloc,
-            dir,
-            token,
-            number,
-            search,
-            computed.as_slice(),
-            kind,
-            verdicts,
-        ),
+        None => own_places(alloc, dir, token, number, search, asked, kind, verdicts),
     }
 }

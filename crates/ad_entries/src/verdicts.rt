@@ -6,9 +6,10 @@ ghost use Rattle.ad_ldap.specs.MessageValue.{search_seen};
 ghost use Rattle.ad_dir_model.specs.Objects.{is_live};
 ghost use Rattle.ad_entries.specs.Kinds.{IsOf};
 ghost use Rattle.ad_entries.specs.Places.{is_readable_at, is_given_at};
+ghost use Rattle.ad_entries.specs.Asked.{AreAsked};
 ghost use Rattle.ad_entries.specs.Verdicts.{AreTrue, KnowsOf};
 
-use crate::asking::is_asked;
+use crate::asking::{Asked, is_flagged};
 use crate::kinds::Kind;
 use crate::reading::is_readable;
 use ad_dir::Dir;
@@ -68,25 +69,24 @@ pub(crate) fn is_given(
     token: &Token,
     number: u32,
     search: &Search,
+    asked: &Asked,
     place: u32,
     kind: Kind,
     verdicts: &mut Vec<Option<bool>>,
 ) -> bool
     requires live { is_live dir.now.objects number ≡ true }
+    requires asked { AreAsked dir.now.schema (search_seen search.now).attrs asked.now }
     requires kind { IsOf dir.now token.now kind number }
     requires known { KnowsOf dir.now token.now kind verdicts.old.items }
     ensures so { result ≡ is_given_at dir.now token.now number (search_seen search.now) place }
     ensures known { KnowsOf dir.now token.now kind verdicts.new.items }
 {
+    let _ = search;
     if (place as usize) >= dir.schema().attrs().len() {
         return false;
     }
-    let attr = AttrId(place);
-    if !is_asked(
-        search.attrs.as_slice(),
-        dir.schema().attr_info(attr).name.as_slice(),
-    ) {
+    if !is_flagged(asked.flags.as_slice(), place) {
         return false;
     }
-    is_readable_so(dir, token, number, attr, kind, verdicts)
+    is_readable_so(dir, token, number, AttrId(place), kind, verdicts)
 }

@@ -24,9 +24,9 @@ use ad_access_dir::class_of;
 use ad_acl::{ACCESS_SYSTEM_SECURITY, READ_CONTROL, READ_PROPERTY};
 use ad_dir::Dir;
 use ad_dn::{Dn, DnFault};
-use ad_entries::{Descriptor, Kinds, descriptor_given, entry_judged, no_kinds, places_judged};
+use ad_entries::{Descriptor, Kinds, descriptor_judged, entry_judged, no_kinds, places_judged};
 use ad_ids::Token;
-use ad_ldap::Search;
+use ad_ldap::{DACL_PART, GROUP_PART, OWNER_PART, SACL_PART, Search};
 use ad_schema::AttrId;
 use ad_tried::succeeded;
 use ad_types::{Path, Tried, path};
@@ -109,8 +109,8 @@ fn push_parts(number: u32, flags: u8, into: &mut Vec<Tried>) -> Result<(), Alloc
     ensures { OnOk result (tried_values into.new.items ≡ tried_values into.old.items
         ++ part_reads number flags) }
 {
-    let control = flags & 1 != 0 || (flags & 2 != 0 || flags & 4 != 0);
-    let security = flags & 8 != 0;
+    let control = flags & OWNER_PART != 0 || (flags & GROUP_PART != 0 || flags & DACL_PART != 0);
+    let security = flags & SACL_PART != 0;
     push_if(
         into,
         control,
@@ -132,14 +132,16 @@ fn push_descriptor(
     number: u32,
     search: &Search,
     flags: u8,
+    kinds: &Kinds,
     into: &mut Vec<Tried>,
 ) -> Result<(), AllocError>
-    requires { is_live dir.now.objects number ≡ true }
+    requires live { is_live dir.now.objects number ≡ true }
+    requires kinds { AreKinds dir.now token.now (search_seen search.now) kinds.now }
     ensures { OnOk result (tried_values into.new.items
         ≡ tried_values into.old.items ++ descriptor_reads dir.now token.now number
         (search_seen search.now) flags) }
 {
-    match descriptor_given(alloc, dir, token, number, search, flags)? {
+    match descriptor_judged(alloc, dir, token, number, search, flags, kinds)? {
         Descriptor::Written(_) => push_parts(number, flags, into),
         Descriptor::Absent => Ok(()),
         Descriptor::TooLong => Ok(()),
@@ -155,17 +157,19 @@ fn push_entry(
     number: u32,
     search: &Search,
     flags: u8,
+    kinds: &Kinds,
     places: &[u32],
     into: &mut Vec<Tried>,
 ) -> Result<(), AllocError>
     requires live { is_live dir.now.objects number ≡ true }
+    requires kinds { AreKinds dir.now token.now (search_seen search.now) kinds.now }
     requires places { HasPlaces dir.now token.now number (search_seen search.now) places.now }
     ensures { OnOk result (tried_values into.new.items
         ≡ tried_values into.old.items ++ entry_reads dir.now token.now (search_seen search.now)
         flags number) }
 {
     push_reads(alloc, dir, number, places, into)?;
-    push_descriptor(alloc, dir, token, number, search, flags, into)
+    push_descriptor(alloc, dir, token, number, search, flags, kinds, into)
 }
 
 // ---- the entries
@@ -225,6 +229,7 @@ fn push_judged(
         number,
         search,
         flags,
+        kinds,
         places.as_slice(),
         into,
     )

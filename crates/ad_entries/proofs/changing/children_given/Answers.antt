@@ -1,4 +1,4 @@
-use Rattle.std.proofs.Common.{◌∙◌, Option, ap}
+use Rattle.std.proofs.Common.{◌∙◌, Option, sym, ap}
 use Rattle.std.specs.Prelude.{option_to_list}
 use Rattle.ad_dir.proofs.NameLaws.{if_ok}
 use Rattle.ad_ldap.specs.MessageValue.{search_seen}
@@ -8,12 +8,12 @@ use Rattle.ad_entries.specs.Entry.{Given, children_name, changing_attr}
 use Rattle.ad_entries.proofs.GivenLaws.{not_sent, given_sent}
 use Rattle.ad_entries.proofs.changing.children_given.Goals as goal
 
-pub returns-then-not-is_sent : goal.returns-then-not-is_sent
+pub returns-then-not-asked : goal.returns-then-not-asked
 unfolding children_name
-returns-then-not-is_sent c =
+returns-then-not-asked c =
     not_sent (search_seen c.args.search.now) children_name
     (changing_of c.args.dir.now c.args.token.now c.args.number).children
-    (rw c.as_slice.ensures at c.if-not-is_sent.ensures)
+    (sym c.if-not-asked.true ∙ c.requires.asked)
 
 pub returns : goal.returns
 unfolding children_name
@@ -22,6 +22,6 @@ returns c =
     if_ok c.given_values.result
     (λ given so. ap (λ (g : Option Given). option_to_list g) so
     ∙ given_sent search children_name (all_items c.in_ok-names.names.items)
-    (rw c.as_slice.ensures at c.if-not-is_sent.ensures)
+    (sym c.if-not-asked.false ∙ c.requires.asked)
     ∙ ap (changing_attr search children_name) c.in_ok-names.ensures)
     c.given_values.ensures

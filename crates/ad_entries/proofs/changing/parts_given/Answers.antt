@@ -1,4 +1,4 @@
-use Rattle.std.proofs.Common.{◌≡◌, ◌∙◌, ◌∷◌, [], ℕ, Option, ap, decimal}
+use Rattle.std.proofs.Common.{◌≡◌, ◌∙◌, ◌∷◌, [], ℕ, Option, sym, ap, decimal}
 use Rattle.std.specs.Prelude.{option_to_list}
 use Rattle.ad_dir.proofs.NameLaws.{if_ok}
 use Rattle.ad_ldap.specs.MessageValue.{search_seen}
@@ -8,12 +8,12 @@ use Rattle.ad_entries.specs.Entry.{Given, parts_name, changing_attr}
 use Rattle.ad_entries.proofs.GivenLaws.{not_sent, given_sent}
 use Rattle.ad_entries.proofs.changing.parts_given.Goals as goal
 
-pub returns-then-not-is_sent : goal.returns-then-not-is_sent
+pub returns-then-not-asked : goal.returns-then-not-asked
 unfolding parts_name
-returns-then-not-is_sent c =
+returns-then-not-asked c =
     not_sent (search_seen c.args.search.now) parts_name
     (changing_of c.args.dir.now c.args.token.now c.args.number).parts
-    (rw c.as_slice.ensures at c.if-not-is_sent.ensures)
+    (sym c.if-not-asked.true ∙ c.requires.asked)
 
 pub returns : goal.returns
 unfolding parts_name changing_of
@@ -24,6 +24,6 @@ returns c =
     if_ok c.given_values.result
     (λ given so. ap (λ (g : Option Given). option_to_list g) so
     ∙ given_sent search parts_name (all_items c.in_ok-values.values.items)
-    (rw c.as_slice.ensures at c.if-not-is_sent.ensures)
+    (sym c.if-not-asked.false ∙ c.requires.asked)
     ∙ ap (changing_attr search parts_name) is)
     c.given_values.ensures

@@ -1,4 +1,4 @@
-use Rattle.std.proofs.Common.{◌≡◌, List, ℕ, Option, Result, IfOk, subst}
+use Rattle.std.proofs.Common.{◌≡◌, List, ℕ, ◌∙◌, Option, Result, IfOk, sym, subst}
 use Rattle.ad_acl.specs.declared.write_fault.AclWriteFault.{AclWriteFault}
 use Rattle.ad_ldap.specs.MessageValue.{search_seen}
 use Rattle.ad_entries.specs.Given.{descriptor_seen}
@@ -9,5 +9,5 @@ pub returns : goal.returns
 returns c =
     subst (λ (given : Option (Result (List ℕ) AclWriteFault)). IfOk c.written.result (λ d. descriptor_seen d ≡ given))
     (descriptor_is c.args.dir.now c.args.token.now c.args.number (search_seen c.args.search.now) c.args.flags
-    (rw c.as_slice.ensures at c.if-not-is_descriptor_asked.ensures) c.if-not-are_read.ensures)
+    (sym c.if-not-asked.false ∙ c.requires.asked) c.if-not-are_read.ensures)
     c.written.ensures

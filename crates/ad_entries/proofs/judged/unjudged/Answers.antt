@@ -1,4 +1,4 @@
-use Rattle.std.proofs.Common.{◌≡◌, List, Option, Bool, inl, inr, sym, subst, ◌∙◌}
+use Rattle.std.proofs.Common.{inl, inr, sym, subst, ◌∙◌}
 use Rattle.ad_ldap.specs.MessageValue.{search_seen}
 use Rattle.ad_entries.specs.Places.{is_readable_at}
 use Rattle.ad_entries.specs.Verdicts.{AreTrue}

@@ -1,4 +1,4 @@
-use Rattle.std.proofs.Common.{◌≡◌, ◌++◌, List, ℕ, ap, ◌∙◌}
+use Rattle.std.proofs.Common.{◌++◌, List, ℕ, ap, ◌∙◌}
 use Rattle.std.specs.Prelude.{filter}
 use Rattle.ad_ldap.specs.MessageValue.{search_seen}
 use Rattle.ad_entries.specs.Places.{is_given_at}

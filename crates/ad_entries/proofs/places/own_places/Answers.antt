@@ -1,7 +1,6 @@
-use Rattle.std.proofs.Common.{◌≡◌, ◌++◌, List, ℕ, map, sym, subst, ap, ◌∙◌}
+use Rattle.std.proofs.Common.{◌≡◌, ◌++◌, List, ℕ, map, subst, ap, ◌∙◌}
 use Rattle.std.specs.Prelude.{filter}
 use Rattle.ad_schema.specs.Classes.{naming_of}
-use Rattle.ad_schema.specs.declared.info.ClassInfo.{ClassInfo}
 use Rattle.ad_schema.specs.declared.line.SchemaRecord.{SchemaRecord}
 use Rattle.ad_schema.specs.declared.info.AttrId.{AttrId}
 use Rattle.ad_schema.proofs.LookupLemmas.{class_naming}
@@ -25,17 +24,19 @@ returns-clause-places c =
     let o = object_seen c.live_object-object.result.now (sd_at c.args.dir.now.objects c.args.number) in
     let given = is_given_at c.args.dir.now c.args.token.now c.args.number (search_seen c.args.search.now) in
     has_own c.args.dir.now c.args.token.now c.args.number c.class_info.result.now.naming.0
-    (search_seen c.args.search.now) o c.args.computed.now
+    (search_seen c.args.search.now) o c.args.asked.now.computed.items
     c.push_held.new.places.items c.push_given.new.places.items c.push_each.new.places.items c.rise.new.numbers.items
     c.live_object-object.ensures
     (subst (λ (s : List SchemaRecord). c.class_info.result.now.naming.0
     ≡ naming_of s c.live_object-object.result.now.class.0) c.schema.ensures
     (class_naming c.schema.result.now c.live_object-object.result.now.class.0 c.class_info.result.now
     c.class_info.ensures.info))
-    c.requires.computed
+    c.requires.asked.computed
     (c.in_ok-push_held.ensures.places
     ∙ ap (λ (old : List ℕ). old ++ filter given (map (λ (held : Held). held.attr)
     (map held_seen c.as_slice-values.result.now))) c.new-places.ensures.items
     ∙ ap (λ (values : List (AttrId × List StoredIn)). filter given (map (λ (held : Held). held.attr)
     (map held_seen values))) c.as_slice-values.ensures)
-    c.in_ok-push_given.ensures.places c.in_ok-push_each.ensures.places c.rise.ensures.rises c.rise.ensures.same
+    c.in_ok-push_given.ensures.places
+    (c.in_ok-push_each.ensures.places ∙ ap (λ (these : List ℕ). c.push_given.new.places.items ++ filter given these)
+    c.as_slice.ensures.value) c.rise.ensures.rises c.rise.ensures.same

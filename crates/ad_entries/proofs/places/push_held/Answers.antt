@@ -1,4 +1,4 @@
-use Rattle.std.proofs.Common.{map, length, arith}
+use Rattle.std.proofs.Common.{map, arith}
 use Rattle.std.proofs.lemmas.List.{length-map}
 use Rattle.ad_ldap.specs.MessageValue.{search_seen}
 use Rattle.ad_dir_objects.specs.Seen.{held_seen}

@@ -1,7 +1,7 @@
-use Rattle.std.proofs.Common.{◌≡◌, Bool, ◌&&◌, sym, ap, ◌∙◌, arith}
+use Rattle.std.proofs.Common.{Bool, ◌&&◌, sym, ap, ◌∙◌}
 use Rattle.ad_ldap.specs.MessageValue.{search_seen}
-use Rattle.ad_entries.specs.Places.{is_readable_at, is_asked_at}
-use Rattle.ad_entries.proofs.JudgedLaws.{asked_here, none_asked}
+use Rattle.ad_entries.specs.Places.{is_readable_at}
+use Rattle.ad_entries.proofs.JudgedLaws.{none_asked}
 use Rattle.ad_entries.proofs.verdicts.is_given.Goals as goal
 
 pub returns-then-place-attrs-clause-so : goal.returns-then-place-attrs-clause-so
@@ -10,17 +10,13 @@ returns-then-place-attrs-clause-so c =
     (none_asked c.args.dir.now.schema (search_seen c.args.search.now).attrs c.args.place
     (rw (c.attrs.ensures, c.schema.ensures) at c.if-place-attrs.true)))
 
-pub returns-then-not-is_asked-clause-so : goal.returns-then-not-is_asked-clause-so
-returns-then-not-is_asked-clause-so c =
-    sym (ap (λ (b : Bool). b && is_readable_at c.args.dir.now c.args.token.now c.args.number c.args.place)
-    (sym (asked_here c.args.dir.now.schema (search_seen c.args.search.now).attrs c.args.place c.attr_info.result.now
-    (rw c.schema-2.ensures at c.attr_info.ensures))
-    ∙ sym (rw (c.as_slice.ensures, c.as_slice-2.ensures) at c.if-not-is_asked.ensures)))
+pub returns-then-not-is_flagged-clause-so : goal.returns-then-not-is_flagged-clause-so
+returns-then-not-is_flagged-clause-so c =
+    ap (λ (b : Bool). b && is_readable_at c.args.dir.now c.args.token.now c.args.number c.args.place)
+    (rw c.as_slice.ensures.value at c.if-not-is_flagged.ensures ∙ c.requires.asked.flags c.args.place)
 
 pub returns-clause-so : goal.returns-clause-so
 returns-clause-so c =
     c.is_readable_so.ensures.so
     ∙ ap (λ (b : Bool). b && is_readable_at c.args.dir.now c.args.token.now c.args.number c.args.place)
-    (rw (c.as_slice.ensures, c.as_slice-2.ensures) at c.if-not-is_asked.ensures
-    ∙ asked_here c.args.dir.now.schema (search_seen c.args.search.now).attrs c.args.place c.attr_info.result.now
-    (rw c.schema-2.ensures at c.attr_info.ensures))
+    (rw c.as_slice.ensures.value at c.if-not-is_flagged.ensures ∙ c.requires.asked.flags c.args.place)

@@ -1,4 +1,4 @@
-use Rattle.std.proofs.Common.{◌≡◌, Option, Bool, None, IfSome, get_or, sym, subst, ◌∙◌}
+use Rattle.std.proofs.Common.{◌≡◌, Option, Bool, IfSome, sym, subst, ◌∙◌}
 use Rattle.ad_entries.specs.Places.{is_readable_at}
 use Rattle.ad_entries.proofs.JudgedLaws.{readable_here, knows_more}
 use Rattle.ad_entries.proofs.verdicts.is_readable_so.Goals as goal
