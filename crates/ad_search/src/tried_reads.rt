@@ -26,7 +26,7 @@ use ad_dir::Dir;
 use ad_dn::{Dn, DnFault};
 use ad_entries::{Descriptor, Kinds, descriptor_judged, entry_judged, no_kinds, places_judged};
 use ad_ids::Token;
-use ad_ldap::{DACL_PART, GROUP_PART, OWNER_PART, SACL_PART, Search};
+use ad_ldap::Search;
 use ad_schema::AttrId;
 use ad_tried::succeeded;
 use ad_types::{Path, Tried, path};
@@ -109,8 +109,8 @@ fn push_parts(number: u32, flags: u8, into: &mut Vec<Tried>) -> Result<(), Alloc
     ensures { OnOk result (tried_values into.new.items ≡ tried_values into.old.items
         ++ part_reads number flags) }
 {
-    let control = flags & OWNER_PART != 0 || (flags & GROUP_PART != 0 || flags & DACL_PART != 0);
-    let security = flags & SACL_PART != 0;
+    let control = flags & 1 != 0 || (flags & 2 != 0 || flags & 4 != 0);
+    let security = flags & 8 != 0;
     push_if(
         into,
         control,
