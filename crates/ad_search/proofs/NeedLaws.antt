@@ -40,7 +40,7 @@ use Rattle.ad_search.specs.declared.needed.Need.{end_of-Need, more_of-Need, item
 use Rattle.ad_search.specs.declared.needed.Need.{items_hidden-the_row-Need-0}
 use Rattle.ad_search.specs.Needles.{has_key, IsPlainNamed, IsNeedle}
 use Rattle.ad_search.specs.Indexed.{IsSoughtFor}
-use Rattle.ad_search.specs.Needed.{IsMet, HasMetIn, AreMetIn, HasMet, AreMet, IsNeededBy, NeedsSome}
+use Rattle.ad_search.specs.Needed.{IsMet, HasMetIn, AreMetIn, HasMet, AreMet, IsNeededBy}
 use Rattle.ad_search.proofs.NeedleLaws.{no_truth, all_say, values_shown, known_at}
 use Rattle.ad_search.proofs.IndexLaws.{found_at}
 
@@ -166,6 +166,13 @@ ordered_of_some test sent syntax =
     (λ (key : Key). some_value (nothing syntax) (λ (own : Key). test (key_order own key))))
     (no_sent (normal_or_fault syntax sent)
     (λ (key : Key). some_value (nothing syntax) (λ (own : Key). test (key_order own key))) (λ k. refl))
+
+-- each item but an equality is true only of objects that show it
+pub record NeedsSome (dir : Directory) (name : List ℕ) (need : Need) : Type 0 where
+  pub present : IsNeededBy dir (filter.Present name) need
+  pub pieces : (sent : Pattern) → IsNeededBy dir (filter.Pieces name sent) need
+  pub at_least : (sent : List ℕ) → IsNeededBy dir (filter.AtLeast name sent) need
+  pub at_most : (sent : List ℕ) → IsNeededBy dir (filter.AtMost name sent) need
 
 pub needs_some : (dir : Directory) (name : List ℕ) (attr : AttrId) → IsPlainNamed dir.schema name attr
     → NeedsSome dir name (Present attr)

@@ -2,10 +2,8 @@
 use Rattle.std.specs.Prelude.{◌≡◌, ◌⊎◌, ℕ, ◌<◌, true, Option, List, [], ◌∷◌, IfSome}
 use Rattle.std.specs.List.{AllByRecursion}
 use Rattle.ad_ids.specs.declared.token.Token.{Token}
-use Rattle.ad_value.specs.declared.pattern.Pattern.{Pattern}
 use Rattle.ad_schema.specs.declared.info.AttrId.{AttrId}
 use Rattle.ad_ldap.specs.FilterValue.{FilterValue}
-use Rattle.ad_ldap.specs.FilterValue as filter
 use Rattle.ad_filter.specs.ThreeValues.{is_true}
 use Rattle.ad_filter.specs.Filtering.{truth}
 use Rattle.ad_dir_model.specs.Objects.{is_live}
@@ -58,13 +56,6 @@ AreMet dir number needs = AllByRecursion (IsMet dir number) needs
 abbrev pub IsNeededBy : Directory → FilterValue → Need → Type 0
 IsNeededBy dir f need = (token : Token) (number : ℕ)
     → is_true (truth (reads dir.schema (seen_of dir token number)) f) ≡ true → IsMet dir number need
-
--- each item but an equality is true only of objects that show it
-pub record NeedsSome (dir : Directory) (name : List ℕ) (need : Need) : Type 0 where
-  pub present : IsNeededBy dir (filter.Present name) need
-  pub pieces : (sent : Pattern) → IsNeededBy dir (filter.Pieces name sent) need
-  pub at_least : (sent : List ℕ) → IsNeededBy dir (filter.AtLeast name sent) need
-  pub at_most : (sent : List ℕ) → IsNeededBy dir (filter.AtMost name sent) need
 
 -- A number above this one, such that no live object between them meets the condition.
 pub record IsNextOf (dir : Directory) (Meets : ℕ → Type 0) (above : ℕ) (result : Option ℕ) : Type 0 where

@@ -4,15 +4,16 @@
 //! It is a tree as the filter is. An item of an And of which nothing is known is left out, and an Or of which one item
 //! is such tells nothing.
 
-ghost use Rattle.std.specs.Prelude.{◌≡◌, ◌≤◌, ◌<◌, ◌++◌, true, length, map, slice_index_or, option_to_list};
+ghost use Rattle.std.specs.Prelude.{◌≡◌, ℕ, ◌≤◌, ◌<◌, List, ◌++◌, true, length, map, slice_index_or, option_to_list};
 ghost use Rattle.std.specs.Prelude.{IfOk, IfSome, OnOk, IsFalse};
 ghost use Rattle.std.specs.List.{AllByRecursion};
+ghost use Rattle.ad_value.specs.declared.pattern.Pattern.{Pattern as PatternValue};
 ghost use Rattle.ad_ldap.specs.FilterValue.{FilterValue, filter_seen, filters_of, depth, depth_of_all};
 ghost use Rattle.ad_ldap.specs.FilterValue as value;
 ghost use Rattle.ad_dir_model.specs.Objects.{is_live};
 ghost use Rattle.ad_dir_model.specs.Directory.{Directory};
 ghost use Rattle.ad_search.specs.Needles.{IsNeedle};
-ghost use Rattle.ad_search.specs.Needed.{IsMet, HasMet, AreMet, IsNeededBy, NeedsSome};
+ghost use Rattle.ad_search.specs.Needed.{IsMet, HasMet, AreMet, IsNeededBy};
 
 use crate::indexed::{Sought, sought_of};
 use crate::needles::{Needle, may_show, may_show_some, needle_of, plain_named};
@@ -69,7 +70,13 @@ fn need_of_equal(
 
 // What every other item needs that is about an attribute: a value of it.
 fn need_of_some(dir: &Dir, name: &[u8]) -> Option<Need>
-    ensures { IfSome result (NeedsSome dir.now name.now) }
+    ensures present { IfSome result (IsNeededBy dir.now (value.Present name.now)) }
+    ensures pieces { (sent : PatternValue) → IfSome result
+        (IsNeededBy dir.now (value.Pieces name.now sent)) }
+    ensures at_least { (sent : List ℕ) → IfSome result
+        (IsNeededBy dir.now (value.AtLeast name.now sent)) }
+    ensures at_most { (sent : List ℕ) → IfSome result
+        (IsNeededBy dir.now (value.AtMost name.now sent)) }
 {
     match plain_named(dir.schema(), name) {
         Some(attr) => Some(Need::Present(attr)),

@@ -6,6 +6,12 @@ use Rattle.ad_search.proofs.needed.need_of_some.Goals as goal
 
 pub returns-in-Some : goal.returns-in-Some
 returns-in-Some c =
-    needs_some c.args.dir.now c.args.name.now c.in-Some.attr
+    let needs = needs_some c.args.dir.now c.args.name.now c.in-Some.attr
     (subst (λ (records : List SchemaRecord). IsPlainNamed records c.args.name.now c.in-Some.attr) c.schema.ensures
-    c.in-Some.ensures)
+    c.in-Some.ensures) in
+    record {
+      present = needs.present;
+      pieces = needs.pieces;
+      at_least = needs.at_least;
+      at_most = needs.at_most;
+    }
