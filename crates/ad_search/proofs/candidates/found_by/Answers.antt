@@ -15,10 +15,10 @@ each-preserved c =
     let need = c.args.need.now in
     one_more dir filter c.each.above c.in-Some.next c.is_candidate-so.result c.each.left.items
     c.push_number.new.numbers.items
-    (next_for dir filter need c.each.above _ c.requires
+    (next_for dir filter need c.each.above _ c.requires.needed
     (subst (IsNextOf dir (λ (n : ℕ). IsMet dir n need) c.each.above) c.in-Some.is c.next_of.ensures))
     c.is_candidate-so.ensures.live
-    (λ out live. never_by dir filter need c.in-Some.next c.requires (c.is_candidate-so.ensures.never out live))
+    (λ out live. never_by dir filter need c.in-Some.next c.requires.needed (c.is_candidate-so.ensures.never out live))
     c.in_ok-push_number.ensures c.each.invariant
 
 pub returns : goal.returns
@@ -27,6 +27,6 @@ returns c =
     let search = search_seen c.args.search.now in
     let need = c.args.need.now in
     left_of_all dir search c.each.above c.each.left.items c.stands.ensures.rise
-    (next_for dir search.filter need c.each.above _ c.requires
+    (next_for dir search.filter need c.each.above _ c.requires.needed
     (subst (IsNextOf dir (λ (n : ℕ). IsMet dir n need) c.each.above) c.in_default.is c.next_of.ensures))
     c.each.invariant

@@ -33,7 +33,7 @@ need_of_any-each-init t c = none_so_far c.args.dir.now c.args.filters.now _
 
 pub need_of_any-each-preserved : goal.need_of_any-each-preserved
 need_of_any-each-preserved t c =
-    subst (OneSoFar c.args.dir.now c.args.filters.now _) (sym c.in_ok-push.ensures)
+    subst (OneSoFar c.args.dir.now c.args.filters.now _) (sym c.in_ok-push.ensures.items)
     (one_more_of c.args.dir.now c.args.filters.now c.each.i c.filter_at.result.now c.each.needs.items c.in-Some.need
     c.each-test.true c.filter_at.ensures.at (rw c.in-Some.is at c.in_ok-need.ensures) c.each.invariant)
 

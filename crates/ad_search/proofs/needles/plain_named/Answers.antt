@@ -1,8 +1,8 @@
 use Rattle.std.proofs.Common.{sym, ◌∙◌}
 use Rattle.ad_search.proofs.needles.plain_named.Goals as goal
 
-pub returns-in-Some : goal.returns-in-Some
-returns-in-Some c = record {
+pub returns-else-not-is_plain : goal.returns-else-not-is_plain
+returns-else-not-is_plain c = record {
   ordinary = sym c.is_descriptor.ensures ∙ c.if-is_descriptor.false;
   named = sym c.attr.ensures.attr ∙ c.in-Some.is;
   within = c.in-Some.ensures.in_range;
