@@ -1,8 +1,7 @@
 -- What is found by the indexes has the entries of all objects.
 use Rattle.std.proofs.Common.{◌≡◌, ℕ, zero, suc, ◌<◌, ◌≤◌, Bool, true, false, ◌&&◌, ◌||◌, List, [], ◌∷◌, ◌++◌, length}
 use Rattle.std.proofs.Common.{Option, Some, None, inl, inr, refl, sym, subst, ap, ◌∙◌, arith}
-use Rattle.std.specs.Prelude.{slice_get, nat_eq, nat_lt, ◌==◌, filter, codes, option_to_list, if◌then◌else◌, IfSome}
-use Rattle.std.specs.Prelude.{IsSomeAnd}
+use Rattle.std.specs.Prelude.{slice_get, nat_eq, nat_lt, ◌==◌, filter, codes, if◌then◌else◌, IsSomeAnd}
 use Rattle.std.specs.List.{AllByRecursion, list_any}
 use Rattle.std.proofs.lemmas.Bool.{cases_Bool, cases_lt, both_ways, eqb-true, eq-eqb}
 use Rattle.std.proofs.lemmas.List.{append-nil}
@@ -15,7 +14,6 @@ use Rattle.ad_value.specs.Value.{same_key}
 use Rattle.ad_value.specs.declared.syntax.Syntax.{Syntax}
 use Rattle.ad_value.specs.declared.syntax.Syntax.TheVariants as syntax
 use Rattle.ad_schema.specs.declared.line.SchemaRecord.{SchemaRecord}
-use Rattle.ad_schema.specs.declared.info.AttrId.{AttrId}
 use Rattle.ad_schema.specs.declared.info.ClassInfo.{ClassInfo}
 use Rattle.ad_schema.specs.Classes.{classes_of, naming_of}
 use Rattle.ad_schema.proofs.LookupLemmas.{class_naming}
@@ -32,17 +30,16 @@ use Rattle.ad_dir_model.proofs.Finding.{of-live, live_above}
 use Rattle.ad_dir.specs.Standing.{AreStanding}
 use Rattle.ad_dir.specs.Values.{may_have, may_store, IsNextWith, IsNextNamed}
 use Rattle.ad_access_dir.specs.Sight.{is_visible}
-use Rattle.ad_search.specs.declared.needles.Needle.{Needle}
-use Rattle.ad_search.specs.declared.indexed.Sought.{Sought}
+use Rattle.ad_search.specs.declared.needed.Need.{Need}
 use Rattle.ad_entries.specs.Seen.{reads, seen_of}
 use Rattle.ad_search.specs.Search.{is_found}
 use Rattle.ad_search.specs.Steps.{entries_among}
 use Rattle.ad_entries.specs.Rising.{is_in}
 use Rattle.ad_entries.specs.Places.{place_if}
-use Rattle.ad_search.specs.Needles.{has_key, IsPlain, IsNeedle}
-use Rattle.ad_search.specs.Indexed.{names_one, IsSoughtFor, IsSought, AreSought, IsNever, IsBefore, IsNextShown}
-use Rattle.ad_search.specs.Indexed.{IsNextFor, IsLeftOfAll}
-use Rattle.ad_search.proofs.NeedleLaws.{shows_no_key, not_found, and_none}
+use Rattle.ad_search.specs.Needles.{has_key, IsPlain}
+use Rattle.ad_search.specs.Indexed.{names_one, IsNever, IsBefore, IsNextFor, IsLeftOfAll}
+use Rattle.ad_search.specs.Needed.{IsMet, IsNeededBy, IsNextOf}
+use Rattle.ad_search.proofs.NeedleLaws.{shows_no_key, and_none}
 use Rattle.ad_entries.proofs.ListLaws.{or_false}
 use Rattle.ad_search.proofs.SeenLaws.{numbers_live}
 use Rattle.ad_search.proofs.SubtreeLaws.{and_false, in_filter, in_numbers, RisesAbove, kept_rising, numbers_rise}
@@ -69,7 +66,7 @@ any_at p [] i x none is = absurd (none-some x is)
 any_at p (y ∷ ys) zero x none is = ap p (sym (same_Some y x is)) ∙ or_left (p y) (list_any p ys) none
 any_at p (y ∷ ys) (suc i) x none is = any_at p ys i x (or_right (p y) (list_any p ys) none) is
 
-found_at : {A : Type 0} (xs : List A) (i : ℕ) → i < length xs → (x : A) × (slice_get xs i ≡ Some x)
+pub found_at : {A : Type 0} (xs : List A) (i : ℕ) → i < length xs → (x : A) × (slice_get xs i ≡ Some x)
 found_at [] i within = absurd (omega (arith, within))
 found_at (x ∷ xs) zero within = (x, refl)
 found_at (x ∷ xs) (suc i) within = found_at xs i (omega (arith, within))
@@ -142,31 +139,24 @@ module _ (dir : Directory) (attr : ℕ) (key : Key) (above : ℕ) (standing : Ar
             (stores_none stored n next live more before)
       ]
 
--- ---- of all that is sought
+-- ---- of what is needed
 
--- what isn't shown makes the filter never true
-pub never_by : (dir : Directory) (f : FilterValue) (sought : Sought) (above n : ℕ) (result : Option ℕ)
-    → IsSought dir.schema f sought → IsNextShown dir sought above result → is_live dir.objects n ≡ true
-    → above < n → IsBefore n result → IsNever dir f n
-never_by dir f sought above n result is next live more before token =
-    let for = is.sought_for in
-    let plain : IsPlain dir.schema sought.attr.0 = subst (λ (id : AttrId). IsPlain dir.schema id.0) (sym for.attr_is)
-    is.needs.plain in
-    let none : has_key sought.key (shown dir n sought.attr.0) ≡ false = next.none n live more before plain for.named in
-    not_found dir token n f is.needle is.needs
-    (subst (λ (k : Key). has_key k (shown dir n is.needle.attr.0) ≡ false) for.key_is
-    (subst (λ (id : AttrId). has_key sought.key (shown dir n id.0) ≡ false) for.attr_is none))
+-- An object that doesn't show what the filter needs is never one of which it is true.
+pub never_by : (dir : Directory) (f : FilterValue) (need : Need) (n : ℕ) → IsNeededBy dir f need
+    → (IsMet dir n need → ⊥) → IsNever dir f n
+never_by dir f need n needed unmet token = by (is_true (truth (reads dir.schema (seen_of dir token n)) f)) refl
+  where
+    by : (b : Bool) → is_true (truth (reads dir.schema (seen_of dir token n)) f) ≡ b
+        → is_true (truth (reads dir.schema (seen_of dir token n)) f) ≡ false
+    by false e = e
+    by true e = absurd (unmet (needed token n e))
 
-pub sought_more : (schema : List SchemaRecord) (f : FilterValue) (old : List Sought) (new : Option Sought)
-    → AreSought schema f old → IfSome new (IsSought schema f) → AreSought schema f (old ++ option_to_list new)
-sought_more schema f [] None are is = tt
-sought_more schema f [] (Some s) are is = (is, tt)
-sought_more schema f (o ∷ old) new are is = (are.0, sought_more schema f old new are.1 is)
-
-pub sought_if : (schema : List SchemaRecord) (f : FilterValue) (needle : Needle) (new : Option Sought)
-    → IsNeedle schema f needle → IfSome new (IsSoughtFor schema needle) → IfSome new (IsSought schema f)
-sought_if schema f needle None needs is = tt
-sought_if schema f needle (Some s) needs is = record { needle = needle; needs = needs; sought_for = is }
+pub next_for : (dir : Directory) (f : FilterValue) (need : Need) (above : ℕ) (result : Option ℕ)
+    → IsNeededBy dir f need → IsNextOf dir (λ (n : ℕ). IsMet dir n need) above result → IsNextFor dir f above result
+next_for dir f need above result needed next = record {
+  is_above = next.is_above;
+  none = λ n live more before. never_by dir f need n needed (next.none n live more before);
+}
 
 -- the greater of two numbers
 pub greater_parts : (a b n g : ℕ) → g ≡ (if nat_lt a b then b else a) → (P : Type 0) → n < g → (n < a → P)

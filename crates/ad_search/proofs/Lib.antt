@@ -14,3 +14,5 @@ pub mod TwoWorlds
 pub mod ReadsLaws
 pub mod ReadScope
 pub mod GivenNumbers
+mod NeedLaws
+mod NextLaws

@@ -2,7 +2,7 @@
 use Rattle.std.proofs.Common.{◌≡◌, ℕ, zero, suc, ◌+◌, ◌<◌, ◌≤◌, Bool, true, false, ◌&&◌, ◌||◌, List, [], ◌∷◌, ◌++◌}
 use Rattle.std.proofs.Common.{map, length, get_or, drop, Option, Some, None, Result, Ok, Err, IfOk, refl, sym, subst}
 use Rattle.std.proofs.Common.{ap, ◌∙◌, append_assoc, arith}
-use Rattle.std.specs.Prelude.{slice_get, if◌then◌else◌, option_to_list, option_and_then, unwrap_or, IfSome}
+use Rattle.std.specs.Prelude.{slice_get, if◌then◌else◌, option_and_then, unwrap_or, IfSome}
 use Rattle.std.specs.List.{AllByRecursion, list_any}
 use Rattle.std.proofs.lemmas.Option.{none-some, same_Some}
 use Rattle.std.specs.Result.{result_ok}
@@ -39,14 +39,14 @@ use Rattle.ad_entries.specs.Entry.{Entry}
 use Rattle.ad_search.specs.Search.{is_found}
 use Rattle.ad_search.specs.Steps.{entries_among}
 use Rattle.ad_dir.specs.Values.{may_have}
-use Rattle.ad_search.specs.Needles.{has_key, IsPlain, IsNeedle, IsAskedAs, AreNeedles, HaveSameEntries}
+use Rattle.ad_search.specs.Needles.{has_key, IsPlain, IsNeedle, IsAskedAs, HaveSameEntries}
 use Rattle.ad_entries.specs.Places.{place_if}
 use Rattle.ad_entries.proofs.ReadLaws.{read_at, is_read, not_readable}
 use Rattle.ad_search.proofs.SeenLaws.{entries_apart, entries_later}
 
 -- ---- of an equality
 
-no_truth : false ≡ true → ⊥
+pub no_truth : false ≡ true → ⊥
 no_truth e = cc
 
 -- some value that is read has the key
@@ -79,7 +79,7 @@ equal_says syntax sent value values reads is =
     has_one syntax value.key values (truth_is _ by)
 
 -- what is known of the attribute is what is seen of it
-known_at : (schema : List SchemaRecord) (seen : Seen) (name : List ℕ) (attr : AttrId) (info : AttrInfo)
+pub known_at : (schema : List SchemaRecord) (seen : Seen) (name : List ℕ) (attr : AttrId) (info : AttrInfo)
     → is_descriptor name ≡ false → attr_named schema name ≡ Some attr
     → slice_get (attrs_of schema) attr.0 ≡ Some info → known (reads schema seen) name
     ≡ readable_at info (values_at seen attr.0)
@@ -135,28 +135,13 @@ both_right truth'.Undefined truth'.True is = refl
 both_right truth'.Undefined truth'.False is = is
 both_right truth'.Undefined truth'.Undefined is = is
 
-all_say : (view : View) (fs : List FilterValue) (i : ℕ) (f : FilterValue) → i < length fs → f ≡ get_or fs i f
+pub all_say : (view : View) (fs : List FilterValue) (i : ℕ) (f : FilterValue) → i < length fs → f ≡ get_or fs i f
     → is_true (all_of view (filters_of fs)) ≡ true → is_true (truth view f) ≡ true
 unfolding all_of truth
 all_say view [] i f lt is all = absurd (omega (arith, lt))
 all_say view (g ∷ fs) zero f lt is all = rw is (both_left (truth view g) (all_of view (filters_of fs)) all)
 all_say view (g ∷ fs) (suc i) f lt is all = all_say view fs i f (omega (arith, lt)) is
     (both_right (truth view g) (all_of view (filters_of fs)) all)
-
-pub and_needs : (schema : List SchemaRecord) (fs : List FilterValue) (i : ℕ) (f : FilterValue) (needle : Needle) → i
-    < length fs → f ≡ get_or fs i f → IsNeedle schema f needle
-    → IsNeedle schema (filter.And (filters_of fs)) needle
-unfolding truth
-and_needs schema fs i f needle lt is needs = record {
-  needed = λ seen all. needs.needed seen (all_say (reads schema seen) fs i f lt is all);
-  plain = needs.plain;
-}
-
-pub needles_more : (schema : List SchemaRecord) (f : FilterValue) (old : List Needle) (new : Option Needle)
-    → AreNeedles schema f old → IfSome new (IsNeedle schema f) → AreNeedles schema f (old ++ option_to_list new)
-needles_more schema f [] None are is = tt
-needles_more schema f [] (Some n) are is = (is, tt)
-needles_more schema f (o ∷ old) new are is = (are.0, needles_more schema f old new are.1 is)
 
 pub if_some : {A : Type 0} (o : Option A) (P Q : A → Type 0) → ((x : A) → P x → Q x) → IfSome o P → IfSome o Q
 if_some None P Q gives is = tt
@@ -198,6 +183,24 @@ shows_no_key dir number attr key o is ordinary naming none =
     (rw naming_there (by_back dir attr key (attr_is_back_link dir.schema attr) (object_at dir.objects number)
     none_there)))
 
+nothing_by_back : (dir : Directory) (attr : ℕ) (back : Bool) (o : Object) → stored_in o.values attr ≡ []
+    → (if back then [] else map (shown_value dir (syntax_at dir.schema attr)) (stored_in o.values attr)) ≡ []
+nothing_by_back dir attr true o none = refl
+nothing_by_back dir attr false o none = ap (map (shown_value dir (syntax_at dir.schema attr))) none
+
+pub shows_nothing : (dir : Directory) (number attr : ℕ) (o : Object) → object_at dir.objects number ≡ o
+    → IsPlain dir.schema attr → is_naming dir.schema o.class attr ≡ false → stored_in o.values attr ≡ []
+    → shown dir number attr ≡ []
+unfolding shown
+shows_nothing dir number attr o is ordinary naming none =
+    let naming_there : is_naming dir.schema (object_at dir.objects number).class attr ≡ false
+    = subst (λ (x : Object). is_naming dir.schema x.class attr ≡ false) (sym is) naming in
+    let none_there : stored_in (object_at dir.objects number).values attr ≡ []
+    = subst (λ (x : Object). stored_in x.values attr ≡ []) (sym is) none in
+    rw ordinary.no_class (rw ordinary.no_dn
+    (rw naming_there (nothing_by_back dir attr (attr_is_back_link dir.schema attr) (object_at dir.objects number)
+    none_there)))
+
 -- what is read of a plain attribute is what is shown
 read_shown : (dir : Directory) (token : Token) (number attr : ℕ) (info : AttrInfo) (values : List Value)
     (readable : Bool) → is_readable dir token number attr info ≡ readable
@@ -216,7 +219,7 @@ none_at dir token number place [] i is = refl
 none_at dir token number place (x ∷ xs) zero is = absurd cc
 none_at dir token number place (x ∷ xs) (suc i) is = none_at dir token number (suc place) xs i is
 
-values_shown : (dir : Directory) (token : Token) (number attr : ℕ) (info : Option AttrInfo) (values : List Value)
+pub values_shown : (dir : Directory) (token : Token) (number attr : ℕ) (info : Option AttrInfo) (values : List Value)
     → slice_get (attrs_of dir.schema) attr ≡ info
     → values_at (seen_of dir token number) attr ≡ Some values → values ≡ shown dir number attr
 unfolding seen_of
@@ -229,22 +232,6 @@ values_shown dir token number attr (Some info) values at is =
     (subst (λ (n : ℕ). read_of dir token number n info ≡ Some values) here
     (sym (ap (λ (found : Option (Option (List Value))). unwrap_or found None)
     (read_at dir token number 0 (attrs_of dir.schema) attr info at)) ∙ is))
-
-pub not_found : (dir : Directory) (token : Token) (number : ℕ) (f : FilterValue) (needle : Needle)
-    → IsNeedle dir.schema f needle
-    → has_key needle.value.key (shown dir number needle.attr.0) ≡ false
-    → is_true (truth (reads dir.schema (seen_of dir token number)) f) ≡ false
-not_found dir token number f needle needs none = by (is_true (truth (reads dir.schema (seen_of dir token number)) f))
-    refl
-  where
-    by : (b : Bool) → is_true (truth (reads dir.schema (seen_of dir token number)) f) ≡ b
-        → is_true (truth (reads dir.schema (seen_of dir token number)) f) ≡ false
-    by false e = e
-    by true e =
-        let read = needs.needed (seen_of dir token number) e in
-        let same : read.0 ≡ shown dir number needle.attr.0 = values_shown dir token number needle.attr.0
-        (slice_get (attrs_of dir.schema) needle.attr.0) read.0 refl read.1 in
-        let no : false ≡ true = sym none ∙ ap (has_key needle.value.key) (sym same) ∙ read.2 in absurd cc
 
 pub any_map : {A B : Type 0} (f : A → B) (p : B → Bool) (xs : List A) → list_any (λ (x : A). p (f x)) xs
     ≡ list_any p (map f xs)

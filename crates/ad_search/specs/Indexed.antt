@@ -17,7 +17,7 @@ use Rattle.ad_dir_model.specs.Directory.{Directory}
 use Rattle.ad_search.specs.declared.needles.Needle.{Needle}
 use Rattle.ad_search.specs.declared.indexed.Sought.{Sought}
 use Rattle.ad_entries.specs.Seen.{reads, seen_of}
-use Rattle.ad_search.specs.Needles.{has_key, IsPlain, IsNeedle, HaveSameEntries}
+use Rattle.ad_search.specs.Needles.{has_key, IsPlain, HaveSameEntries}
 
 -- some class names its objects by the attribute
 abbrev pub names_one : List SchemaRecord → ℕ → Bool
@@ -33,15 +33,6 @@ pub record IsSoughtFor (schema : List SchemaRecord) (needle : Needle) (sought : 
   pub attr_is : sought.attr ≡ needle.attr
   pub key_is : sought.key ≡ needle.value.key
   pub named : IsNamedBy schema sought.attr.0 sought.by_name
-
--- the filter is true only of objects of which it is read
-pub record IsSought (schema : List SchemaRecord) (filter : FilterValue) (sought : Sought) : Type 0 where
-  pub needle : Needle
-  pub needs : IsNeedle schema filter needle
-  pub sought_for : IsSoughtFor schema needle sought
-
-abbrev pub AreSought : List SchemaRecord → FilterValue → List Sought → Type 0
-AreSought schema filter soughts = AllByRecursion (IsSought schema filter) soughts
 
 -- whoever asks, the filter isn't true of the object
 abbrev pub IsNever : Directory → FilterValue → ℕ → Type 0

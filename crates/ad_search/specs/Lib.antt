@@ -10,3 +10,4 @@ pub mod Steps
 pub mod ReadSteps
 pub mod Needles
 pub mod Indexed
+pub mod Needed

@@ -1,17 +1,17 @@
 -- What an object has to store for the filter of a search to be true of it.
-use Rattle.std.specs.Prelude.{◌≡◌, ℕ, Bool, true, false, codes, slice_get, List, Some, Ok}
-use Rattle.std.specs.List.{AllByRecursion, list_any}
+use Rattle.std.specs.Prelude.{◌≡◌, ℕ, ◌<◌, Bool, true, false, codes, slice_get, List, length, Some, Ok}
+use Rattle.std.specs.List.{list_any}
 use Rattle.ad_value.specs.declared.value.Key.{Key}
 use Rattle.ad_value.specs.Value.{Value, same_key}
 use Rattle.ad_value.specs.ValueOf.{normal_or_fault}
 use Rattle.ad_schema.specs.declared.info.AttrId.{AttrId}
 use Rattle.ad_schema.specs.declared.info.AttrInfo.{AttrInfo}
-use Rattle.ad_schema.specs.Attributes.{attrs_of}
+use Rattle.ad_schema.specs.Attributes.{attrs_of, attr_named}
 use Rattle.ad_schema.specs.declared.line.SchemaRecord.{SchemaRecord}
 use Rattle.ad_ldap.specs.FilterValue.{FilterValue}
 use Rattle.ad_ldap.specs.MessageValue.{SearchValue}
 use Rattle.ad_filter.specs.ThreeValues.{is_true}
-use Rattle.ad_filter.specs.Filtering.{truth}
+use Rattle.ad_filter.specs.Filtering.{truth, is_descriptor}
 use Rattle.ad_ids.specs.declared.token.Token.{Token}
 use Rattle.ad_dn.specs.declared.rdn.Dn.{Dn}
 use Rattle.ad_dir_model.specs.Attributes.{is_named}
@@ -30,6 +30,13 @@ pub record IsPlain (schema : List SchemaRecord) (attr : ℕ) : Type 0 where
   pub no_dn : is_named schema (codes "distinguishedName") attr ≡ false
   pub no_name : is_named schema (codes "name") attr ≡ false
 
+-- The attribute has this name, and is such a one.
+pub record IsPlainNamed (schema : List SchemaRecord) (name : List ℕ) (attr : AttrId) : Type 0 where
+  pub ordinary : is_descriptor name ≡ false
+  pub named : attr_named schema name ≡ Some attr
+  pub within : attr.0 < length (attrs_of schema)
+  pub plain : IsPlain schema attr.0
+
 -- Of the object a value of this attribute with this key is read.
 abbrev pub IsRead : Seen → Needle → Type 0
 IsRead seen needle = (values : List Value) × (values_at seen needle.attr.0 ≡ Some values)
@@ -47,9 +54,6 @@ pub record IsAskedAs (schema : List SchemaRecord) (attr : AttrId) (sent : List �
   pub attr_is : needle.attr ≡ attr
   pub value_is : normal_or_fault info.syntax sent ≡ Ok needle.value
   pub plain : IsPlain schema attr.0
-
-abbrev pub AreNeedles : List SchemaRecord → FilterValue → List Needle → Type 0
-AreNeedles schema filter needles = AllByRecursion (IsNeedle schema filter) needles
 
 -- The entries of these objects are those of the others, whoever asks.
 abbrev pub HaveSameEntries : Directory → SearchValue → List ℕ → List ℕ → Type 0

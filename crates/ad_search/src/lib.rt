@@ -20,16 +20,19 @@
 //!
 //! # Cost
 //!
-//! Linear in the objects in scope, of which those that can't be in an equality are left out by a look at what they
-//! store; an entry takes a sweep over its descriptor. There is no index of values.
+//! Where an equality of the filter, or one in an And, or each item of an Or leads to objects by an index, linear in
+//! those. Else linear in the objects in scope, of which those that can't be among the entries by what they store are
+//! left out by a look at it. An entry takes a sweep over its descriptor.
 #![tactic(auto)]
 
+mod candidates;
 mod comparing;
 mod finding;
 mod indexed;
 mod joining;
 mod laws;
 mod naming;
+mod needed;
 mod needles;
 mod parents;
 mod searching;

@@ -1,30 +1,21 @@
-//! What an object has to store for the filter of a search to be true of it, so that most objects need no more than a
-//! look at what they store.
+//! A value that an object has to show for the filter of a search to be true of it, and which objects may show it.
 
-ghost use Rattle.std.specs.Prelude.{◌≡◌, ◌<◌, ◌++◌, false, true, length, map, option_to_list, IfOk, IfSome, OnOk};
-ghost use Rattle.std.specs.Prelude.{IsFalse};
-ghost use Rattle.std.specs.List.{AllByRecursion, list_any};
+ghost use Rattle.std.specs.Prelude.{◌≡◌, ◌<◌, [], false, true, length, map, IfOk, IfSome, IsTrue, IsFalse};
+ghost use Rattle.std.specs.List.{list_any};
 ghost use Rattle.std.specs.Result.{result_ok};
 ghost use Rattle.ad_value.specs.ValueOf.{normal_or_fault};
 ghost use Rattle.ad_schema.specs.Attributes.{attrs_of};
-ghost use Rattle.ad_ids.specs.declared.token.Token.{Token};
-ghost use Rattle.ad_ldap.specs.FilterValue.{FilterValue, filter_seen, filters_of};
 ghost use Rattle.ad_ldap.specs.FilterValue as value;
-ghost use Rattle.ad_ldap.specs.MessageValue.{search_seen};
 ghost use Rattle.ad_dir_objects.specs.Seen.{stored_seen};
 ghost use Rattle.ad_dir.specs.Values.{may_have};
-ghost use Rattle.ad_filter.specs.ThreeValues.{is_true};
-ghost use Rattle.ad_filter.specs.Filtering.{truth, is_descriptor};
+ghost use Rattle.ad_filter.specs.Filtering.{is_descriptor};
 ghost use Rattle.ad_dir_model.specs.Objects.{is_live};
 ghost use Rattle.ad_dir_model.specs.Attributes.{is_named};
 ghost use Rattle.ad_dir_model.specs.Shown.{shown};
-ghost use Rattle.ad_entries.specs.Seen.{reads, seen_of};
-ghost use Rattle.ad_entries.specs.Places.{place_if};
-ghost use Rattle.ad_search.specs.Needles.{has_key, IsPlain, IsNeedle, IsAskedAs, AreNeedles, HaveSameEntries};
+ghost use Rattle.ad_search.specs.Needles.{has_key, IsPlain, IsPlainNamed, IsNeedle, IsAskedAs};
 
 use ad_bytes::Bytes;
 use ad_dir::{Dir, Stored, live_object, stored_of};
-use ad_ldap::{Filter, Search, what_is_seen_of_filters};
 use ad_schema::{AttrId, Schema};
 use ad_schema_classes::same_name;
 use ad_value::{Syntax, Value, ValueFault, equal, normal};
@@ -66,6 +57,19 @@ fn is_named(schema: &Schema, name: &[u8], attr: AttrId) -> bool
     }
 }
 
+// Whether an object shows of the attribute what it stores, or its naming value.
+fn is_plain(schema: &Schema, attr: AttrId) -> bool
+    ensures { IsTrue result → IsPlain schema.now attr.0 }
+{
+    if is_named(schema, b"objectClass", attr)
+        || is_named(schema, b"distinguishedName", attr)
+        || is_named(schema, b"name", attr)
+    {
+        return false;
+    }
+    true
+}
+
 // What an equality asks of an attribute.
 fn needle_at(
     alloc: Global,
@@ -76,10 +80,7 @@ fn needle_at(
     requires { attr.0 < length (attrs_of schema.now) }
     ensures { IfOk result (λ needle. IfSome needle (IsAskedAs schema.now attr sent.now)) }
 {
-    if is_named(schema, b"objectClass", attr)
-        || is_named(schema, b"distinguishedName", attr)
-        || is_named(schema, b"name", attr)
-    {
+    if !is_plain(schema, attr) {
         return Ok(None);
     }
     match value_of(alloc, schema.attr_info(attr).syntax, sent)? {
@@ -89,7 +90,7 @@ fn needle_at(
 }
 
 // What an equality needs, where that can be told from what is stored.
-fn needle_of(
+pub(crate) fn needle_of(
     alloc: Global,
     schema: &Schema,
     name: &[u8],
@@ -107,66 +108,21 @@ fn needle_of(
     }
 }
 
-// What one filter needs, where it is an equality.
-fn needle_in(alloc: Global, schema: &Schema, filter: &Filter) -> Result<Option<Needle>, AllocError>
-    ensures { IfOk result (λ needle. IfSome needle (IsNeedle schema.now (filter_seen filter.now))) }
+// The attribute of a name, where an object shows of it what it stores, or its naming value.
+pub(crate) fn plain_named(schema: &Schema, name: &[u8]) -> Option<AttrId>
+    ensures { IfSome result (IsPlainNamed schema.now name.now) }
 {
-    match filter {
-        Filter::Equal(name, sent) => needle_of(alloc, schema, name.as_slice(), sent.as_slice()),
-        _ => Ok(None),
+    if is_descriptor(name) {
+        return None;
     }
-}
-
-fn push_if(needles: &mut Vec<Needle>, needle: Option<Needle>) -> Result<(), AllocError>
-    ensures { OnOk result (needles.new.items ≡ needles.old.items ++ option_to_list needle) }
-{
-    if let Some(needle) = needle {
-        needles.push(needle)?;
-    }
-    Ok(())
-}
-
-// What each of several filters needs needs whoever needs all of them.
-fn needles_of_all(
-    alloc: Global,
-    schema: &Schema,
-    filters: &[Filter],
-) -> Result<Vec<Needle>, AllocError>
-    ensures { IfOk result (λ needles.
-        AreNeedles schema.now (value.And (filters_of (map filter_seen filters.now)))
-        needles.items) }
-{
-    let mut needles = Vec::new(alloc);
-    'each: for filter in filters {
-        let needle = needle_in(alloc, schema, filter)?;
-        push_if(&mut needles, needle)?;
-    }
-    Ok(needles)
-}
-
-fn one_needle(alloc: Global, schema: &Schema, filter: &Filter) -> Result<Vec<Needle>, AllocError>
-    ensures { IfOk result (λ needles. AreNeedles schema.now (filter_seen filter.now)
-        needles.items) }
-{
-    let mut needles = Vec::new(alloc);
-    let needle = needle_in(alloc, schema, filter)?;
-    push_if(&mut needles, needle)?;
-    Ok(needles)
-}
-
-// What a filter needs: that of an equality, or of those that stand in an And.
-pub(crate) fn needles_of(
-    alloc: Global,
-    schema: &Schema,
-    filter: &Filter,
-) -> Result<Vec<Needle>, AllocError>
-    ensures { IfOk result (λ needles. AreNeedles schema.now (filter_seen filter.now)
-        needles.items) }
-{
-    what_is_seen_of_filters();
-    match filter {
-        Filter::And(filters) => needles_of_all(alloc, schema, filters.as_slice()),
-        _ => one_needle(alloc, schema, filter),
+    match schema.attr(name) {
+        Some(attr) => {
+            if !is_plain(schema, attr) {
+                return None;
+            }
+            Some(attr)
+        }
+        None => None,
     }
 }
 
@@ -188,7 +144,7 @@ fn any_may(stored: &[Stored], value: &Value) -> bool
 }
 
 // Whether an object may show what is needed: by what it stores, unless the attribute shows its naming value.
-fn may_show(dir: &Dir, number: u32, needle: &Needle) -> bool
+pub(crate) fn may_show(dir: &Dir, number: u32, needle: &Needle) -> bool
     requires live { is_live dir.now.objects number ≡ true }
     ensures { IsFalse result → IsPlain dir.now.schema needle.now.attr.0
         → has_key needle.now.value.key (shown dir.now number needle.now.attr.0) ≡ false }
@@ -204,70 +160,21 @@ fn may_show(dir: &Dir, number: u32, needle: &Needle) -> bool
     )
 }
 
-// Whether it may show all of it.
-pub(crate) fn may_be_found(dir: &Dir, number: u32, needles: &[Needle]) -> bool
+fn is_some(stored: &[Stored]) -> bool
+    ensures { IsFalse result → map stored_seen stored.now ≡ [] }
+{
+    !stored.is_empty()
+}
+
+// Whether an object may show a value of an attribute: by what it stores, unless the attribute shows its naming value.
+pub(crate) fn may_show_some(dir: &Dir, number: u32, attr: AttrId) -> bool
     requires live { is_live dir.now.objects number ≡ true }
-    ensures { IsFalse result → (filter : FilterValue) (token : Token) → AreNeedles dir.now.schema
-        filter needles.now
-        → is_true (truth (reads dir.now.schema (seen_of dir.now token number)) filter) ≡ false }
+    ensures { IsFalse result → IsPlain dir.now.schema attr.0 → shown dir.now number attr.0 ≡ [] }
 {
-    for needle in needles {
-        if !may_show(dir, number, needle) {
-            return false;
-        }
+    dir.stands();
+    let object = live_object(dir, number);
+    if dir.schema().class_info(object.class).naming.0 == attr.0 {
+        return true;
     }
-    true
-}
-
-// ---- of all objects that are asked for
-
-pub(crate) fn push_number(numbers: &mut Vec<u32>, so: bool, number: u32) -> Result<(), AllocError>
-    ensures { OnOk result (numbers.new.items ≡ numbers.old.items ++ place_if so number) }
-{
-    if so {
-        numbers.push(number)?;
-    }
-    Ok(())
-}
-
-fn those_left(
-    alloc: Global,
-    dir: &Dir,
-    search: &Search,
-    needles: &[Needle],
-    numbers: &[u32],
-) -> Result<Vec<u32>, AllocError>
-    requires live { AllByRecursion (λ number. is_live dir.now.objects number ≡ true) numbers.now }
-    requires needles { AreNeedles dir.now.schema (search_seen search.now).filter needles.now }
-    ensures same { IfOk result (λ left. HaveSameEntries dir.now (search_seen search.now) left.items
-        numbers.now) }
-    ensures live { IfOk result (λ left.
-        AllByRecursion (λ number. is_live dir.now.objects number ≡ true) left.items) }
-{
-    let mut left = Vec::new(alloc);
-    'each: for number in numbers {
-        let may = may_be_found(dir, *number, needles);
-        push_number(&mut left, may, *number)?;
-    }
-    Ok(left)
-}
-
-/// Those of the objects that may have an entry of which the filter may be true.
-pub(crate) fn left_of(
-    alloc: Global,
-    dir: &Dir,
-    search: &Search,
-    numbers: Vec<u32>,
-) -> Result<Vec<u32>, AllocError>
-    requires { AllByRecursion (λ number. is_live dir.now.objects number ≡ true) numbers.items }
-    ensures same { IfOk result (λ left. HaveSameEntries dir.now (search_seen search.now) left.items
-        numbers.items) }
-    ensures live { IfOk result (λ left.
-        AllByRecursion (λ number. is_live dir.now.objects number ≡ true) left.items) }
-{
-    let needles = needles_of(alloc, dir.schema(), &search.filter)?;
-    if needles.is_empty() {
-        return Ok(numbers);
-    }
-    those_left(alloc, dir, search, needles.as_slice(), numbers.as_slice())
+    is_some(stored_of(object.values.as_slice(), attr))
 }

@@ -19,11 +19,10 @@ ghost use Rattle.ad_search.specs.Parents.{IsKept};
 ghost use Rattle.ad_search.specs.Subtree.{subtree};
 ghost use Rattle.ad_search.specs.Steps.{entries_among, Steps, objects_asked};
 
+use crate::candidates::{indexed_of, left_of};
 use crate::finding::{matched, seen_named};
-use crate::indexed::indexed_of;
 use crate::joining::{Joined, done, end_code, ended, join};
 use crate::naming::in_scope;
-use crate::needles::left_of;
 use crate::parents::{Parent, is_seen, no_parent};
 use crate::subtree::{ROOT, subtree};
 use ad_dir::Dir;

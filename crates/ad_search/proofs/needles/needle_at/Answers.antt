@@ -8,11 +8,5 @@ returns-in-Some c = record {
   known = c.attr_info.ensures;
   attr_is = refl;
   value_is = found_ok _ c.in-Some.value (sym c.in_ok-value.ensures ∙ c.in-Some.is);
-  plain = record {
-    no_class = sym c.is_named.ensures ∙ c.if-is_named.false;
-    no_dn
-        = sym c.is_named-else-is_named.ensures ∙ c.if-is_named-2.false;
-    no_name = sym c.is_named-else-is_named-2.ensures
-        ∙ c.if-is_named-3.false;
-  };
+  plain = c.is_plain.ensures c.if-not-is_plain.false;
 }

@@ -3,7 +3,7 @@ use Rattle.std.specs.List.{AllByRecursion}
 use Rattle.ad_ldap.specs.MessageValue.{search_seen}
 use Rattle.ad_dir_model.specs.Objects.{is_live}
 use Rattle.ad_search.specs.Needles.{HaveSameEntries}
-use Rattle.ad_search.proofs.needles.those_left.Given as goal
+use Rattle.ad_search.proofs.candidates.those_left.Given as goal
 
 -- those that are left so far and those that weren't looked at have the entries of all
 abbrev pub invariant-each : goal.invariant-each

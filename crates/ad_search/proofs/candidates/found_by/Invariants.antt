@@ -1,7 +1,7 @@
 use Rattle.std.proofs.Common.{◌-◌}
 use Rattle.ad_ldap.specs.MessageValue.{search_seen}
 use Rattle.ad_search.proofs.IndexLaws.{IsUpTo}
-use Rattle.ad_search.proofs.indexed.found_by.Given as goal
+use Rattle.ad_search.proofs.candidates.found_by.Given as goal
 
 -- those up to a number
 abbrev pub invariant-each : goal.invariant-each

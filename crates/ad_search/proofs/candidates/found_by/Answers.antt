@@ -1,0 +1,32 @@
+use Rattle.std.proofs.Common.{ℕ, Option, subst}
+use Rattle.ad_ldap.specs.MessageValue.{search_seen}
+use Rattle.ad_search.specs.Needed.{IsMet, IsNextOf}
+use Rattle.ad_search.proofs.IndexLaws.{never_by, next_for, none_yet, one_more, left_of_all}
+use Rattle.ad_search.proofs.candidates.found_by.Goals as goal
+
+pub each-init : goal.each-init
+each-init c = none_yet c.args.dir.now (search_seen c.args.search.now).filter c.new-left.result.items
+    c.stands.ensures.rise c.new-left.ensures.items
+
+pub each-preserved : goal.each-preserved
+each-preserved c =
+    let dir = c.args.dir.now in
+    let filter = (search_seen c.args.search.now).filter in
+    let need = c.args.need.now in
+    one_more dir filter c.each.above c.in-Some.next c.is_candidate-so.result c.each.left.items
+    c.push_number.new.numbers.items
+    (next_for dir filter need c.each.above _ c.requires.needed
+    (subst (IsNextOf dir (λ (n : ℕ). IsMet dir n need) c.each.above) c.in-Some.is c.next_of.ensures))
+    c.is_candidate-so.ensures.live
+    (λ out live. never_by dir filter need c.in-Some.next c.requires.needed (c.is_candidate-so.ensures.never out live))
+    c.in_ok-push_number.ensures c.each.invariant
+
+pub returns : goal.returns
+returns c =
+    let dir = c.args.dir.now in
+    let search = search_seen c.args.search.now in
+    let need = c.args.need.now in
+    left_of_all dir search c.each.above c.each.left.items c.stands.ensures.rise
+    (next_for dir search.filter need c.each.above _ c.requires.needed
+    (subst (IsNextOf dir (λ (n : ℕ). IsMet dir n need) c.each.above) c.in_default.is c.next_of.ensures))
+    c.each.invariant

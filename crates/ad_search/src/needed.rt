@@ -1,0 +1,212 @@
+//! What an object has to show for the filter of a search to be true of it, so that most objects need no more than a
+//! look at what they store.
+//!
+//! It is a tree as the filter is. An item of an And of which nothing is known is left out, and an Or of which one item
+//! is such tells nothing.
+
+ghost use Rattle.std.specs.Prelude.{◌≡◌, ℕ, ◌≤◌, ◌<◌, List, ◌++◌, true, length, map, slice_index_or, option_to_list};
+ghost use Rattle.std.specs.Prelude.{IfOk, IfSome, OnOk, IsFalse};
+ghost use Rattle.std.specs.List.{AllByRecursion};
+ghost use Rattle.ad_value.specs.declared.pattern.Pattern.{Pattern as PatternValue};
+ghost use Rattle.ad_ldap.specs.FilterValue.{FilterValue, filter_seen, filters_of, depth, depth_of_all};
+ghost use Rattle.ad_ldap.specs.FilterValue as value;
+ghost use Rattle.ad_dir_model.specs.Objects.{is_live};
+ghost use Rattle.ad_dir_model.specs.Directory.{Directory};
+ghost use Rattle.ad_search.specs.Needles.{IsNeedle};
+ghost use Rattle.ad_search.specs.Needed.{IsMet, HasMet, AreMet, IsNeededBy};
+
+use crate::indexed::{Sought, sought_of};
+use crate::needles::{Needle, may_show, may_show_some, needle_of, plain_named};
+use ad_dir::Dir;
+use ad_ldap::{Filter, what_is_seen_of_filters};
+use ad_schema::AttrId;
+use std::alloc::{AllocError, Global};
+
+/// A value, and what is sought for it where there is an index.
+#[derive(Drop)]
+pub(crate) struct Leaf {
+    pub needle: Needle,
+    pub sought: Option<Sought>,
+}
+
+/// What an object has to show.
+#[derive(Drop)]
+pub(crate) enum Need {
+    One(Leaf),
+    /// Some value of an attribute.
+    Present(AttrId),
+    AnyOf(Vec<Need>),
+    AllOf(Vec<Need>),
+}
+
+// ---- of one item
+
+// What is needed where a value is.
+fn one_of(alloc: Global, dir: &Dir, needle: Needle) -> Result<Need, AllocError>
+    ensures { IfOk result (λ need. (filter : FilterValue) → IsNeedle dir.now.schema filter needle
+        → IsNeededBy dir.now filter need) }
+{
+    let sought = sought_of(alloc, dir, &needle)?;
+    Ok(Need::One(Leaf { needle, sought }))
+}
+
+// What an equality needs.
+fn need_of_equal(
+    alloc: Global,
+    dir: &Dir,
+    name: &[u8],
+    sent: &[u8],
+) -> Result<Option<Need>, AllocError>
+    ensures equal { IfOk result (λ need.
+        IfSome need (IsNeededBy dir.now (value.Equal name.now sent.now))) }
+    ensures like { IfOk result (λ need.
+        IfSome need (IsNeededBy dir.now (value.Like name.now sent.now))) }
+{
+    match needle_of(alloc, dir.schema(), name, sent)? {
+        Some(needle) => Ok(Some(one_of(alloc, dir, needle)?)),
+        None => Ok(None),
+    }
+}
+
+// What every other item needs that is about an attribute: a value of it.
+fn need_of_some(dir: &Dir, name: &[u8]) -> Option<Need>
+    ensures present { IfSome result (IsNeededBy dir.now (value.Present name.now)) }
+    ensures pieces { (sent : PatternValue) → IfSome result
+        (IsNeededBy dir.now (value.Pieces name.now sent)) }
+    ensures at_least { (sent : List ℕ) → IfSome result
+        (IsNeededBy dir.now (value.AtLeast name.now sent)) }
+    ensures at_most { (sent : List ℕ) → IfSome result
+        (IsNeededBy dir.now (value.AtMost name.now sent)) }
+{
+    match plain_named(dir.schema(), name) {
+        Some(attr) => Some(Need::Present(attr)),
+        None => None,
+    }
+}
+
+// ---- of a filter
+
+// A filter of a list, which is no deeper than the list.
+fn filter_at(filters: &[Filter], i: usize) -> &Filter
+    requires { i < length filters.now }
+    ensures at { result.now ≡ slice_index_or filters.entry.now i result.now }
+    ensures less_deep { depth (filter_seen result.now)
+        ≤ depth_of_all (filters_of (map filter_seen filters.entry.now)) }
+{
+    &filters[i]
+}
+
+fn push_if(needs: &mut Vec<Need>, need: Option<Need>) -> Result<(), AllocError>
+    ensures { OnOk result (needs.new.items ≡ needs.old.items ++ option_to_list need) }
+{
+    if let Some(need) = need {
+        needs.push(need)?;
+    }
+    Ok(())
+}
+
+// All of these, where there are any.
+fn all_of(needs: Vec<Need>) -> Option<Need>
+    ensures { (dir : Directory) (filter : FilterValue)
+        → AllByRecursion (IsNeededBy dir filter) needs.items
+        → IfSome result (IsNeededBy dir filter) }
+{
+    if needs.is_empty() {
+        return None;
+    }
+    Some(Need::AllOf(needs))
+}
+
+// What each of several filters needs needs whoever needs all of them.
+#[cycle(need)]
+fn need_of_all(alloc: Global, dir: &Dir, filters: &[Filter]) -> Result<Option<Need>, AllocError>
+    ensures { IfOk result (λ need. IfSome need
+        (IsNeededBy dir.now (value.And (filters_of (map filter_seen filters.now))))) }
+{
+    let mut needs = Vec::new(alloc);
+    'each: for i in 0..filters.len() {
+        let need = need_of(alloc, dir, filter_at(filters, i))?;
+        push_if(&mut needs, need)?;
+    }
+    Ok(all_of(needs))
+}
+
+// Some filter of several needs one of what they need.
+#[cycle(need)]
+fn need_of_any(alloc: Global, dir: &Dir, filters: &[Filter]) -> Result<Option<Need>, AllocError>
+    ensures { IfOk result (λ need. IfSome need
+        (IsNeededBy dir.now (value.Or (filters_of (map filter_seen filters.now))))) }
+{
+    let mut needs = Vec::new(alloc);
+    'each: for i in 0..filters.len() {
+        let Some(need) = need_of(alloc, dir, filter_at(filters, i))? else {
+            return Ok(None);
+        };
+        needs.push(need)?;
+    }
+    Ok(Some(Need::AnyOf(needs)))
+}
+
+/// What a filter needs, where that can be told from what is stored.
+#[cycle(need)]
+pub(crate) fn need_of(alloc: Global, dir: &Dir, filter: &Filter) -> Result<Option<Need>, AllocError>
+    ensures { IfOk result (λ need. IfSome need (IsNeededBy dir.now (filter_seen filter.now))) }
+{
+    what_is_seen_of_filters();
+    match filter {
+        Filter::And(filters) => need_of_all(alloc, dir, filters.as_slice()),
+        Filter::Or(filters) => need_of_any(alloc, dir, filters.as_slice()),
+        Filter::Not(_) => Ok(None),
+        Filter::Equal(name, sent) => need_of_equal(alloc, dir, name.as_slice(), sent.as_slice()),
+        Filter::Like(name, sent) => need_of_equal(alloc, dir, name.as_slice(), sent.as_slice()),
+        Filter::Pieces(name, _) => Ok(need_of_some(dir, name.as_slice())),
+        Filter::AtLeast(name, _) => Ok(need_of_some(dir, name.as_slice())),
+        Filter::AtMost(name, _) => Ok(need_of_some(dir, name.as_slice())),
+        Filter::Present(name) => Ok(need_of_some(dir, name.as_slice())),
+        Filter::Extensible => Ok(None),
+    }
+}
+
+// ---- of an object
+
+// Whether an object may show one of these.
+#[cycle(look)]
+fn may_meet_one(dir: &Dir, number: u32, needs: &[Need]) -> bool
+    requires live { is_live dir.now.objects number ≡ true }
+    ensures { IsFalse result → HasMet dir.now number needs.now → ⊥ }
+{
+    'each: for need in needs {
+        if may_meet(dir, number, need) {
+            return true;
+        }
+    }
+    false
+}
+
+// Whether it may show all of them.
+#[cycle(look)]
+fn may_meet_all(dir: &Dir, number: u32, needs: &[Need]) -> bool
+    requires live { is_live dir.now.objects number ≡ true }
+    ensures { IsFalse result → AreMet dir.now number needs.now → ⊥ }
+{
+    'each: for need in needs {
+        if !may_meet(dir, number, need) {
+            return false;
+        }
+    }
+    true
+}
+
+/// Whether an object may show what is needed, by what it stores.
+#[cycle(look)]
+pub(crate) fn may_meet(dir: &Dir, number: u32, need: &Need) -> bool
+    requires live { is_live dir.now.objects number ≡ true }
+    ensures { IsFalse result → IsMet dir.now number need.now → ⊥ }
+{
+    match need {
+        Need::One(leaf) => may_show(dir, number, &leaf.needle),
+        Need::Present(attr) => may_show_some(dir, number, *attr),
+        Need::AnyOf(needs) => may_meet_one(dir, number, needs.as_slice()),
+        Need::AllOf(needs) => may_meet_all(dir, number, needs.as_slice()),
+    }
+}
