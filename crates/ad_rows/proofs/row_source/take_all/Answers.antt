@@ -9,7 +9,7 @@ use Rattle.ad_rows.proofs.Loops.{if_all, if_on}
 use Rattle.ad_rows.proofs.row_source.take_all.Goals as goal
 
 pub returns-clause-taken : goal.returns-clause-taken
-returns-clause-taken g c =
+returns-clause-taken c =
     let schema = option_copied c.args.schema in
     if_on _ (λ (s : List SchemaRecord). HasTaken s c.take_in.new.taken) schema
     (if_all _ schema (λ s. subst (λ (os : List (Object × Sd)). AreTaken s None 0 (objects_of os))

@@ -52,7 +52,7 @@ pub returns-clause-stands : goal.returns-clause-stands
 returns-clause-stands g c =
     λ _. record {
       sound = c.in_ok-dir.ensures.sound;
-      held = holds_dir _ (g.S.Site.reads c.args.site.now) (g.S.Site.reads c.resume.new.site)
+      held = holds_dir _ (g.S.Site.reads c.args.site.now) (g.S.Site.reads c.resume_in.new.site)
           (table_of c.in_ok-store.rows.items) c.in_ok-store.ensures.outside.held c.in_ok-store.ensures.rows
           c.in_ok-dir.ensures.rows;
       unspent = c.in_ok-store.ensures.unspent;

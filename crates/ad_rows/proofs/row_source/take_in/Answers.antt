@@ -3,7 +3,7 @@ use Rattle.std.specs.Option.{option_copied}
 use Rattle.std.proofs.lemmas.Result.{err_from_is_err_and}
 use Rattle.ad_rows.specs.Taking.{parts_of, with_rows}
 use Rattle.ad_rows.proofs.Loops.{if_all, rows_stop, rows_on, rows_end}
-use Rattle.ad_rows.proofs.row_source.VecRowRowSource.take_in.Goals as goal
+use Rattle.ad_rows.proofs.row_source.take_in.Goals as goal
 
 pub loop-row-init : goal.loop-row-init
 loop-row-init c =
@@ -18,7 +18,7 @@ returns-in_err-take_row-clause-parts c =
     let parts = parts_of c.loop-row.taken in
     let p = err_from_is_err_and c.from_residual.result c.from_residual.ensures.1 in
     rw (p.1, p.2) (λ not_memory. rows_stop schema c.next.new.self.rest.items parts c.in-Some.row
-    c.in_err-take_row.field-0.0 (with_rows schema (parts_of c.args.taken.now) c.args.self.items)
+    c.in_err-take_row.field-0.0 (with_rows schema (parts_of c.args.taken.now) c.args.rows.items)
     (c.in_err-take_row.ensures.parts not_memory)
     (sym (ap (with_rows schema parts) c.in-Some.ensures.steps.0) ∙ c.loop-row.invariant.1))
 
@@ -27,7 +27,7 @@ loop-row-preserved-in_ok-take_row c =
     let schema = option_copied c.args.schema in
     let old = c.loop-row.taken in
     rows_on schema c.next.new.self.rest.items c.args.taken.now old c.take_row.new.taken c.in-Some.row
-    (with_rows schema (parts_of c.args.taken.now) c.args.self.items) c.loop-row.invariant.0
+    (with_rows schema (parts_of c.args.taken.now) c.args.rows.items) c.loop-row.invariant.0
     c.in_ok-take_row.ensures.taken c.in_ok-take_row.ensures.parts
     (sym (ap (with_rows schema (parts_of old)) c.in-Some.ensures.steps.0) ∙ c.loop-row.invariant.1)
 
@@ -36,7 +36,7 @@ loop-row-preserved c =
     let schema = option_copied c.args.schema in
     let old = c.loop-row.taken in
     rows_on schema c.next.new.self.rest.items c.args.taken.now old c.take_row.new.taken c.in-Some.row
-    (with_rows schema (parts_of c.args.taken.now) c.args.self.items) c.loop-row.invariant.0
+    (with_rows schema (parts_of c.args.taken.now) c.args.rows.items) c.loop-row.invariant.0
     c.in_ok-take_row.ensures.taken c.in_ok-take_row.ensures.parts
     (sym (ap (with_rows schema (parts_of old)) c.in-Some.ensures.steps.0) ∙ c.loop-row.invariant.1)
 
@@ -44,5 +44,5 @@ pub returns-clause-parts : goal.returns-clause-parts
 returns-clause-parts c =
     let schema = option_copied c.args.schema in
     rows_end schema c.loop-row.row-iterator.rest.items (parts_of c.loop-row.taken)
-    (with_rows schema (parts_of c.args.taken.now) c.args.self.items)
+    (with_rows schema (parts_of c.args.taken.now) c.args.rows.items)
     (sym c.loop-row.row-iterator.rest.ok.0 ∙ c.in-None.ensures.steps.0) c.loop-row.invariant.1
