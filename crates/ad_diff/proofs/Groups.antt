@@ -28,7 +28,7 @@ last_at : {A : Type 0} (xs : List A) (x : A) → slice_get (xs ++ (x ∷ [])) (l
 last_at [] x = refl
 last_at (y ∷ ys) x = last_at ys x
 
-last_cases : {A : Type 0} (xs : List A) (x y : A) (i : ℕ) → slice_get (xs ++ (x ∷ [])) i ≡ Some y
+pub last_cases : {A : Type 0} (xs : List A) (x y : A) (i : ℕ) → slice_get (xs ++ (x ∷ [])) i ≡ Some y
     → (slice_get xs i ≡ Some y) ⊎ ((i ≡ length xs) × (x ≡ y))
 last_cases [] x y zero is = inr (refl, same_Some x y is)
 last_cases [] x y (suc i) is = absurd (none-some y is)

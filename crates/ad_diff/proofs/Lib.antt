@@ -13,3 +13,5 @@ pub mod Whole
 pub mod Steps
 pub mod Unchanged
 pub mod OneValue
+pub mod Holding
+pub mod SameJudged

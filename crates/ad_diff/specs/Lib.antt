@@ -7,3 +7,4 @@ pub mod Answers
 -- only for private contracts, invariants and proofs
 pub mod Steps
 pub mod Same
+pub mod Kinds

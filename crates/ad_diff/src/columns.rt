@@ -1,13 +1,14 @@
 //! A column of the table: what each principal gains and loses on one object.
 
-ghost use Rattle.std.specs.Prelude.{◌≡◌, ◌<◌, ◌++◌, ◌∷◌, [], ℕ, List, get_or, slice_get, length, IfOk, IfSome, OnOk};
+ghost use Rattle.std.specs.Prelude.{◌≡◌, ◌<◌, ◌+◌, ◌++◌, ◌∷◌, [], ℕ, List, true, Some, get_or, slice_get, length, IfOk, IfSome, OnOk};
 ghost use Rattle.std.specs.List.{list_all};
-ghost use Rattle.ad_diff.specs.Same.{AreSteady};
+ghost use Rattle.ad_diff.specs.declared.tokens.Party.{Party as PartyValue};
+ghost use Rattle.ad_diff.specs.Kinds.{IsSameBefore, IsColumn};
+ghost use Rattle.ad_diff.specs.Same.{IsUnchanged, IsSteady, AreSteady};
 ghost use Rattle.ad_diff.specs.Steps.{texts, kind_at, all_lines, lines_at, lines_on, is_none, IsKind, IsSound};
 ghost use Rattle.ad_diff.specs.Steps.{IsPushed, IsLiveBoth};
 
 use crate::both::Both;
-use crate::same::is_unchanged;
 use crate::steady::{is_marked, lines_of};
 use crate::tokens::Party;
 use ad_dir::Dir;
@@ -102,8 +103,12 @@ fn push_lines(column: &mut Column, lines: Vec<u8>) -> Result<(), AllocError>
     Ok(())
 }
 
-// The column of no principals.
-fn empty(alloc: Global) -> Result<Column, AllocError>
+/// The column of no principals.
+///
+/// # Errors
+///
+/// Out of memory.
+pub(crate) fn empty(alloc: Global) -> Result<Column, AllocError>
     ensures sound { IfOk result IsSound }
     ensures lines { IfOk result (λ column. all_lines column ≡ []) }
 {
@@ -115,33 +120,95 @@ fn empty(alloc: Global) -> Result<Column, AllocError>
     })
 }
 
-/// The column of an object that is live in both. Whether the object is unchanged is looked up once.
+// The column after one more principal: that of these lines at a place before.
+fn push_same(
+    before: &Dir,
+    after: &Dir,
+    parties: &[Party],
+    column: &mut Column,
+    other: usize,
+    id: u32,
+    place: usize,
+    o: Both,
+) -> Result<(), AllocError>
+    requires place { place < length parties.now }
+    requires same { IsSameBefore before.now after.now parties.now o place other }
+    requires id { slice_get column.now.ids.items other ≡ Some id }
+    requires column { IsColumn before.now after.now parties.now o place column.now }
+    ensures { OnOk result (IsColumn before.now after.now parties.now o (place + 1) column.new) }
+{
+    let _ = before;
+    let _ = after;
+    let _ = parties;
+    let _ = other;
+    let _ = place;
+    let _ = o;
+    column.ids.push(id)?;
+    Ok(())
+}
+
+// The column after one more principal, which is judged.
+fn push_judged(
+    alloc: Global,
+    before: &Dir,
+    after: &Dir,
+    parties: &[Party],
+    column: &mut Column,
+    steady: bool,
+    place: usize,
+    o: Both,
+    unchanged: bool,
+) -> Result<(), AllocError>
+    requires live { IsLiveBoth before.now after.now o }
+    requires steady { steady ≡ true → (party : PartyValue) → slice_get parties.now place ≡ Some party
+        → IsSteady before.now after.now party }
+    requires unchanged { unchanged ≡ true → IsUnchanged before.now after.now o }
+    requires place { place < length parties.now }
+    requires column { IsColumn before.now after.now parties.now o place column.now }
+    ensures { OnOk result (IsColumn before.now after.now parties.now o (place + 1) column.new) }
+{
+    let lines = lines_of(alloc, before, after, &parties[place], steady, o, unchanged)?;
+    push_lines(column, lines)?;
+    Ok(())
+}
+
+/// The column after one more principal, and whether it was judged: it has the lines of one before that has the same, if
+/// one is given.
 ///
 /// # Errors
 ///
 /// Out of memory.
-pub(crate) fn column_of(
+pub(crate) fn push_next(
     alloc: Global,
     before: &Dir,
     after: &Dir,
     parties: &[Party],
     marks: &[bool],
+    column: &mut Column,
+    same: Option<usize>,
+    place: usize,
     o: Both,
-) -> Result<Column, AllocError>
+    unchanged: bool,
+) -> Result<bool, AllocError>
     requires live { IsLiveBoth before.now after.now o }
     requires steady { AreSteady before.now after.now parties.now marks.now }
-    ensures sound { IfOk result IsSound }
-    ensures lines { IfOk result (λ column. all_lines column
-        ≡ lines_on before.now after.now parties.now o) }
+    requires unchanged { unchanged ≡ true → IsUnchanged before.now after.now o }
+    requires same { IfSome same (IsSameBefore before.now after.now parties.now o place) }
+    requires place { place < length parties.now }
+    requires column { IsColumn before.now after.now parties.now o place column.now }
+    ensures { OnOk result (IsColumn before.now after.now parties.now o (place + 1) column.new) }
 {
-    let mut column = empty(alloc)?;
-    let unchanged = is_unchanged(before, after, o);
-    'each: for i in 0..parties.len() {
-        let steady = is_marked(marks, i);
-        let lines = lines_of(alloc, before, after, &parties[i], steady, o, unchanged)?;
-        push_lines(&mut column, lines)?;
+    if let Some(other) = same {
+        if let Some(id) = id_at(column, other) {
+            push_same(before, after, parties, column, other, id, place, o)?;
+            return Ok(false);
+        }
     }
-    Ok(column)
+    let steady = is_marked(marks, place);
+    push_judged(
+        alloc, before, after, parties, column, steady, place, o, unchanged,
+    )?;
+    Ok(true)
 }
 
 /// Whether no kind has a line.

@@ -2,13 +2,14 @@
 
 ghost use Rattle.std.specs.Prelude.{◌≡◌, ◌++◌, ◌∷◌, [], ℕ, Some, All, length, slice_get, OnOk, IfOk, IfSome};
 ghost use Rattle.ad_diff.specs.Text.{members};
-ghost use Rattle.ad_diff.specs.Same.{AreSteady};
+ghost use Rattle.ad_diff.specs.Kinds.{AreKinds};
 ghost use Rattle.ad_diff.specs.Steps.{all_lines, lines_on, IsLiveBoth, ArePlaced, IsGroupOfAlike, IsAdded};
 
 use crate::alike::{hash_of, is_alike};
 use crate::both::{Both, Grouped};
-use crate::columns::{Column, column_of, is_quiet, number_of};
-use crate::steady::steady_marks;
+use crate::columns::{Column, is_quiet, number_of};
+use crate::judging::column_of;
+use crate::kinds::{Kinds, fit, kinds_of};
 use crate::tokens::Party;
 use ad_dir::Dir;
 use indexmap::IndexMap;
@@ -77,7 +78,7 @@ fn group_of(
     before: &Dir,
     after: &Dir,
     parties: &[Party],
-    marks: &[bool],
+    kinds: &Kinds,
     objects: &[Grouped],
     columns: &mut Vec<Column>,
     place: Option<usize>,
@@ -86,14 +87,14 @@ fn group_of(
     requires objects { All (λ g. IsLiveBoth before.now after.now g.both) objects.now }
     requires live { IsLiveBoth before.now after.now o }
     requires placed { ArePlaced before.now after.now parties.now columns.now.items objects.now }
-    requires steady { AreSteady before.now after.now parties.now marks.now }
+    requires kinds { AreKinds before.now after.now parties.now kinds.now }
     ensures { IfOk result (IsAdded parties.now columns.old.items columns.new.items
         (lines_on before.now after.now parties.now o)) }
 {
     if let Some(group) = alike_at(before, after, objects, place, o) {
         return Ok(group);
     }
-    let column = column_of(alloc, before, after, parties, marks, o)?;
+    let column = column_of(alloc, before, after, parties, kinds, o)?;
     add(columns, column, parties)
 }
 
@@ -103,7 +104,7 @@ fn place(
     before: &Dir,
     after: &Dir,
     parties: &[Party],
-    marks: &[bool],
+    kinds: &Kinds,
     placing: &mut Placing,
     at: Option<usize>,
     o: Both,
@@ -112,7 +113,7 @@ fn place(
     requires live { IsLiveBoth before.now after.now o }
     requires placed { ArePlaced before.now after.now parties.now placing.now.columns.items
         placing.now.objects.items }
-    requires steady { AreSteady before.now after.now parties.now marks.now }
+    requires kinds { AreKinds before.now after.now parties.now kinds.now }
     ensures members { OnOk result (members placing.new.objects.items
         ≡ members placing.old.objects.items ++ (o ∷ [])) }
     ensures placed { OnOk result (ArePlaced before.now after.now parties.now
@@ -123,7 +124,7 @@ fn place(
         before,
         after,
         parties,
-        marks,
+        kinds,
         placing.objects.as_slice(),
         &mut placing.columns,
         at,
@@ -150,25 +151,17 @@ pub(crate) fn placed(
     ensures placed { IfOk result (λ placing. ArePlaced before.now after.now parties.now
         placing.columns.items placing.objects.items) }
 {
-    let marks = steady_marks(alloc, before, after, parties)?;
+    let mut kinds = kinds_of(alloc, before, after, parties)?;
     let mut places: IndexMap<u64, usize> = IndexMap::new(alloc);
     let mut placing = Placing {
         objects: Vec::new(alloc),
         columns: Vec::new(alloc),
     };
     for o in objects {
+        fit(alloc, before, after, parties, &mut kinds, *o)?;
         let hash = hash_of(before, after, *o);
         let at = places.get(&hash).copied();
-        place(
-            alloc,
-            before,
-            after,
-            parties,
-            marks.as_slice(),
-            &mut placing,
-            at,
-            *o,
-        )?;
+        place(alloc, before, after, parties, &kinds, &mut placing, at, *o)?;
         places.insert(hash, placing.objects.len() - 1)?;
     }
     Ok(placing)

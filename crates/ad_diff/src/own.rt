@@ -7,6 +7,7 @@ ghost use Rattle.ad_sd.specs.Seen.{seen};
 ghost use Rattle.ad_dir_model.specs.Objects.{is_live, sd_at};
 ghost use Rattle.ad_dir_model.specs.Identity.{self_sid};
 ghost use Rattle.ad_diff.specs.Steps.{is_for_self, IsSameOwn};
+ghost use Rattle.ad_diff.specs.Kinds.{own_in};
 
 use ad_dir::{Dir, live_sd};
 use ad_ids::Sid;
@@ -51,4 +52,15 @@ pub(crate) fn is_same_own(dir: &Dir, a: u32, b: u32) -> bool
     ensures { result ≡ true → IsSameOwn dir.now a b }
 {
     same_sid(dir.self_sid(a), dir.self_sid(b)) || !names_self(dir, a)
+}
+
+/// The own identifier of a live object, where an entry of its descriptor asks for it.
+pub(crate) fn own_in(dir: &Dir, number: u32) -> Option<&Sid>
+    requires { is_live dir.now.objects number ≡ true }
+    ensures { option_copied result ≡ own_in dir.now number }
+{
+    if names_self(dir, number) {
+        return dir.self_sid(number);
+    }
+    None
 }

@@ -11,15 +11,18 @@ place-requires-clause-objects c =
     placed_live c.args.before.now c.args.after.now (take c.loop-o.o-index c.args.objects.now)
     c.loop-o.placing.objects.items
     (All-take (IsLiveBoth c.args.before.now c.args.after.now) c.loop-o.o-index c.args.objects.now c.requires)
-    c.loop-o.invariant.members_are
+    c.loop-o.invariant.placing.members_are
 
 pub loop-o-preserved : goal.loop-o-preserved
 loop-o-preserved c =
     let none : Both = record { before = 0; after = 0 } in
     record {
-      members_are = c.in_ok-place.ensures.members
-          ∙ ap (λ (all : List Both). all ++ (get_or c.args.objects.now c.loop-o.o-index none ∷ []))
-          c.loop-o.invariant.members_are
-          ∙ sym (take_more c.args.objects.now c.loop-o.o-index none c.loop-o-test.true);
-      placed = c.in_ok-place.ensures.placed;
+      placing = record {
+        members_are = c.in_ok-place.ensures.members
+            ∙ ap (λ (all : List Both). all ++ (get_or c.args.objects.now c.loop-o.o-index none ∷ []))
+            c.loop-o.invariant.placing.members_are
+            ∙ sym (take_more c.args.objects.now c.loop-o.o-index none c.loop-o-test.true);
+        placed = c.in_ok-place.ensures.placed;
+      };
+      kinds = c.in_ok-fit.ensures;
     }
