@@ -94,7 +94,7 @@ def controls(count):
     return asked(BASE, [search(BOB)], 0, controls=made)
 
 
-@case("or", 1000, 250)
+@case("or", 1000, 250, known="each item of an Or is looked for among the values that an object stores, one by one")
 def one_of(count):
     """An Or of so many equals over so many values."""
     made = ber.sequence(*(equal("description", b"not " + value) for value in several(count)), tag=0xA1)
