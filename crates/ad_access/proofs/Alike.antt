@@ -7,6 +7,7 @@ use Rattle.ad_ids.specs.declared.token.Token.{Token}
 use Rattle.ad_acl.specs.declared.kind.AceKind.{AceKind}
 use Rattle.ad_acl.specs.Entry.{Entry}
 use Rattle.ad_acl.specs.Mask.{has_bit, mapped_has, write_owner, access_system_security}
+use Rattle.ad_access.specs.Privileges.{security, take_ownership}
 use Rattle.ad_access.specs.WellKnown.{owner_rights, principal_self}
 use Rattle.ad_access.specs.Holder.{Holder, first_holder, second_holder, answers_to}
 use Rattle.ad_access.specs.Matching.{answers_to_self, matches, speaks}
@@ -45,5 +46,5 @@ granted_alike owner dacl token self other path bit alike =
     let two = ap (λ (b : Bool). granted_to owner dacl (first_holder token) other path bit
     && ((length token.restricting == 0) || (granted_as_owner owner dacl (second_holder token) bit || b))) second
     in
-    ap (λ (b : Bool). if bit == access_system_security then has_bit token.privileges 0
-    else (if (bit == write_owner) && has_bit token.privileges 1 then true else b)) (one ∙ two)
+    ap (λ (b : Bool). if bit == access_system_security then has_bit token.privileges security
+    else (if (bit == write_owner) && has_bit token.privileges take_ownership then true else b)) (one ∙ two)

@@ -14,7 +14,8 @@ use Rattle.ad_types.specs.declared.type_tree.Node.{Node}
 use Rattle.ad_types.specs.Tree.{is_tree, is_above, path_at}
 use Rattle.ad_types.proofs.TreeLaws.{tree_at, path_above, path_step}
 use Rattle.ad_access.specs.declared.found.Found.{Found}
-use Rattle.ad_access.specs.Matching.{same_guid, is_about}
+use Rattle.ad_access.specs.Matching.{is_about}
+use Rattle.ad_ids.specs.Guid.{same_guid}
 use Rattle.ad_access.specs.Found.{nothing, found_at, about_above, is_about_below, Decides, AreOpen}
 
 -- The entry is taken at so many nodes, and not yet at the others.

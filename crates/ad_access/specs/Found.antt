@@ -7,7 +7,7 @@ use Rattle.ad_acl.specs.Mask.{has_bit}
 use Rattle.ad_sd.specs.declared.parts.Sd.{Sd}
 use Rattle.ad_types.specs.declared.type_tree.Node.{Node}
 use Rattle.ad_types.specs.Tree.{path_at}
-use Rattle.ad_access.specs.Matching.{same_guid}
+use Rattle.ad_ids.specs.Guid.{same_guid}
 use Rattle.ad_access.specs.Holder.{Holder}
 use Rattle.ad_access.specs.Grant.{granted_to}
 use Rattle.ad_access.specs.declared.found.Found.{Found}

@@ -8,6 +8,7 @@ use Rattle.ad_acl.specs.declared.kind.AceKind.{AceKind}
 use Rattle.ad_acl.specs.declared.kind.AceKind.TheVariants.{Allow, Deny, Audit}
 use Rattle.ad_acl.specs.Entry.{Entry}
 use Rattle.ad_acl.specs.Mask.{has_bit, mapped_has, read_control, write_dac, write_owner, access_system_security}
+use Rattle.ad_access.specs.Privileges.{security, take_ownership}
 use Rattle.ad_access.specs.WellKnown.{owner_rights}
 use Rattle.ad_access.specs.Holder.{Holder, first_holder, second_holder, holds}
 use Rattle.ad_access.specs.Matching.{matches, speaks, is_inherit_only}
@@ -59,6 +60,6 @@ granted_to_holders owner dacl token self path bit =
 -- owner without the privilege, is granted where each principal is granted it.
 abbrev pub granted : SidValue → List Entry → Token → Option SidValue → List Guid → ℕ → Bool
 granted owner dacl token self path bit =
-    if bit == access_system_security then has_bit token.privileges 0
-    else (if (bit == write_owner) && has_bit token.privileges 1 then true
+    if bit == access_system_security then has_bit token.privileges security
+    else (if (bit == write_owner) && has_bit token.privileges take_ownership then true
     else granted_to_holders owner dacl token self path bit)

@@ -1,3 +1,4 @@
+pub mod Privileges
 pub mod WellKnown
 pub mod Holder
 pub mod Matching

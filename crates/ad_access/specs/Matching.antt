@@ -1,9 +1,9 @@
 -- Which entries match a principal, and which speak of a path.
 use Rattle.std.specs.Prelude.{Bool, true, false, not, ◌&&◌, Option, Some, None, List, if◌then◌else◌}
 use Rattle.std.specs.List.{list_any}
-use Rattle.std.specs.Str.{bytes_eq}
 use Rattle.ad_ids.specs.SidValue.{SidValue, same_sid}
 use Rattle.ad_ids.specs.declared.guid.Guid.{Guid}
+use Rattle.ad_ids.specs.Guid.{same_guid}
 use Rattle.ad_acl.specs.declared.kind.AceKind.{AceKind}
 use Rattle.ad_acl.specs.declared.kind.AceKind.TheVariants.{Allow, Deny, Audit}
 use Rattle.ad_acl.specs.Entry.{Entry}
@@ -27,9 +27,6 @@ matches entry holder self owner =
 -- the entry says nothing of the object itself, and is there to be inherited
 abbrev pub is_inherit_only : Entry → Bool
 is_inherit_only entry = has_bit entry.flags inherit_only
-
-abbrev pub same_guid : Guid → Guid → Bool
-same_guid a b = bytes_eq a.bytes b.bytes
 
 -- An entry without object type is about every path, one with it about the paths on which it stands.
 abbrev pub is_about : Option Guid → List Guid → Bool

@@ -3,14 +3,8 @@ use Rattle.std.specs.Prelude.{ℕ, Bool, ◌&&◌, ◌||◌, Option, []}
 use Rattle.ad_ids.specs.SidValue.{SidValue}
 use Rattle.ad_ids.specs.declared.token.Token.{Token}
 use Rattle.ad_sd.specs.declared.parts.Sd.{Sd}
+use Rattle.ad_acl.specs.Mask.{list_children, list_object}
 use Rattle.ad_access.specs.Grant.{granted}
-
--- the places of the rights to list the children, and the object itself
-abbrev pub list_children : ℕ
-list_children = 2
-
-abbrev pub list_object : ℕ
-list_object = 7
 
 -- the right is granted on the object as a whole
 abbrev pub grants_on_object : Sd → Token → Option SidValue → ℕ → Bool

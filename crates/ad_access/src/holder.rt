@@ -24,7 +24,7 @@ pub fn holds(token: &Token, rank: Rank, sid: &Sid) -> bool
     ensures { result ≡ holds (holder_of token.now rank) sid.now }
 {
     match rank {
-        Rank::First => token.user == *sid || token.groups.contains(sid),
+        Rank::First => token.holds(sid),
         Rank::Second => token.restricting.contains(sid),
     }
 }

@@ -38,6 +38,7 @@ mod rights;
 mod sweep;
 mod tree;
 mod visible;
+mod well_known;
 
 pub use grant::granted;
 pub use holder::Rank;
@@ -48,3 +49,4 @@ pub use laws::{
 pub use matching::{is_about, is_inherit_only, matches};
 pub use tree::check_tree;
 pub use visible::sees;
+pub use well_known::{CREATOR_AUTHORITY, NT_AUTHORITY, OWNER_RIGHTS, PRINCIPAL_SELF};

@@ -10,6 +10,7 @@ ghost use Rattle.ad_access.specs.Grant.{is_allow, sets_owner_rights};
 ghost use Rattle.ad_access.specs.Rank.{holder_of};
 
 use crate::holder::{Rank, answers_to, answers_to_begun};
+use crate::well_known::{CREATOR_AUTHORITY, NT_AUTHORITY, OWNER_RIGHTS, PRINCIPAL_SELF};
 use ad_acl::{AceIn, AceKind, INHERIT_ONLY};
 use ad_ids::{Guid, Sid, Token};
 
@@ -53,7 +54,7 @@ pub fn is_about(object: Option<Guid>, path: &[Guid]) -> bool
 pub fn sets_owner_rights(ace: &AceIn<'_>) -> bool
     ensures { result ≡ sets_owner_rights (entry_seen ace.now) }
 {
-    !is_inherit_only(ace) && is_for(ace, 3, 4)
+    !is_inherit_only(ace) && is_for(ace, CREATOR_AUTHORITY, OWNER_RIGHTS)
 }
 
 // Whether the entry is for the identifier that has the one sub-authority below the authority.
@@ -114,10 +115,10 @@ pub fn matches(
     if !may_be_for_known(ace) {
         return answers_to_entry(ace, token, rank);
     }
-    if is_for(ace, 5, 10) {
+    if is_for(ace, NT_AUTHORITY, PRINCIPAL_SELF) {
         return answers_to_self(ace.kind(), token, rank, self_sid);
     }
-    if is_for(ace, 3, 4) {
+    if is_for(ace, CREATOR_AUTHORITY, OWNER_RIGHTS) {
         return answers_to(ace.kind(), token, rank, owner);
     }
     answers_to_entry(ace, token, rank)

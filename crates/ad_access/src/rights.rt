@@ -2,6 +2,7 @@
 
 ghost use Rattle.std.specs.Prelude.{◌≡◌, ℕ, Bool, true, ◌&&◌, ◌||◌, ◌==◌, ◌<◌, if◌then◌else◌};
 ghost use Rattle.ad_acl.specs.Mask.{has_bit, mapped_has, write_owner, access_system_security};
+ghost use Rattle.ad_access.specs.Privileges.{security, take_ownership};
 ghost use Rattle.ad_access.specs.Holder.{holds};
 ghost use Rattle.ad_access.specs.Grant.{is_of_owners};
 ghost use Rattle.ad_access.specs.Rank.{holder_of};
@@ -23,8 +24,8 @@ pub fn rights_if(so: bool, rights: u32) -> u32
 fn rights_by_privilege(privileges: u8, want: u32) -> u32
     ensures { (bit : ℕ) → bit < 32 → has_bit result bit
         ≡ (has_bit want bit
-        && (((bit == access_system_security) && has_bit privileges 0)
-        || ((bit == write_owner) && has_bit privileges 1))) }
+        && (((bit == access_system_security) && has_bit privileges security)
+        || ((bit == write_owner) && has_bit privileges take_ownership))) }
 {
     let system = rights_if(privileges & SECURITY != 0, ACCESS_SYSTEM_SECURITY);
     let owner = rights_if(privileges & TAKE_OWNERSHIP != 0, WRITE_OWNER);
@@ -45,8 +46,8 @@ pub fn split_wanted(privileges: u8, want: u32) -> Asked
     ensures { (bit : ℕ) (holders : Bool) → bit < 32
         → (has_bit result.by_privilege bit || (has_bit result.others bit && holders))
         ≡ (mapped_has want bit
-        && (if bit == access_system_security then has_bit privileges 0
-        else (if (bit == write_owner) && has_bit privileges 1 then true else holders))) }
+        && (if bit == access_system_security then has_bit privileges security
+        else (if (bit == write_owner) && has_bit privileges take_ownership then true else holders))) }
 {
     let want = map_generic(want);
     let by_privilege = rights_by_privilege(privileges, want);

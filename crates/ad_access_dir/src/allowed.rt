@@ -1,27 +1,13 @@
 //! The attributes that objects of a class may have.
 
-ghost use Rattle.std.specs.Prelude.{◌≡◌, ◌<◌, ◌++◌, ◌∷◌, [], true, length, if◌then◌else◌, IfOk, OnOk};
+ghost use Rattle.std.specs.Prelude.{◌≡◌, ◌<◌, ◌++◌, ◌∷◌, [], length, if◌then◌else◌, IfOk, OnOk};
 ghost use Rattle.ad_schema.specs.Attributes.{attrs_of};
 ghost use Rattle.ad_schema.specs.Classes.{classes_of};
-ghost use Rattle.ad_dir_model.specs.Objects.{is_live, object_at};
 ghost use Rattle.ad_access_dir.specs.Allowed.{allowed_below, allowed_attrs};
 
 use ad_dir::Dir;
 use ad_schema::{AttrId, ClassId, records_are_few};
 use std::alloc::{AllocError, Global};
-
-/// The class of a live object, which is one of the schema.
-pub fn class_of(dir: &Dir, number: u32) -> ClassId
-    requires { is_live dir.now.objects number ≡ true }
-    ensures class { result.0 ≡ (object_at dir.now.objects number).class }
-    ensures within { result.0 < length (classes_of dir.now.schema) }
-{
-    dir.stands();
-    match dir.object(number) {
-        Some(object) => object.class,
-        None => unreachable!(),
-    }
-}
 
 /// The number of the schema's attributes.
 pub fn attr_count(dir: &Dir) -> u32

@@ -4,7 +4,6 @@ ghost use Rattle.std.specs.Prelude.{◌≡◌, ◌<◌, ◌≤◌, ◌+◌, ◌-
 ghost use Rattle.ad_schema.specs.Attributes.{attrs_of};
 ghost use Rattle.ad_schema.specs.Classes.{classes_of};
 ghost use Rattle.ad_schema.specs.declared.info.AttrId.{AttrId as Attr};
-ghost use Rattle.ad_sd.specs.Seen.{seen};
 ghost use Rattle.ad_types.specs.TypesOf.{path_of, tree_of};
 ghost use Rattle.ad_access.specs.Tree.{node_granted};
 ghost use Rattle.ad_dir_model.specs.Objects.{is_live, sd_at};
@@ -13,23 +12,11 @@ ghost use Rattle.ad_access_dir.specs.Sight.{is_granted};
 ghost use Rattle.ad_access_dir.specs.Masks.{IsMask};
 
 use ad_access::{a_leaf_is_granted_where_its_path_is, check_tree};
-use ad_dir::Dir;
+use ad_dir::{Dir, live_sd};
 use ad_ids::Token;
 use ad_schema::{AttrId, ClassId};
-use ad_sd::SdView;
 use ad_types::{TypeTree, attributes_are_leaves};
 use std::alloc::{AllocError, Global};
-
-// The descriptor of a live object.
-fn view_of(dir: &Dir, number: u32) -> SdView<'_>
-    requires { is_live dir.now.objects number ≡ true }
-    ensures { seen result ≡ sd_at dir.entry.now.objects number }
-{
-    match dir.sd(number) {
-        Some(view) => view,
-        None => unreachable!(),
-    }
-}
 
 /// The wanted rights that are granted at each node of the tree of attributes of a class. The ids are of the schema.
 ///
@@ -59,7 +46,7 @@ pub fn tree_masks(
     let tree = TypeTree::build(alloc, dir.schema(), class, attrs)?;
     check_tree(
         alloc,
-        view_of(dir, number),
+        live_sd(dir, number),
         token,
         dir.self_sid(number),
         &tree,

@@ -2,26 +2,13 @@
 
 ghost use Rattle.std.specs.Prelude.{◌≡◌, ℕ, ◌&&◌, ◌<◌, ◌^◌, true};
 ghost use Rattle.ad_acl.specs.Mask.{has_bit, mapped_has};
-ghost use Rattle.ad_sd.specs.Seen.{seen};
 ghost use Rattle.ad_types.specs.Path.{guids_of};
-ghost use Rattle.ad_dir_model.specs.Objects.{is_live, sd_at};
+ghost use Rattle.ad_dir_model.specs.Objects.{is_live};
 ghost use Rattle.ad_access_dir.specs.Sight.{is_granted};
 
-use ad_dir::Dir;
+use ad_dir::{Dir, live_sd};
 use ad_ids::Token;
-use ad_sd::SdView;
 use ad_types::Path;
-
-/// The descriptor of an object that is live.
-pub(crate) fn view_of(dir: &Dir, number: u32) -> SdView<'_>
-    requires { is_live dir.now.objects number ≡ true }
-    ensures { seen result ≡ sd_at dir.entry.now.objects number }
-{
-    match dir.sd(number) {
-        Some(view) => view,
-        None => unreachable!(),
-    }
-}
 
 /// The rights of the wanted mask, after generic mapping, that are granted to the token on an object that is live,
 /// and on a path. It takes no memory.
@@ -32,7 +19,7 @@ pub fn granted(dir: &Dir, token: &Token, number: u32, path: &Path, want: u32) ->
         ≡ (mapped_has want bit && is_granted dir.now token.now number (guids_of path.now) bit) }
 {
     ad_access::granted(
-        view_of(dir, number),
+        live_sd(dir, number),
         token,
         dir.self_sid(number),
         path,

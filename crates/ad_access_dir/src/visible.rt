@@ -5,9 +5,8 @@ ghost use Rattle.ad_dir_model.specs.Objects.{is_live};
 ghost use Rattle.ad_dir_model.specs.Settings.{list_object_mode};
 ghost use Rattle.ad_access_dir.specs.Sight.{is_visible};
 
-use crate::sight::view_of;
 use ad_access::sees;
-use ad_dir::{Dir, live_object};
+use ad_dir::{Dir, live_sd, parent_of};
 use ad_ids::Token;
 
 /// The number of the root.
@@ -23,13 +22,12 @@ pub fn is_visible(dir: &Dir, token: &Token, list_mode: bool, number: u32) -> boo
     if number == ROOT {
         return true;
     }
-    dir.stands();
-    let parent = live_object(dir, number).parent;
+    let parent = parent_of(dir, number);
     sees(
         list_mode,
-        view_of(dir, parent),
+        live_sd(dir, parent),
         dir.self_sid(parent),
-        view_of(dir, number),
+        live_sd(dir, number),
         dir.self_sid(number),
         token,
     )

@@ -3,6 +3,7 @@ pub mod Acl
 pub mod Reading
 pub mod Writing
 pub mod Mask
+pub mod Codes
 pub mod EntryIn
 pub mod EntrySeen
 pub mod Exact

@@ -1,4 +1,5 @@
-//! Access control entries (ACEs, [MS-DTYP] 2.4.4) and lists of them (ACLs, 2.4.5), and the rights of a mask.
+//! Access control entries (ACEs, [MS-DTYP] 2.4.4) and lists of them (ACLs, 2.4.5), the rights of a mask, and the
+//! letters of rights and flags.
 //!
 //! # Layout
 //!
@@ -17,7 +18,8 @@
 //!
 //! A list is read exactly where the bytes encode one, and else the fault is the one that stands first. What is
 //! written is the one canonical encoding and reads back; `TooLong` comes exactly where it needs more than 65,535
-//! bytes. `map_generic` maps right by right, and each constant is the bit that the definitions give its right.
+//! bytes. `map_generic` maps right by right, and each constant is the bit that the definitions give its right. The
+//! tables of codes are those of the definitions, and `letters_of` gives one right's.
 //!
 //! # The caller owes
 //!
@@ -32,6 +34,7 @@
 mod ace;
 mod ace_in;
 mod aces;
+mod codes;
 mod entry;
 mod entry_flags;
 mod entry_writing;
@@ -47,6 +50,7 @@ mod written;
 pub use ace::Ace;
 pub use ace_in::AceIn;
 pub use aces::Aces;
+pub use codes::{Code, flag_codes, letters_of, right_codes};
 pub use entry::read_entry;
 pub use entry_flags::{
     CONTAINER_INHERIT, FAILED_ACCESS, INHERIT_ONLY, INHERITED, NO_PROPAGATE, OBJECT_INHERIT,

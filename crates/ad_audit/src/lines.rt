@@ -3,9 +3,12 @@
 ghost use Rattle.std.specs.Prelude.{◌≡◌, decimal, IfOk, OnOk};
 ghost use Rattle.std.specs.Option.{option_copied};
 ghost use Rattle.ad_ids.specs.SidText.{sid_text};
-ghost use Rattle.ad_audit.specs.Line.{Puts, spaced, outcome_word, code_of, guid_or_hyphen, event_line};
+ghost use Rattle.ad_audit.specs.Line.{outcome_word, event_line};
+ghost use Rattle.ad_ids.specs.GuidText.{guid_or_hyphen};
+ghost use Rattle.ad_bytes.specs.Puts.{Puts, spaced};
 
 use crate::event::Event;
+use ad_acl::letters_of;
 use ad_ids::{Guid, Sid};
 use std::alloc::{AllocError, Global};
 
@@ -14,34 +17,6 @@ fn outcome_word(success: bool) -> &'static [u8]
     ensures { result.now ≡ outcome_word success }
 {
     if success { b"success" } else { b"failure" }
-}
-
-// The code of a right, which is none for any other mask.
-#[tactic(auto, unfolding(crate::specs::Line::code_of))]
-fn code_of(right: u32) -> &'static [u8]
-    ensures { result.now ≡ code_of right }
-{
-    match right {
-        0x1 => b"CC",
-        0x2 => b"DC",
-        0x4 => b"LC",
-        0x8 => b"SW",
-        0x10 => b"RP",
-        0x20 => b"WP",
-        0x40 => b"DT",
-        0x80 => b"LO",
-        0x100 => b"CR",
-        0x1_0000 => b"SD",
-        0x2_0000 => b"RC",
-        0x4_0000 => b"WD",
-        0x8_0000 => b"WO",
-        0x100_0000 => b"AS",
-        0x1000_0000 => b"GA",
-        0x2000_0000 => b"GX",
-        0x4000_0000 => b"GW",
-        0x8000_0000 => b"GR",
-        _ => b"",
-    }
 }
 
 // Puts a piece at the end.
@@ -103,7 +78,7 @@ pub fn line(alloc: Global, event: &Event) -> Result<Vec<u8>, AllocError>
     put_number(&mut text, event.frame)?;
     put_number(&mut text, u32::from(event.connection))?;
     put_spaced(&mut text, outcome_word(event.success))?;
-    put_spaced(&mut text, code_of(event.right))?;
+    put_spaced(&mut text, letters_of(event.right))?;
     put_guid(alloc, &mut text, event.guid.as_ref())?;
     put_sid(alloc, &mut text, &event.user)?;
     put(&mut text, event.dn.as_slice())?;

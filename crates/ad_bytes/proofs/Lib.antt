@@ -3,3 +3,4 @@ pub mod Steps
 pub mod Codec
 pub mod Many
 pub mod Machines
+pub mod Appended

@@ -21,7 +21,7 @@ use Rattle.ad_dir_objects.specs.declared.object.Object.{Object as ObjectIn}
 use Rattle.ad_dir_objects.specs.declared.object.Stored.{Stored as StoredIn}
 use Rattle.ad_dir_objects.specs.Seen.{stored_seen, held_seen, object_seen}
 use Rattle.ad_dir_model.specs.Limits.{max_depth, max_objects, max_counter}
-use Rattle.ad_dir_model.specs.Attributes.{rule_place, object_sid}
+use Rattle.ad_dir_model.specs.Attributes.{rule_place, object_sid, is_single}
 use Rattle.ad_dir_model.specs.Tree.{root}
 use Rattle.ad_dir_model.specs.Identity.{self_sid, domain_sid}
 use Rattle.ad_dir_model.specs.Changes.{new_sid, with_new_sid, numbered, counted_on}
@@ -36,7 +36,7 @@ use Rattle.ad_needs_rules.specs.Checks.{Check, Refusal, code, or_code, first_fai
 use Rattle.ad_needs_rules.proofs.FirstFailing.{head_passes, head_fails, all_pass, one_fails}
 use Rattle.ad_needs_rules.specs.Requests.{class_at}
 use Rattle.ad_needs_rules.specs.Descriptors.{is_owner_allowed}
-use Rattle.ad_change_values.specs.Values.{all_stored, is_single, is_given_twice, leads, is_no_empty_password}
+use Rattle.ad_change_values.specs.Values.{all_stored, is_given_twice, leads, is_no_empty_password}
 use Rattle.ad_change.specs.Tree.{depth_of, is_light_with}
 use Rattle.ad_change_values.specs.Items.{with_these}
 use Rattle.ad_change_values.specs.Judging.{reading_checks}

@@ -25,7 +25,7 @@ use Rattle.ad_dir_objects.specs.declared.edit.Edit.{Edit as EditIn}
 use Rattle.ad_dir_objects.specs.declared.edit.Edit.TheVariants as edit
 use Rattle.ad_dir_objects.specs.declared.edit.Meta.{Meta as MetaIn}
 use Rattle.ad_dir_objects.specs.declared.object.Object.{Object as ObjectIn}
-use Rattle.ad_dir.specs.Conditions.{HasNormal, MayPut}
+use Rattle.ad_dir.specs.Conditions.{HasNormal, MayPut, AreEdits}
 use Rattle.ad_dir_objects.specs.Seen.{object_seen, meta_seen, edit_seen}
 use Rattle.ad_dir.proofs.AllMay.{MayAll, may_all}
 use Rattle.ad_dir_model.specs.Limits.{max_counter}
@@ -48,7 +48,6 @@ use Rattle.ad_needs_rules.proofs.FirstFailing.{head_holds, both_hold}
 use Rattle.ad_change.specs.Effects.{later_checks, made}
 use Rattle.ad_change.specs.Adding.{new_object, attr_checks, add_later}
 use Rattle.ad_change.specs.Creating.{IsNewObject, new_whole}
-use Rattle.ad_change.specs.Judging.{AreEdits}
 use Rattle.ad_change.specs.Plans.{AreEditsOf}
 use Rattle.ad_change.proofs.Needed.{added_differs}
 use Rattle.ad_change.proofs.AddSound.{IsPlainAttr, room_of, add_is_sound}

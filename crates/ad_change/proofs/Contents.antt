@@ -20,15 +20,15 @@ use Rattle.ad_schema.specs.Attributes.{attrs_of}
 use Rattle.ad_schema.specs.Meaning.{attr_is_link}
 use Rattle.ad_dir_model.specs.Object.{Stored, plain, link, Held, stored_in, linked, links_in}
 use Rattle.ad_dir_model.specs.Objects.{Rise, is_live}
-use Rattle.ad_dir_model.specs.Attributes.{syntax_at}
+use Rattle.ad_dir_model.specs.Attributes.{syntax_at, is_password}
 use Rattle.ad_dir_model.specs.Directory.{Directory}
 use Rattle.ad_dir_model.specs.Names.{found}
 use Rattle.ad_dir_model.specs.Changes.{with_values}
 use Rattle.ad_dir_model.specs.Soundness.{IsValueBy, IsStored, IsHeld, AttrsRiseFrom}
 use Rattle.ad_dir_model.proofs.WithValues.{rise_with, each_with}
 use Rattle.ad_dir_model.proofs.Unlinking.{all_append, all_front}
-use Rattle.ad_needs_rules.proofs.Named.{found_live}
-use Rattle.ad_change_values.specs.Values.{is_password, value_in, target_of, stored_of, all_stored}
+use Rattle.ad_dir_model.proofs.Named.{found_live}
+use Rattle.ad_change_values.specs.Values.{value_in, target_of, stored_of, all_stored}
 
 -- ---- lists
 

@@ -9,7 +9,7 @@ use Rattle.std.proofs.lemmas.List.{map-append, append-nil}
 use Rattle.prop_queue.specs.declared.pending.Pending.{Pending}
 use Rattle.ad_dir_objects.specs.declared.edit.Edit.{Edit as EditIn}
 use Rattle.ad_dir_objects.specs.declared.edit.Edit.TheVariants as edit
-use Rattle.ad_dir.specs.Conditions.{HasNormal}
+use Rattle.ad_dir.specs.Conditions.{HasNormal, AreEdits}
 use Rattle.ad_dir_objects.specs.Seen.{edit_seen}
 use Rattle.ad_dir_model.specs.Object.{Object}
 use Rattle.ad_dir_model.specs.Objects.{Rise, object_of, object_at, numbers}
@@ -17,7 +17,6 @@ use Rattle.ad_dir_model.specs.Directory.{Directory, Edit, put_object, remove_obj
 use Rattle.ad_dir_model.specs.Changes.{goes_with}
 use Rattle.ad_dir_model.specs.Protection.{numbers_where}
 use Rattle.ad_dir_model.proofs.Finding.{at-of, all_found}
-use Rattle.ad_change.specs.Judging.{AreEdits}
 use Rattle.ad_change.specs.Removing.{loses, unlinked_at, losing_among, losing_of, removal_edits, AddsEdits}
 
 both_normal : (first second : List EditIn) → AllByRecursion HasNormal first → AllByRecursion HasNormal second

@@ -10,7 +10,7 @@ use Rattle.prop_queue.specs.Pending.{marked}
 use Rattle.ad_schema.specs.declared.line.SchemaRecord.{SchemaRecord}
 use Rattle.ad_dir_objects.specs.declared.edit.Edit.{Edit as EditIn}
 use Rattle.ad_dir_objects.specs.Seen.{edit_seen}
-use Rattle.ad_dir.specs.Conditions.{HasNormal}
+use Rattle.ad_dir.specs.Conditions.{HasNormal, AreEdits}
 use Rattle.ad_dir.specs.Applying.{MayApplyAll}
 use Rattle.ad_dir.proofs.AllMay.{MayAll, may_all}
 use Rattle.ad_dir_model.specs.Object.{Object}
@@ -24,7 +24,7 @@ use Rattle.ad_dir_model.proofs.Finding.{of-live, live_above, rise_put, of-put_sa
 use Rattle.ad_dir_model.proofs.Extent.{same_objects}
 use Rattle.ad_dir_model.proofs.Deleting.{of-gone}
 use Rattle.ad_dir_model.proofs.SameSdLaws.{same_sd-refl}
-use Rattle.ad_change.specs.Judging.{AreEdits, AreNeeded}
+use Rattle.ad_change.specs.Judging.{AreNeeded}
 use Rattle.ad_change.proofs.SubtreeLaws.{itself_goes}
 
 -- ---- an object that is put as it stands there

@@ -11,7 +11,7 @@ use Rattle.ad_ids.specs.declared.token.Token.{Token}
 use Rattle.prop_queue.specs.declared.pending.Pending.{Pending}
 use Rattle.ad_dir_objects.specs.declared.act.Act.TheVariants as act
 use Rattle.ad_dir_objects.specs.declared.edit.Edit.{Edit as EditIn}
-use Rattle.ad_dir.specs.Conditions.{MayRemove, MayPend}
+use Rattle.ad_dir.specs.Conditions.{MayRemove, MayPend, AreEdits}
 use Rattle.ad_dir.proofs.AllMay.{MayAll, may_all}
 use Rattle.ad_dir.proofs.Replacing.{IsAlike, AreAlike, alike_itself, alike_put, may_put}
 use Rattle.ad_dir_model.specs.Object.{Held, Object, names, links_in}
@@ -34,7 +34,6 @@ use Rattle.ad_dir_model.proofs.ScratchLaws.{sound_at}
 use Rattle.ad_dir_model.proofs.Unlinking.{content_unlinked, links_stay, sid_unlinked}
 use Rattle.ad_needs_rules.specs.Checks.{first_failing}
 use Rattle.ad_change.specs.Effects.{later_checks, made}
-use Rattle.ad_change.specs.Judging.{AreEdits}
 use Rattle.ad_change.specs.Plans.{AreEditsOf}
 use Rattle.ad_change.specs.Removing.{loses, unlinked_at, losing_of, ChildrenFirst, AreGoing, removal_edits}
 use Rattle.ad_change.proofs.Needed.{deleted_differs}

@@ -12,7 +12,7 @@ use Rattle.ad_sd.proofs.NormalReader.{spelled_in}
 use Rattle.ad_dir_objects.specs.declared.edit.Edit.{Edit as EditIn}
 use Rattle.ad_dir_objects.specs.declared.edit.Edit.TheVariants as edit
 use Rattle.ad_dir_objects.specs.declared.object.Object.{Object as ObjectIn}
-use Rattle.ad_dir.specs.Conditions.{HasNormal}
+use Rattle.ad_dir.specs.Conditions.{HasNormal, AreEdits}
 use Rattle.ad_dir_objects.specs.Seen.{object_seen, edit_seen}
 use Rattle.ad_dir_model.specs.Object.{Object}
 use Rattle.ad_dir_model.specs.Objects.{sd_at}
@@ -20,7 +20,6 @@ use Rattle.ad_dir_model.specs.Directory.{Directory, put_object, put_queue}
 use Rattle.ad_dir_model.specs.Inheritance.{whole_at, settled, marked_if_changed}
 use Rattle.ad_dir_model.specs.SameSd.{same_sd}
 use Rattle.ad_dir_model.specs.Edits.{change_edits, write_edits}
-use Rattle.ad_change.specs.Judging.{AreEdits}
 
 is_normal : (sd : Sd) (bytes : List ℕ) → SpellsNormal sd bytes → SpellsNormal (sd_in bytes) bytes
 is_normal sd bytes spelled = subst (λ (x : Sd). SpellsNormal x bytes) (sym (spelled_in bytes sd spelled)) spelled

@@ -16,10 +16,14 @@ use Rattle.ad_dir_model.specs.Changes.{with_values, new_sid, numbered, added}
 use Rattle.ad_needs_rules.specs.Checks.{Check, or_code}
 use Rattle.ad_needs_rules.specs.Requests.{class_at}
 use Rattle.ad_needs_rules.specs.Descriptors.{is_owner_allowed}
-use Rattle.ad_change_values.specs.Values.{is_single, all_attrs, is_lacking, reads, is_short, leads}
+use Rattle.ad_change_values.specs.Values.{all_attrs, is_lacking, reads, is_short, leads}
+use Rattle.ad_dir_model.specs.Attributes.{is_single}
 use Rattle.ad_change_values.specs.Values.{is_no_empty_password, is_given_twice, all_stored}
 use Rattle.ad_change.specs.Tree.{depth_of, is_light_with}
 use Rattle.ad_schema_defaults.specs.Defaults.{default_of}
+use Rattle.ad_ldap.specs.ResultCodes.{admin_limit_exceeded, constraint_violation, attribute_or_value_exists}
+use Rattle.ad_ldap.specs.ResultCodes.{invalid_attribute_syntax, naming_violation, object_class_violation}
+use Rattle.ad_ldap.specs.ResultCodes.{entry_already_exists}
 
 -- ---- what is added
 
@@ -49,12 +53,12 @@ new_object dir token parent class name values sd = record {
 
 abbrev pub attr_checks : Directory → AttrId × List (List ℕ) → List Check
 attr_checks dir attr =
-    or_code (list_all (reads dir.schema attr.0.0) attr.1) 21
-    ∷ or_code (list_all (is_short dir.schema attr.0.0) attr.1) 19
-    ∷ or_code (not (is_given_twice dir.schema attr.0.0 attr.1)) 20
-    ∷ or_code (not (is_single dir.schema attr.0.0 && nat_lt 1 (length attr.1))) 19
-    ∷ or_code (list_all (leads dir attr.0.0) attr.1) 19
-    ∷ or_code (list_all (is_no_empty_password dir.schema attr.0.0) attr.1) 19
+    or_code (list_all (reads dir.schema attr.0.0) attr.1) invalid_attribute_syntax
+    ∷ or_code (list_all (is_short dir.schema attr.0.0) attr.1) constraint_violation
+    ∷ or_code (not (is_given_twice dir.schema attr.0.0 attr.1)) attribute_or_value_exists
+    ∷ or_code (not (is_single dir.schema attr.0.0 && nat_lt 1 (length attr.1))) constraint_violation
+    ∷ or_code (list_all (leads dir attr.0.0) attr.1) constraint_violation
+    ∷ or_code (list_all (is_no_empty_password dir.schema attr.0.0) attr.1) constraint_violation
     ∷ []
 
 -- the attribute is given, with a value
@@ -76,13 +80,13 @@ fits_in dir o =
 unfoldable pub add_later : Directory → Token → ℕ → ℕ → List ℕ → List (AttrId × List (List ℕ)) → Option SdParts
     → List Check
 add_later dir token parent class name values sd =
-    or_code (is_owner_allowed token sd) 19
-    ∷ or_code (is_under dir.schema class (class_at dir parent)) 64
+    or_code (is_owner_allowed token sd) constraint_violation
+    ∷ or_code (is_under dir.schema class (class_at dir parent)) naming_violation
     ∷ (flat_map (attr_checks dir) values
-    ++ (or_code (list_all (λ attr. is_allowed dir.schema class attr.0.0) values) 65
-    ∷ or_code (has_musts dir class values) 65
-    ∷ or_code (is_none (child_named dir.objects parent name)) 68
-    ∷ or_code (fits_in dir (new_object dir token parent class name values sd)) 11
+    ++ (or_code (list_all (λ attr. is_allowed dir.schema class attr.0.0) values) object_class_violation
+    ∷ or_code (has_musts dir class values) object_class_violation
+    ∷ or_code (is_none (child_named dir.objects parent name)) entry_already_exists
+    ∷ or_code (fits_in dir (new_object dir token parent class name values sd)) admin_limit_exceeded
     ∷ []))
 
 -- ---- what it makes

@@ -22,6 +22,7 @@ use Rattle.ad_needs_rules.specs.Requests.{class_at}
 use Rattle.ad_needs_rules.specs.Descriptors.{is_owner_allowed}
 use Rattle.ad_change_values.specs.Values.{all_stored}
 use Rattle.ad_change.specs.Adding.{held_before, attr_checks, has_musts}
+use Rattle.ad_ldap.specs.ResultCodes.{constraint_violation, naming_violation, object_class_violation}
 
 -- the attributes with their stored values, in the order in which they were sent
 abbrev pub read_attr : Directory → AttrId × List (List ℕ) → Held
@@ -38,11 +39,11 @@ all_before (held ∷ rest) others = held_before held.attr held.values (all_befor
 -- the checks of an addition but for the name and the limits
 abbrev pub sent_checks : Directory → Token → ℕ → ℕ → List (AttrId × List (List ℕ)) → Option SdParts → List Check
 sent_checks dir token parent class values sd =
-    or_code (is_owner_allowed token sd) 19
-    ∷ or_code (is_under dir.schema class (class_at dir parent)) 64
+    or_code (is_owner_allowed token sd) constraint_violation
+    ∷ or_code (is_under dir.schema class (class_at dir parent)) naming_violation
     ∷ (flat_map (attr_checks dir) values
-    ++ (or_code (list_all (λ attr. is_allowed dir.schema class attr.0.0) values) 65
-    ∷ or_code (has_musts dir class values) 65
+    ++ (or_code (list_all (λ attr. is_allowed dir.schema class attr.0.0) values) object_class_violation
+    ∷ or_code (has_musts dir class values) object_class_violation
     ∷ []))
 
 -- The object with its number and its identifier, but for its descriptor, and whether it gets one.

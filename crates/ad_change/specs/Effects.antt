@@ -16,6 +16,7 @@ use Rattle.ad_change.specs.Adding.{add_later, add_made}
 use Rattle.ad_change.specs.Deleting.{delete_later, delete_made}
 use Rattle.ad_change.specs.Renaming.{rename_later, rename_made}
 use Rattle.ad_change.specs.Modifying.{modify_later, modify_made}
+use Rattle.ad_ldap.specs.ResultCodes.{no_such_object, insufficient_access_rights}
 
 -- ---- an act
 
@@ -40,8 +41,8 @@ pub data Effect : Type 0 where
 
 abbrev pub told : Directory → Verdict → Effect
 told dir (Refused code) = answered code [] []
-told dir (Hidden dn) = answered 32 (rdns_text dn.rdns) []
-told dir (Missing need) = answered 50 [] (need_text dir need)
+told dir (Hidden dn) = answered no_such_object (rdns_text dn.rdns) []
+told dir (Missing need) = answered insufficient_access_rights [] (need_text dir need)
 told dir (Granted act) = changes_to dir
 
 abbrev pub by_later : Directory → Token → Act → Option Refusal → Effect

@@ -23,11 +23,6 @@ same_place a b = a.number == b.number && (a.parent == b.parent && (a.class.0 == 
 
 -- ---- edits
 
--- the edits are these, and the bytes of descriptors are normal
-pub record AreEdits (seen : List Edit) (edits : List EditIn) : Type 0 where
-  pub are : map edit_seen edits ≡ seen
-  pub normal : AllByRecursion HasNormal edits
-
 -- these edits, or none where they would leave the directory as it is
 pub record AreNeeded (dir : Directory) (seen : List Edit) (edits : List EditIn) : Type 0 where
   pub either : (map edit_seen edits ≡ seen) ⊎ (edits ≡ [])

@@ -10,6 +10,7 @@ use Rattle.ad_dir_model.specs.Changes.{renamed_object, renamed}
 use Rattle.ad_needs_rules.specs.Checks.{Check, or_code}
 use Rattle.ad_needs_rules.specs.Requests.{class_at}
 use Rattle.ad_change.specs.Tree.{is_shallow_with, is_light_with}
+use Rattle.ad_ldap.specs.ResultCodes.{admin_limit_exceeded, naming_violation, entry_already_exists}
 
 -- the class may stand below that of another parent
 abbrev pub may_stand : Directory → ℕ → ℕ → Bool
@@ -26,9 +27,9 @@ fits_there dir o = is_shallow_with dir o && is_light_with dir o
 
 unfoldable pub rename_later : Directory → ℕ → ℕ → List ℕ → List Check
 rename_later dir number parent name =
-    or_code (may_stand dir number parent) 64
-    ∷ or_code (is_free dir number parent name) 68
-    ∷ or_code (fits_there dir (renamed_object (object_at dir.objects number) parent name)) 11
+    or_code (may_stand dir number parent) naming_violation
+    ∷ or_code (is_free dir number parent name) entry_already_exists
+    ∷ or_code (fits_there dir (renamed_object (object_at dir.objects number) parent name)) admin_limit_exceeded
     ∷ []
 
 abbrev pub rename_made : Directory → ℕ → ℕ → List ℕ → Directory

@@ -24,7 +24,8 @@ ghost use Rattle.ad_change.specs.Creating.{IsNewObject, all_read, sent_checks};
 ghost use Rattle.ad_change_values.specs.Judging.{Judges};
 ghost use Rattle.ad_change.specs.Plans.{IsPlan};
 ghost use Rattle.ad_change.specs.Tree.{depth_of};
-ghost use Rattle.ad_change_values.specs.Values.{all_attrs, all_stored, is_lacking, is_single};
+ghost use Rattle.ad_change_values.specs.Values.{all_attrs, all_stored, is_lacking};
+ghost use Rattle.ad_dir_model.specs.Attributes.{is_single};
 
 use crate::by_attr::{all_held, given_of, is_in};
 use crate::depth::depth;
@@ -33,7 +34,6 @@ use crate::new_object::{domain_is_sid, gets_sid, new_edits, new_object};
 use crate::outcome::Plan;
 use crate::owner::is_owner_allowed;
 use crate::sent::attrs_are_bytes;
-use crate::subtree::MAX_DEPTH;
 use ad_bytes::{Bytes, Few, List};
 use ad_change_values::{
     Held, Stop, are_too_many, attr_count, code_of, has_no_empty_password, is_lacking,
@@ -41,6 +41,8 @@ use ad_change_values::{
 };
 use ad_dir::{Dir, Object, Stored, live_object};
 use ad_ids::{Token, a_sid_has_8_bytes_and_4_for_each, a_sid_is_read_as_spelled};
+use ad_ldap::result_code;
+use ad_needs_rules::MAX_DEPTH;
 use ad_schema::{AttrId, ClassId, Schema};
 use ad_sd::SdParts;
 use ad_value::what_is_shown_reads_back;
@@ -70,14 +72,14 @@ fn judge_attr(alloc: Global, dir: &Dir, attr: AttrId, sent: &[Bytes]) -> Result<
     let read = read_values(alloc, schema, attr, sent)?;
     let repeated = one_is_repeated(alloc, read.as_slice())?;
     if repeated {
-        return Err(Stop::Refused(20));
+        return Err(Stop::Refused(result_code::ATTRIBUTE_OR_VALUE_EXISTS));
     }
     if too_many(schema, attr, sent) {
-        return Err(Stop::Refused(19));
+        return Err(Stop::Refused(result_code::CONSTRAINT_VIOLATION));
     }
     let stored = stored_values(alloc, dir, attr, sent, read)?;
     if !has_no_empty_password(schema, attr, sent) {
-        return Err(Stop::Refused(19));
+        return Err(Stop::Refused(result_code::CONSTRAINT_VIOLATION));
     }
     Ok(stored)
 }
@@ -233,19 +235,19 @@ fn judge_sent(
         (λ held. map held_seen held.items ≡ add.all_held dir.now values.now) result }
 {
     if !is_owner_allowed(token, sd) {
-        return Err(Stop::Refused(19));
+        return Err(Stop::Refused(result_code::CONSTRAINT_VIOLATION));
     }
     if !may_stand(dir, class, parent) {
-        return Err(Stop::Refused(64));
+        return Err(Stop::Refused(result_code::NAMING_VIOLATION));
     }
     let read = judge_values(alloc, dir, values)?;
     let schema = dir.schema();
     if !are_allowed(schema, class, values) {
-        return Err(Stop::Refused(65));
+        return Err(Stop::Refused(result_code::OBJECT_CLASS_VIOLATION));
     }
     let has = has_musts(alloc, schema, class, values)?;
     if !has {
-        return Err(Stop::Refused(65));
+        return Err(Stop::Refused(result_code::OBJECT_CLASS_VIOLATION));
     }
     let held = all_held(alloc, read)?;
     Ok(held)
@@ -276,12 +278,12 @@ fn judge_add(
     let held = judge_sent(alloc, dir, token, parent, class, values, sd)?;
     let free = is_free(alloc, dir, parent, name.as_slice())?;
     if !free {
-        return Err(Stop::Refused(68));
+        return Err(Stop::Refused(result_code::ENTRY_ALREADY_EXISTS));
     }
     let object = new_object(alloc, dir, parent, class, name, held)?;
     let gets = gets_sid(dir, class);
     if !fits_in(dir, &object, gets) {
-        return Err(Stop::Refused(11));
+        return Err(Stop::Refused(result_code::ADMIN_LIMIT_EXCEEDED));
     }
     Ok(object)
 }

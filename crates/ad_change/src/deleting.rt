@@ -9,7 +9,7 @@ ghost use Rattle.ad_dir_model.specs.Directory.{put_object, remove_object};
 ghost use Rattle.ad_dir_model.specs.Changes.{goes_with};
 ghost use Rattle.ad_dir_model.specs.Soundness.{IsSound};
 ghost use Rattle.ad_needs.specs.Verdicts.{Resolves};
-ghost use Rattle.ad_change.specs.Judging.{AreEdits};
+ghost use Rattle.ad_dir.specs.Conditions.{AreEdits};
 ghost use Rattle.ad_change.specs.Plans.{IsPlan};
 ghost use Rattle.ad_change.specs.Removing.{AddsEdits, AreGoing, IsLeaving, losing_among, removal_edits, unlinked_at};
 
@@ -21,6 +21,7 @@ use crate::unlinking::push_unlinking;
 use ad_bytes::List;
 use ad_dir::{Dir, Edit};
 use ad_ids::Token;
+use ad_ldap::result_code;
 use prop_queue::Pending;
 use std::alloc::{AllocError, Global};
 
@@ -166,5 +167,5 @@ pub(crate) fn delete_plan(
         let edits = removal(alloc, dir, target, alone, going.as_slice())?;
         return Ok(Plan::Edits(edits));
     }
-    Ok(Plan::Refused(66))
+    Ok(Plan::Refused(result_code::NOT_ALLOWED_ON_NON_LEAF))
 }

@@ -10,8 +10,8 @@ ghost use Rattle.ad_dir_model.specs.Soundness.{IsSound};
 ghost use Rattle.ad_change.specs.Tree.{depth_of, is_shallow_with};
 ghost use Rattle.ad_change.specs.Depths.{parent_then};
 
-use crate::subtree::{MAX_DEPTH, ROOT, parent_of};
 use ad_dir::Dir;
+use ad_needs_rules::{MAX_DEPTH, ROOT, parent_number};
 use std::alloc::{AllocError, Global};
 
 // The number of the parent of an object, where one that is moved has this one.
@@ -21,7 +21,7 @@ fn parent_then(dir: &Dir, moved: u32, parent: u32, number: u32) -> u32
     if number == moved {
         return parent;
     }
-    parent_of(dir, number)
+    parent_number(dir, number)
 }
 
 /// How many parents stand above an object, where one that is moved has this one; 65 where there are more than 64.
@@ -44,7 +44,7 @@ pub(crate) fn depth_then(dir: &Dir, moved: u32, parent: u32, number: u32) -> u32
 pub(crate) fn depth(dir: &Dir, number: u32) -> u32
     ensures { result ≡ depth_of (parents dir.now) number }
 {
-    depth_then(dir, number, parent_of(dir, number), number)
+    depth_then(dir, number, parent_number(dir, number), number)
 }
 
 // Whether none of the objects is too deep then.
@@ -72,7 +72,7 @@ pub(crate) fn is_shallow_with(
     ensures { (name : List ℕ) → IfOk result (λ shallow. shallow
         ≡ is_shallow_with dir.now (renamed_object (object_at dir.now.objects target) parent name)) }
 {
-    if parent_of(dir, target) == parent {
+    if parent_number(dir, target) == parent {
         return Ok(true);
     }
     let numbers = dir.numbers(alloc)?;

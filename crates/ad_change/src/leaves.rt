@@ -9,8 +9,9 @@ ghost use Rattle.ad_change.specs.Removing.{IsLeaving, at_depth, from_depth};
 ghost use Rattle.ad_change.specs.Tree.{depth_of};
 
 use crate::depth::depth;
-use crate::subtree::{MAX_DEPTH, goes_with};
+use crate::subtree::goes_with;
 use ad_dir::Dir;
+use ad_needs_rules::MAX_DEPTH;
 use std::alloc::{AllocError, Global};
 
 // Puts an object with its depth at the end, if it goes.

@@ -10,9 +10,8 @@ ghost use Rattle.ad_dir_objects.specs.Left.{left_of};
 ghost use Rattle.ad_change.specs.Tree as tree;
 ghost use Rattle.ad_change.specs.Others.{other_weight, others_weight};
 
-use ad_dir::{Dir, Object};
+use ad_dir::{Dir, Object, live_object};
 use ad_dir_objects::after_object;
-use ad_dir_write::live_object;
 
 /// The largest weight of a directory.
 const MAX_WEIGHT: usize = 268_435_456;

@@ -25,9 +25,9 @@ use crate::sent::are_bytes;
 use crate::writing::{put_edits, write_edits};
 use ad_bytes::List;
 use ad_change_values::{Stop, code_of, judge_attrs, judge_items};
-use ad_dir::{ActItem, Dir, Edit, Object};
-use ad_dir_write::{live_object, live_sd};
+use ad_dir::{ActItem, Dir, Edit, Object, live_object, live_sd};
 use ad_ids::Token;
+use ad_ldap::result_code;
 use ad_sd::{NormalSd, Sd, SdParts, SdView};
 use ad_value::what_is_shown_reads_back;
 use std::alloc::{AllocError, Global};
@@ -80,12 +80,12 @@ fn judge_modify(
         ≡ modify.modified_object dir.now target items.now) result }
 {
     if !is_owner_allowed(token, sd) {
-        return Err(Stop::Refused(19));
+        return Err(Stop::Refused(result_code::CONSTRAINT_VIOLATION));
     }
     let before = live_object(dir, target).copy(alloc)?;
     let after = judge_values(alloc, dir, before, items)?;
     if !is_light_with(dir, &after) {
-        return Err(Stop::Refused(11));
+        return Err(Stop::Refused(result_code::ADMIN_LIMIT_EXCEEDED));
     }
     Ok(after)
 }

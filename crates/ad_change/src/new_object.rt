@@ -23,15 +23,15 @@ ghost use Rattle.ad_dir_model.specs.Edits.{add_edits};
 ghost use Rattle.ad_dir_model.specs.Soundness.{IsSound, AttrsRiseFrom};
 ghost use Rattle.ad_change.specs.Adding.{held_before};
 ghost use Rattle.ad_change.specs.Creating.{all_before, new_whole};
-ghost use Rattle.ad_change.specs.Judging.{AreEdits};
+ghost use Rattle.ad_dir.specs.Conditions.{AreEdits};
 
-use crate::subtree::ROOT;
 use ad_bytes::{Bytes, Few, List};
 use ad_change_values::{Held, put_stored, take_stored};
-use ad_dir::{Dir, Edit, Meta, Object, Stored};
-use ad_dir_write::{guid_of, live_sd};
+use ad_dir::{Dir, Edit, Meta, Object, Stored, live_sd};
+use ad_dir_write::guid_of;
 use ad_ids::{Sid, Token};
 use ad_inherit::create;
+use ad_needs_rules::ROOT;
 use ad_schema::{AttrId, ClassId, RuleAttr};
 use ad_schema_defaults::default_parts;
 use ad_sd::{SdParts, normal};
@@ -157,7 +157,7 @@ fn with_sid(alloc: Global, dir: &Dir, held: &mut Held, sid: Option<&Sid>) -> Res
 }
 
 // The object with its number and this identifier.
-fn numbered(
+fn object_numbered(
     alloc: Global,
     dir: &Dir,
     parent: u32,
@@ -213,7 +213,7 @@ pub(crate) fn new_object(
         })) }
 {
     let sid = new_sid(dir, class);
-    numbered(alloc, dir, parent, class, name, held, sid.as_ref())
+    object_numbered(alloc, dir, parent, class, name, held, sid.as_ref())
 }
 
 /// Whether an object of the class gets an identifier.

@@ -2,13 +2,14 @@
 
 ghost use Rattle.std.specs.Prelude.{◌≡◌};
 ghost use Rattle.ad_acl.specs.Mask.{has_bit};
+ghost use Rattle.ad_needs_rules.specs.Privileges.{restore};
 ghost use Rattle.ad_needs_rules.specs.Descriptors.{may_give, is_owner_allowed};
 
 use ad_ids::{RESTORE, Sid, Token};
 use ad_sd::SdParts;
 
 fn may_restore(privileges: u8) -> bool
-    ensures { result ≡ has_bit privileges 2 }
+    ensures { result ≡ has_bit privileges restore }
 {
     privileges & RESTORE != 0
 }
@@ -17,7 +18,7 @@ fn may_restore(privileges: u8) -> bool
 fn may_give(token: &Token, sid: &Sid) -> bool
     ensures { result ≡ may_give token.now sid.now }
 {
-    token.user == *sid || token.groups.contains(sid) || may_restore(token.privileges)
+    token.holds(sid) || may_restore(token.privileges)
 }
 
 /// Whether the owner that the parts name, if they name one, may be given by a token.

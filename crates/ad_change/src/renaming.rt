@@ -17,13 +17,13 @@ ghost use Rattle.ad_change.specs.Renaming as rename;
 use crate::depth::is_shallow_with;
 use crate::light::is_light_with;
 use crate::outcome::Plan;
-use crate::subtree::parent_of;
 use crate::writing::{put_edits, write_edits};
 use ad_bytes::{Bytes, List};
 use ad_change_values::{Stop, code_of};
-use ad_dir::{Dir, Edit, Object, live_object};
-use ad_dir_write::live_sd;
+use ad_dir::{Dir, Edit, Object, live_object, live_sd};
 use ad_ids::Token;
+use ad_ldap::result_code;
+use ad_needs_rules::parent_number;
 use std::alloc::{AllocError, Global};
 
 // ---- checks
@@ -34,7 +34,7 @@ fn may_stand(dir: &Dir, target: u32, parent: u32) -> bool
     requires parent { is_live dir.now.objects parent ≡ true }
     ensures { result ≡ rename.may_stand dir.now target parent }
 {
-    if parent_of(dir, target) == parent {
+    if parent_number(dir, target) == parent {
         return true;
     }
     let above = live_object(dir, parent).class;
@@ -106,14 +106,14 @@ fn judge_rename(
         ≡ renamed_object (object_at dir.now.objects target) parent name.now) result }
 {
     if !may_stand(dir, target, parent) {
-        return Err(Stop::Refused(64));
+        return Err(Stop::Refused(result_code::NAMING_VIOLATION));
     }
     if !is_free(alloc, dir, target, parent, name.as_slice())? {
-        return Err(Stop::Refused(68));
+        return Err(Stop::Refused(result_code::ENTRY_ALREADY_EXISTS));
     }
     let object = renamed(alloc, dir, target, parent, name)?;
     if !fits_there(alloc, dir, target, &object)? {
-        return Err(Stop::Refused(11));
+        return Err(Stop::Refused(result_code::ADMIN_LIMIT_EXCEEDED));
     }
     Ok(object)
 }
@@ -132,7 +132,7 @@ fn edits_of(alloc: Global, dir: &Dir, target: u32, object: Object) -> Result<Lis
         edits) }
 {
     let own = live_sd(dir, target);
-    if parent_of(dir, target) == object.parent {
+    if parent_number(dir, target) == object.parent {
         put_edits(alloc, dir, object, own)
     } else {
         write_edits(alloc, dir, object, own)

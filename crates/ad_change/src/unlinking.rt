@@ -11,8 +11,7 @@ ghost use Rattle.ad_change.specs.Removing.{AddsEdits, IsLeaving, losing_among, l
 
 use crate::subtree::goes_with;
 use ad_bytes::{Few, List};
-use ad_dir::{Dir, Edit, Object, Stored, live_object};
-use ad_dir_write::live_sd;
+use ad_dir::{Dir, Edit, Object, Stored, live_object, live_sd};
 use ad_schema::AttrId;
 use std::alloc::{AllocError, Global};
 
@@ -84,7 +83,7 @@ fn push_kept(
 }
 
 // The values without those links.
-fn kept_of(
+fn values_left(
     alloc: Global,
     dir: &Dir,
     target: u32,
@@ -116,7 +115,7 @@ fn push_held(
         ≡ map held_seen all.old ++ filter_map (unlinked_held (goes_with dir.now target))
         (held_seen held.now ∷ [])) }
 {
-    let kept = kept_of(alloc, dir, target, alone, held.1.as_slice())?;
+    let kept = values_left(alloc, dir, target, alone, held.1.as_slice())?;
     if !kept.is_empty() {
         all.push((held.0, kept))?;
     }

@@ -10,18 +10,17 @@ ghost use Rattle.ad_dir_model.specs.Objects.{is_live, object_at};
 ghost use Rattle.ad_dir_model.specs.Tree.{root};
 ghost use Rattle.ad_dir_model.specs.Inheritance.{whole_at};
 ghost use Rattle.ad_dir_model.specs.Edits as edits_of;
-ghost use Rattle.ad_change.specs.Judging.{AreEdits, AreNeeded};
+ghost use Rattle.ad_change.specs.Judging.{AreNeeded};
+ghost use Rattle.ad_dir.specs.Conditions.{AreEdits};
 
 use crate::same::same_object;
 use ad_bytes::List;
-use ad_dir::{Dir, Edit, Object};
-use ad_dir_write::{copied, guid_of, is_another, live_object, live_sd, mark_if};
+use ad_dir::{Dir, Edit, Object, live_object, live_sd};
+use ad_dir_write::{copied, guid_of, is_another, mark_if};
 use ad_inherit::{explicit, whole};
+use ad_needs_rules::ROOT;
 use ad_sd::{SdView, normal};
 use std::alloc::{AllocError, Global};
-
-/// The number of the root.
-const ROOT: u32 = 1;
 
 // ---- descriptors
 

@@ -14,7 +14,8 @@ use Rattle.ad_schema.specs.Classes.{is_allowed}
 use Rattle.ad_dir_objects.specs.declared.object.Stored.{Stored as StoredIn}
 use Rattle.ad_dir_objects.specs.Seen.{stored_seen}
 use Rattle.ad_dir_model.specs.Object.{Held, stored_in}
-use Rattle.ad_change_values.specs.Values.{is_single, is_lacking}
+use Rattle.ad_change_values.specs.Values.{is_lacking}
+use Rattle.ad_dir_model.specs.Attributes.{is_single}
 use Rattle.ad_change_values.specs.Items.{is_item_named, final_checks}
 use Rattle.ad_change_values.specs.Judging.{AreNamed}
 use Rattle.std.specs.List.{range_with_len, flat_map}

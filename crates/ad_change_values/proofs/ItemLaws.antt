@@ -17,7 +17,8 @@ use Rattle.ad_dir_model.specs.Soundness.{AttrsRiseFrom}
 use Rattle.ad_dir_model.proofs.WithValues.{rise_with}
 use Rattle.ad_needs_rules.specs.Checks.{Refusal, Check, code, or_code, first_failing}
 use Rattle.ad_needs_rules.proofs.FirstFailing.{all_pass, one_fails}
-use Rattle.ad_change_values.specs.Values.{is_password, leads, is_no_empty_password, is_given_twice, is_among}
+use Rattle.ad_change_values.specs.Values.{leads, is_no_empty_password, is_given_twice, is_among}
+use Rattle.ad_dir_model.specs.Attributes.{is_password}
 use Rattle.ad_change_values.specs.Values.{all_stored}
 use Rattle.ad_change_values.specs.Items.{values_after, without, with_these, after_item, after_items, adds_new}
 use Rattle.ad_change_values.specs.Items.{gives_once, deletes_there}

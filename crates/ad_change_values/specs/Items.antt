@@ -9,7 +9,8 @@ use Rattle.ad_dir_model.specs.Object.{Stored, Held, stored_in}
 use Rattle.ad_dir_model.specs.Directory.{Directory}
 use Rattle.ad_dir_model.specs.Changes.{with_values}
 use Rattle.ad_needs_rules.specs.Checks.{Check, or_code}
-use Rattle.ad_change_values.specs.Values.{is_password, is_single, is_lacking, reads, is_short, leads}
+use Rattle.ad_change_values.specs.Values.{is_lacking, reads, is_short, leads}
+use Rattle.ad_dir_model.specs.Attributes.{is_password, is_single}
 use Rattle.ad_change_values.specs.Values.{is_no_empty_password, is_given_twice, all_stored, is_among}
 use Rattle.ad_ldap.specs.ResultCodes.{invalid_attribute_syntax, constraint_violation, attribute_or_value_exists}
 use Rattle.ad_ldap.specs.ResultCodes.{no_such_attribute, object_class_violation}

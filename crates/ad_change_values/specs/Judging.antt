@@ -11,7 +11,8 @@ use Rattle.ad_dir_model.specs.Directory.{Directory}
 use Rattle.ad_needs_rules.specs.Checks.{Check, code, or_code, first_failing}
 use Rattle.ad_change_values.specs.declared.stop.Stop.{Stop}
 use Rattle.ad_change_values.specs.declared.stop.Stop.TheVariants as stop
-use Rattle.ad_change_values.specs.Values.{is_password, all_attrs, value_in, reads, is_short, leads}
+use Rattle.ad_change_values.specs.Values.{all_attrs, value_in, reads, is_short, leads}
+use Rattle.ad_dir_model.specs.Attributes.{is_password}
 use Rattle.ad_change_values.specs.Values.{is_no_empty_password, all_stored}
 use Rattle.ad_change_values.specs.Items.{adds_new, gives_once, deletes_there, is_item_named, all_item_checks}
 use Rattle.ad_change_values.specs.Items.{final_checks, after_items}

@@ -1,6 +1,6 @@
 -- Values as they were sent, and as they are stored.
 use Rattle.std.specs.Prelude.{ℕ, Bool, true, false, not, ◌==◌, ◌&&◌, ◌||◌, if◌then◌else◌, Option, option_map}
-use Rattle.std.specs.Prelude.{codes, List, [], ◌∷◌, length, filter_map, slice_get, Result, Ok, Err}
+use Rattle.std.specs.Prelude.{List, [], ◌∷◌, length, filter_map, Result, Ok, Err}
 use Rattle.std.specs.Option.{option_map_or, option_and_then}
 use Rattle.std.specs.List.{list_any, range_with_len}
 use Rattle.std.specs.Result.{result_ok}
@@ -15,17 +15,11 @@ use Rattle.ad_schema.specs.Attributes.{attrs_of}
 use Rattle.ad_schema.specs.Classes.{is_must}
 use Rattle.ad_schema.specs.Meaning.{attr_is_link, is_never_missing}
 use Rattle.ad_dir_model.specs.Object.{Stored, plain, link}
-use Rattle.ad_dir_model.specs.Attributes.{is_named, syntax_at}
+use Rattle.ad_dir_model.specs.Attributes.{is_password, syntax_at}
 use Rattle.ad_dir_model.specs.Directory.{Directory}
 use Rattle.ad_dir_model.specs.Names.{found}
 
 -- ---- attributes
-
-abbrev pub is_password : List SchemaRecord → ℕ → Bool
-is_password schema attr = is_named schema (codes "unicodePwd") attr
-
-unfoldable pub is_single : List SchemaRecord → ℕ → Bool
-is_single schema attr = option_map_or (λ info. info.single) (slice_get (attrs_of schema) attr) false
 
 -- all of the schema, in its order
 abbrev pub all_attrs : List SchemaRecord → List ℕ

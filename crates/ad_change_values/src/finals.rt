@@ -9,7 +9,7 @@ ghost use Rattle.ad_dir_objects.specs.Seen.{held_seen};
 ghost use Rattle.ad_dir_model.specs.Object.{stored_in, Held as HeldValue};
 ghost use Rattle.ad_change_values.specs.ByAttr.{count_in};
 ghost use Rattle.ad_change_values.specs.Values.{all_attrs};
-ghost use Rattle.ad_change_values.specs.Values as values;
+ghost use Rattle.ad_dir_model.specs.Attributes as attributes;
 ghost use Rattle.ad_change_values.specs.Items as modify;
 ghost use Rattle.ad_change_values.specs.Judging.{Judges, AreNamed};
 
@@ -37,7 +37,7 @@ fn named_by(alloc: Global, count: u32, items: &[ActItem]) -> Result<Vec<bool>, A
 /// Whether so many values are too many.
 pub fn are_too_many(schema: &Schema, attr: AttrId, count: usize) -> bool
     requires { attr.0 < length (attrs_of schema.now) }
-    ensures { result ≡ (values.is_single schema.now attr.0 && nat_lt 1 count) }
+    ensures { result ≡ (attributes.is_single schema.now attr.0 && nat_lt 1 count) }
 {
     is_single(schema, attr) && 1 < count
 }

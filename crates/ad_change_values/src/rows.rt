@@ -62,8 +62,7 @@ pub(crate) fn held_of(alloc: Global, rows: Rows) -> Result<Held, AllocError>
     let mut rows = rows;
     let count = rows.len();
     let mut held = Vec::with_capacity(alloc, count)?;
-    for i in 0..count {
-        let _ = i;
+    for _ in 0..count {
         move_first(alloc, &mut rows, &mut held)?;
     }
     Ok(held)

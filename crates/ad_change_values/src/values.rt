@@ -14,12 +14,13 @@ ghost use Rattle.ad_schema.specs.Meaning.{attr_is_link};
 ghost use Rattle.ad_dir_objects.specs.declared.object.Stored.TheVariants as kept;
 ghost use Rattle.ad_dir_objects.specs.Seen.{stored_seen};
 ghost use Rattle.ad_needs_rules.specs.Checks.{or_code};
+ghost use Rattle.ad_dir_model.specs.Attributes as attributes;
 ghost use Rattle.ad_change_values.specs.Values as values;
 ghost use Rattle.ad_change_values.specs.Judging.{Judges, values_in, reading_checks};
 
 use crate::stop::Stop;
 use ad_bytes::{Bytes, Few, List};
-use ad_dir::{Dir, Stored};
+use ad_dir::{Dir, Stored, is_named};
 use ad_dn::DnFault;
 use ad_ldap::result_code;
 use ad_schema::{AttrId, ClassId, Schema};
@@ -30,19 +31,16 @@ use std::alloc::{AllocError, Global};
 
 /// Whether values of the attribute are kept as their digests.
 pub(crate) fn is_password(schema: &Schema, attr: AttrId) -> bool
-    ensures { result ≡ values.is_password schema.now attr.0 }
+    ensures { result ≡ attributes.is_password schema.now attr.0 }
 {
-    match schema.attr(b"unicodePwd") {
-        Some(place) => place.0 == attr.0,
-        None => false,
-    }
+    is_named(schema, b"unicodePwd", attr)
 }
 
 /// Whether an object has one value of the attribute at most.
-#[tactic(auto, unfolding(crate::specs::Values::is_single))]
+#[tactic(auto, unfolding(ad_dir_model::specs::Attributes::is_single))]
 pub(crate) fn is_single(schema: &Schema, attr: AttrId) -> bool
     requires { attr.0 < length (attrs_of schema.now) }
-    ensures { result ≡ values.is_single schema.now attr.0 }
+    ensures { result ≡ attributes.is_single schema.now attr.0 }
 {
     schema.attr_info(attr).single
 }

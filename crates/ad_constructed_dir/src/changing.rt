@@ -6,9 +6,8 @@ ghost use Rattle.ad_dir_model.specs.Objects.{is_live};
 ghost use Rattle.ad_constructed_dir.specs.Changing.{changing_of};
 
 use crate::object_rights::{ObjectRights, written_attrs};
-use ad_access_dir::class_of;
 use ad_constructed::{attributes, children};
-use ad_dir::Dir;
+use ad_dir::{Dir, class_of};
 use ad_ids::Token;
 use std::alloc::{AllocError, Global};
 

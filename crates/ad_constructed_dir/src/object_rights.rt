@@ -20,45 +20,21 @@ use ad_acl::{
 };
 use ad_constructed::Rights;
 use ad_dir::Dir;
-use ad_ids::{Guid, Token};
+use ad_ids::Token;
+use ad_needs::password_right;
+use ad_needs_rules::is_password;
 use ad_schema::{AttrId, AttrInfo, ClassId};
-use ad_schema_classes::same_name;
 use ad_types::Path;
 use std::alloc::{AllocError, Global};
 
-/// The right User-Force-Change-Password, in packet order.
-const FORCE_CHANGE: Guid = Guid {
-    bytes: [
-        0x70, 0x95, 0x29, 0x00, 0x6d, 0x24, 0xd0, 0x11, 0xa7, 0x68, 0x00, 0xaa, 0x00, 0x6e, 0x05,
-        0x29,
-    ],
-};
-
 // ---- attributes
-
-fn is_password(name: &[u8]) -> bool
-    ensures { result ≡ is_password name.now }
-{
-    same_name(name, b"unicodePwd")
-}
-
-fn forced_right() -> Guid
-    ensures { result ≡ force_change }
-{
-    FORCE_CHANGE
-}
 
 fn forces_change(dir: &Dir, token: &Token, number: u32) -> bool
     requires { is_live dir.now.objects number ≡ true }
     ensures { result ≡ is_granted dir.now token.now number (force_change ∷ []) 8 }
 {
-    grants(
-        dir,
-        token,
-        number,
-        &Path::one(forced_right()),
-        CONTROL_ACCESS,
-    )
+    let path = Path::one(password_right(true));
+    grants(dir, token, number, &path, CONTROL_ACCESS)
 }
 
 fn has_write(mask: u32) -> bool

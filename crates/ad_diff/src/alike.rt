@@ -6,8 +6,7 @@ ghost use Rattle.ad_diff.specs.Steps.{IsAlike, IsAlikeIn, IsLiveBoth};
 
 use crate::both::Both;
 use crate::own::{is_same_own, names_self};
-use ad_access_dir::class_of;
-use ad_dir::Dir;
+use ad_dir::{Dir, class_of};
 
 // Whether two live objects have the same class and descriptor, and the same identifier where that counts.
 fn is_alike_in(dir: &Dir, a: u32, b: u32) -> bool

@@ -8,7 +8,7 @@ ghost use Rattle.ad_dir_model.specs.Objects.{is_live, sd_at};
 ghost use Rattle.ad_dir_model.specs.Identity.{self_sid};
 ghost use Rattle.ad_diff.specs.Steps.{is_for_self, IsSameOwn};
 
-use ad_dir::Dir;
+use ad_dir::{Dir, live_sd};
 use ad_ids::Sid;
 use ad_sd::SdView;
 
@@ -20,17 +20,6 @@ pub(crate) fn same_sid(a: Option<&Sid>, b: Option<&Sid>) -> bool
         (None, None) => true,
         (Some(a), Some(b)) => *a == *b,
         _ => false,
-    }
-}
-
-/// The descriptor of a live object.
-pub(crate) fn view_of(dir: &Dir, number: u32) -> SdView<'_>
-    requires { is_live dir.now.objects number ≡ true }
-    ensures { seen result ≡ sd_at dir.now.objects number }
-{
-    match dir.sd(number) {
-        Some(view) => view,
-        None => unreachable!(),
     }
 }
 
@@ -51,7 +40,7 @@ pub(crate) fn names_self(dir: &Dir, number: u32) -> bool
     requires { is_live dir.now.objects number ≡ true }
     ensures { result ≡ list_any is_for_self (sd_at dir.now.objects number).dacl.entries }
 {
-    let view = view_of(dir, number);
+    let view = live_sd(dir, number);
     names_self_in(&view)
 }
 

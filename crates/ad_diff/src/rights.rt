@@ -17,8 +17,8 @@ ghost use Rattle.ad_diff.specs.Steps.{texts, masked_attribute, AreWanted};
 use crate::codes::{
     Code, attribute_codes, child_codes, extended_codes, object_codes, validated_codes,
 };
-use ad_access_dir::{allowed_attrs, attr_masks, class_count, class_of, granted};
-use ad_dir::Dir;
+use ad_access_dir::{allowed_attrs, attr_masks, class_count, granted};
+use ad_dir::{Dir, class_of};
 use ad_ids::{Guid, Token};
 use ad_schema::{AttrId, ClassId, ClassInfo, RightInfo, Schema};
 use ad_types::Path;

@@ -6,9 +6,8 @@ ghost use Rattle.ad_diff.specs.Same.{IsUnchanged};
 ghost use Rattle.ad_diff.specs.Steps.{IsLiveBoth};
 
 use crate::both::Both;
-use crate::own::{same_sid, view_of};
-use ad_access_dir::class_of;
-use ad_dir::Dir;
+use crate::own::same_sid;
+use ad_dir::{Dir, class_of, live_sd};
 use ad_ids::{Sid, Token};
 use ad_schema::{Line, SchemaRecord};
 use ad_sd::SdView;
@@ -137,7 +136,7 @@ pub(crate) fn is_unchanged(before: &Dir, after: &Dir, o: Both) -> bool
     if class_of(before, o.before) != class_of(after, o.after) {
         return false;
     }
-    if !same_views(view_of(before, o.before), view_of(after, o.after)) {
+    if !same_views(live_sd(before, o.before), live_sd(after, o.after)) {
         return false;
     }
     same_sid(before.self_sid(o.before), after.self_sid(o.after))

@@ -6,16 +6,12 @@ use Rattle.std.specs.Option.{option_map_or}
 use Rattle.std.specs.List.{AllByRecursion}
 use Rattle.std.proofs.lemmas.Bool.{cases_Bool, cases_lt, both_ways, eqb-true, eqb-false, eq-eqb, ne_eqb, false≢true}
 use Rattle.std.proofs.lemmas.List.{append-nil}
+use Rattle.ad_dir_table.specs.Lists.{RiseFrom}
 use Rattle.ad_dir_model.specs.Object.{Object}
 use Rattle.ad_dir_model.specs.Objects.{RiseAbove, Rise, object_of, object_at, is_live}
 use Rattle.ad_dir_model.specs.Protection.{has, numbers_where}
 use Rattle.ad_dir_model.proofs.Finding.{at-of, live-of, live_above, all_found}
 use Rattle.ad_dir.specs.Holders.{links_to, holders, is_holder, IsNextHolder}
-
--- each number is above the one before it, and the first above this one
-abbrev RiseFrom : ℕ → List ℕ → Type 0
-RiseFrom number [] = Unit {0}
-RiseFrom number (n ∷ others) = (number < n) × RiseFrom n others
 
 -- ---- two rising lists
 

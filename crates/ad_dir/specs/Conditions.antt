@@ -1,5 +1,5 @@
 -- What an edit asks of the directory that it changes.
-use Rattle.std.specs.Prelude.{◌≡◌, ◌≢◌, ℕ, ◌-◌, ◌^◌, ◌<◌, ◌≤◌, true, false, Some, List}
+use Rattle.std.specs.Prelude.{◌≡◌, ◌≢◌, ℕ, ◌-◌, ◌^◌, ◌<◌, ◌≤◌, true, false, Some, List, map}
 use Rattle.std.specs.List.{AllByRecursion}
 use Rattle.prop_queue.specs.declared.pending.Pending.{Pending}
 use Rattle.prop_queue.specs.Pending.{is_pending, AreDistinct}
@@ -62,3 +62,8 @@ HasNormal _ = Unit {0}
 pub record MayApply (dir : Directory) (edit : EditIn) : Type 0 where
   pub normal : HasNormal edit
   pub may : May dir (edit_seen edit)
+
+-- the edits are these, and the bytes of descriptors are normal
+pub record AreEdits (seen : List Edit) (edits : List EditIn) : Type 0 where
+  pub are : map edit_seen edits ≡ seen
+  pub normal : AllByRecursion HasNormal edits

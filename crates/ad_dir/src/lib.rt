@@ -12,8 +12,8 @@
 //! # Proved
 //!
 //! An edit makes exactly the edited directory, or where memory runs out leaves it as it was. Each look-up says what
-//! a scan of the objects says: by number, name, identifier, parent, and who holds a link. The pool has each
-//! descriptor once.
+//! a scan of the objects says: by number, name, identifier, parent, and who holds a link. What a name leads to is live.
+//! The pool has each descriptor once.
 //!
 //! # The caller owes
 //!
@@ -31,6 +31,7 @@ mod dir;
 mod holders;
 mod holding;
 mod linking;
+mod live;
 mod names;
 mod settings;
 mod shown;
@@ -42,4 +43,5 @@ pub use ad_dir_objects::{
 };
 pub use ad_dir_table::NameKey;
 pub use dir::Dir;
-pub use names::live_object;
+pub use live::{class_of, live_object, live_sd, naming_of, parent_of};
+pub use shown::{is_named, is_naming};

@@ -8,14 +8,13 @@ ghost use Rattle.ad_dn.specs.AttributeType.{IsType};
 ghost use Rattle.ad_dn.specs.Value.{IsValue, IsRdn, AreRdns};
 ghost use Rattle.ad_dn.specs.declared.rdn.Rdn.{Rdn as RdnOf};
 ghost use Rattle.ad_schema.specs.Classes.{classes_of, naming_of};
-ghost use Rattle.ad_dir_objects.specs.Seen.{object_seen};
 ghost use Rattle.ad_dir.specs.Kept.{found_from_root};
-ghost use Rattle.ad_dir_model.specs.Objects.{is_live, object_at, sd_at};
+ghost use Rattle.ad_dir_model.specs.Objects.{is_live, object_at};
 ghost use Rattle.ad_dir_model.specs.Attributes.{attr_name};
 ghost use Rattle.ad_dir_model.specs.Names as names;
 
 use crate::dir::Dir;
-use ad_dir_objects::Object;
+use crate::live::{live_object, parent_of};
 use ad_dn::{Dn, Rdn, Rdns, same_rdn, same_value};
 use ad_schema::{ClassId, Schema};
 use std::alloc::{AllocError, Global};
@@ -25,18 +24,6 @@ pub(crate) const ROOT: u32 = 1;
 
 // As many parts as a name may have before the suffix: those of an object and of 64 above it.
 const PARTS: u32 = 65;
-
-/// A live object.
-pub fn live_object(dir: &Dir, number: u32) -> &Object
-    requires { is_live dir.now.objects number ≡ true }
-    ensures { object_seen result.now (sd_at dir.now.objects number) ≡ object_at dir.now.objects
-        number }
-{
-    match dir.object(number) {
-        Some(object) => object,
-        None => unreachable!(),
-    }
-}
 
 // The name of the attribute that names the objects of a class, which is the type of their RDNs in some case.
 fn naming_name(schema: &Schema, class: ClassId) -> &[u8]
@@ -100,17 +87,6 @@ fn with_suffix(alloc: Global, mut rdns: Rdns, suffix: &Dn) -> Result<Dn, AllocEr
 {
     push_copies(alloc, &mut rdns, suffix.rdns.as_slice())?;
     Ok(Dn { rdns })
-}
-
-// The parent of a live object that isn't the root.
-fn parent_of(dir: &Dir, number: u32) -> u32
-    requires live { is_live dir.now.objects number ≡ true }
-    requires below { number ≡ 1 → ⊥ }
-    ensures parent { result ≡ (object_at dir.now.objects number).parent }
-    ensures live { is_live dir.now.objects result ≡ true }
-{
-    dir.stands();
-    live_object(dir, number).parent
 }
 
 /// The name of a live object: its part, and then those of the objects above it and of the suffix.
@@ -269,11 +245,14 @@ pub(crate) fn found(dir: &Dir, dn: &Dn) -> Option<u32>
 
 impl Dir {
     /// The object of a name: the root's name from its end, and then part by part the child of that type, in any case,
-    /// and of that naming value after case folding.
+    /// and of that naming value after case folding. It is live.
     pub fn find(&self, _alloc: Global, dn: &Dn) -> Result<Option<u32>, AllocError>
         ensures found { IfOk result (λ found. found ≡ names.found self.now dn.now.rdns) }
+        ensures live { IfOk result (λ found.
+            IfSome found (λ number. is_live self.now.objects number ≡ true)) }
         ensures succeeds { IsOk result }
     {
+        self.stands();
         Ok(found(self, dn))
     }
 

@@ -10,7 +10,8 @@ ghost use Rattle.ad_dir_model.specs.Names.{directory_service, admin_sd_holder, c
 ghost use Rattle.ad_dir_model.specs.Settings.{settings, list_object_mode, digit_of, taken_out};
 
 use crate::dir::Dir;
-use crate::names::{ROOT, live_object, typed_child};
+use crate::live::live_object;
+use crate::names::{ROOT, typed_child};
 use ad_dir_objects::first_of;
 use ad_schema::RuleAttr;
 use ad_value::Value;

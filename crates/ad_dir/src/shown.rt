@@ -16,7 +16,8 @@ ghost use Rattle.ad_dir_model.specs.Names.{name_text};
 ghost use Rattle.ad_dir_model.specs.Shown as shown;
 
 use crate::dir::Dir;
-use crate::names::{dn_of, live_object};
+use crate::live::live_object;
+use crate::names::dn_of;
 use ad_bytes::List;
 use ad_dir_objects::{Stored, stored_of};
 use ad_schema::{AttrId, AttrInfo, ClassId, Schema};
@@ -92,7 +93,8 @@ fn may_be_named(schema: &Schema, name: &[u8], attr: AttrId) -> bool
     }
 }
 
-fn is_named(schema: &Schema, name: &[u8], attr: AttrId) -> bool
+/// Whether the attribute is the one that a name leads to.
+pub fn is_named(schema: &Schema, name: &[u8], attr: AttrId) -> bool
     ensures { result ≡ is_named schema.now name.now attr.0 }
 {
     if !may_be_named(schema, name, attr) {
@@ -104,8 +106,8 @@ fn is_named(schema: &Schema, name: &[u8], attr: AttrId) -> bool
     }
 }
 
-// Whether an attribute shows the naming value of objects of a class.
-fn is_naming(schema: &Schema, class: ClassId, attr: AttrId) -> bool
+/// Whether an attribute shows the naming value of objects of a class.
+pub fn is_naming(schema: &Schema, class: ClassId, attr: AttrId) -> bool
     requires { class.0 < length (classes_of schema.now) }
     ensures { result ≡ shown.is_naming schema.now class.0 attr.0 }
 {

@@ -1,4 +1,6 @@
 pub mod Finding
+pub mod Named
+pub mod Above
 pub mod TreeLaws
 pub mod SameSdLaws
 pub mod PendingLaws

@@ -1,5 +1,5 @@
 -- Attributes as a directory's rules see them, by their places in the schema.
-use Rattle.std.specs.Prelude.{ℕ, Bool, false, ◌==◌, Option, unwrap_or, slice_get, List, []}
+use Rattle.std.specs.Prelude.{ℕ, Bool, false, ◌==◌, Option, unwrap_or, slice_get, codes, List, []}
 use Rattle.std.specs.Option.{option_map, option_map_or}
 use Rattle.ad_value.specs.declared.syntax.Syntax.{Syntax}
 use Rattle.ad_value.specs.declared.syntax.Syntax.TheVariants as syntax
@@ -24,6 +24,14 @@ attr_name schema attr = unwrap_or (slice_get (names_of Attribute schema) attr) [
 
 unfoldable pub syntax_at : List SchemaRecord → ℕ → Syntax
 syntax_at schema attr = option_map_or (λ info. info.syntax) (slice_get (attrs_of schema) attr) syntax.Other
+
+-- values of it are kept as their digests
+abbrev pub is_password : List SchemaRecord → ℕ → Bool
+is_password schema attr = is_named schema (codes "unicodePwd") attr
+
+-- an object has one value of it at most
+unfoldable pub is_single : List SchemaRecord → ℕ → Bool
+is_single schema attr = option_map_or (λ info. info.single) (slice_get (attrs_of schema) attr) false
 
 -- ---- those that rules name, where they count: objectSid, primaryGroupID, dSHeuristics and member
 

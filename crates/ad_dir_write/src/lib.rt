@@ -1,19 +1,17 @@
-//! What each write of a descriptor needs: the object and its descriptor, the GUID of its class, whether the
-//! descriptor is another one then, and marks in a copy of the pending list. The rules are written in
-//! `docs/profile/propagation.md`.
+//! What each write of a descriptor needs: the GUID of a class, whether the descriptor is another one then, and marks
+//! in a copy of the pending list. The rules are written in `docs/profile/propagation.md`.
 //!
 //! # Example
 //!
 //! ```text
-//! let object = ad_dir_write::live_object(&dir, number);
 //! let changed = ad_dir_write::is_another(&dir, number, &normal_bytes);
 //! ad_dir_write::mark_if(changed, &mut queue, number)?;
 //! ```
 //!
 //! # Proved
 //!
-//! Object and descriptor are those of the number. The bytes are of another descriptor exactly where they aren't
-//! those that the object has. The object is marked exactly where it changed.
+//! The bytes are of another descriptor exactly where they aren't those that the object has. The object is marked
+//! exactly where it changed.
 //!
 //! # The caller owes
 //!
@@ -27,5 +25,5 @@
 mod object;
 mod queue;
 
-pub use object::{guid_of, is_another, live_object, live_sd};
+pub use object::{guid_of, is_another};
 pub use queue::{copied, mark_if};

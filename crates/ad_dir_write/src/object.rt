@@ -1,42 +1,16 @@
-//! Live objects, and their descriptors.
+//! The descriptor that an object is to have.
 
 ghost use Rattle.std.specs.Prelude.{◌≡◌, ◌<◌, true, not, length};
 ghost use Rattle.ad_schema.specs.Classes.{classes_of};
 ghost use Rattle.ad_sd.specs.Normal.{SpellsNormal};
-ghost use Rattle.ad_sd.specs.Seen.{seen};
 ghost use Rattle.ad_sd.specs.declared.parts.Sd.{Sd as SdValue};
-ghost use Rattle.ad_dir_objects.specs.Seen.{object_seen};
-ghost use Rattle.ad_dir_model.specs.Objects.{object_at, sd_at, is_live};
+ghost use Rattle.ad_dir_model.specs.Objects.{sd_at, is_live};
 ghost use Rattle.ad_dir_model.specs.Inheritance.{guid_at};
 ghost use Rattle.ad_dir_model.specs.SameSd.{same_sd};
 
-use ad_dir::{Dir, Object};
+use ad_dir::{Dir, live_sd};
 use ad_ids::Guid;
 use ad_schema::{ClassId, Schema};
-use ad_sd::SdView;
-
-/// A live object.
-pub fn live_object(dir: &Dir, number: u32) -> &Object
-    requires { is_live dir.now.objects number ≡ true }
-    ensures { object_seen result.now (sd_at dir.now.objects number) ≡ object_at dir.now.objects
-        number }
-{
-    match dir.object(number) {
-        Some(object) => object,
-        None => unreachable!(),
-    }
-}
-
-/// The descriptor of a live object.
-pub fn live_sd(dir: &Dir, number: u32) -> SdView<'_>
-    requires { is_live dir.now.objects number ≡ true }
-    ensures { seen result ≡ sd_at dir.now.objects number }
-{
-    match dir.sd(number) {
-        Some(view) => view,
-        None => unreachable!(),
-    }
-}
 
 /// The GUID of a class of the schema.
 pub fn guid_of(schema: &Schema, class: ClassId) -> Guid

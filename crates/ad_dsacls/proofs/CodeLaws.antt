@@ -4,7 +4,7 @@ use Rattle.std.proofs.Common.{lit<}
 use Rattle.ad_acl.specs.Entry.{says}
 use Rattle.ad_acl.specs.Mask.{has_bit, mapped_has, control_access, self_write}
 use Rattle.ad_acl.proofs.MaskLaws.{masked}
-use Rattle.ad_sddl.specs.Words.{right_codes}
+use Rattle.ad_acl.specs.Codes.{right_codes}
 use Rattle.ad_sddl.specs.Canonical.{codes_text}
 use Rattle.ad_dsacls.specs.Effective.{code_of, granted_codes, object_rights, attribute_rights, set_rights, child_rights}
 use Rattle.ad_access_dir.specs.Masks.{IsMask}

@@ -15,7 +15,7 @@ use Rattle.ad_ids.specs.SidValue.{SidValue}
 use Rattle.ad_sd.specs.declared.parts.Sd.{Sd}
 use Rattle.ad_acl.specs.Mask.{mapped_has}
 use Rattle.ad_types.specs.declared.type_tree.Node.{Node}
-use Rattle.ad_sddl.specs.Words.{right_codes}
+use Rattle.ad_acl.specs.Codes.{right_codes}
 use Rattle.ad_sddl.specs.Canonical.{codes_text}
 use Rattle.ad_schema.specs.declared.line.SchemaRecord.{SchemaRecord}
 use Rattle.ad_schema.specs.declared.info.AttrId.{AttrId}
@@ -34,7 +34,7 @@ use Rattle.ad_dir_model.specs.Directory.{Directory}
 use Rattle.ad_dir_model.specs.Objects.{sd_at}
 use Rattle.ad_dir_model.specs.Identity.{self_sid}
 use Rattle.ad_access_dir.specs.Sight.{is_granted}
-use Rattle.ad_dsacls.specs.Puts.{Puts}
+use Rattle.ad_bytes.specs.Puts.{Puts}
 use Rattle.ad_access_dir.specs.Allowed.{allowed_attrs}
 use Rattle.ad_access_dir.specs.Masks.{IsMask}
 use Rattle.ad_access_dir.proofs.AllowedLaws.{allowed_within}

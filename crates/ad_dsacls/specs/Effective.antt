@@ -9,7 +9,7 @@ use Rattle.ad_ids.specs.declared.token.Token.{Token}
 use Rattle.ad_acl.specs.Mask.{create_child, delete_child, list_children, self_write, read_property, write_property}
 use Rattle.ad_acl.specs.Mask.{delete_tree}
 use Rattle.ad_acl.specs.Mask.{list_object, control_access, delete_object, read_control, write_dac, write_owner}
-use Rattle.ad_sddl.specs.Words.{right_codes}
+use Rattle.ad_acl.specs.Codes.{right_codes}
 use Rattle.ad_sddl.specs.Canonical.{codes_text}
 use Rattle.ad_schema.specs.declared.line.SchemaRecord.{SchemaRecord}
 use Rattle.ad_schema.specs.declared.info.AttrId.{AttrId}
@@ -26,7 +26,8 @@ use Rattle.ad_dir_model.specs.Objects.{object_at, sd_at}
 use Rattle.ad_dir_model.specs.Identity.{self_sid}
 use Rattle.ad_access_dir.specs.Sight.{is_granted}
 use Rattle.ad_access_dir.specs.Allowed.{allowed_attrs}
-use Rattle.ad_dsacls.specs.Words.{spaced, labelled}
+use Rattle.ad_dsacls.specs.Words.{labelled}
+use Rattle.ad_bytes.specs.Puts.{spaced}
 
 -- ---- codes
 

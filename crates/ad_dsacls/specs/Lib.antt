@@ -1,7 +1,5 @@
-pub mod Puts
 pub mod Words
 pub mod Listing
 pub mod Effective
 -- only for private contracts and proofs
-pub mod Codes
 pub mod Masks

@@ -10,7 +10,8 @@ use Rattle.ad_schema.specs.declared.line.SchemaRecord.{SchemaRecord}
 use Rattle.ad_dir_model.specs.Directory.{Directory}
 use Rattle.ad_dir_model.specs.Objects.{sd_at}
 use Rattle.ad_dir_model.specs.Names.{name_text}
-use Rattle.ad_dsacls.specs.Words.{newline, spaced, labelled, or_dash, kind_text, flags_text, origin_text, type_text}
+use Rattle.ad_dsacls.specs.Words.{newline, labelled, or_dash, kind_text, flags_text, origin_text, type_text}
+use Rattle.ad_bytes.specs.Puts.{spaced}
 
 -- kind, identifier, rights, object type, inherited type, flags, and whether it is inherited
 unfoldable pub entry_line : List SchemaRecord → Entry → List ℕ

@@ -1,7 +1,7 @@
 -- What the code finds before it becomes text: masks of granted rights.
 use Rattle.std.specs.Prelude.{ℕ, List, [], codes, slice_get}
 use Rattle.std.specs.Option.{option_map_or}
-use Rattle.ad_sddl.specs.Words.{right_codes}
+use Rattle.ad_acl.specs.Codes.{right_codes}
 use Rattle.ad_sddl.specs.Canonical.{codes_text}
 use Rattle.ad_schema.specs.declared.line.SchemaRecord.{SchemaRecord}
 use Rattle.ad_schema.specs.declared.info.AttrId.{AttrId}

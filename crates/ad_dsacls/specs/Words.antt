@@ -1,6 +1,7 @@
 -- The words of a line: codes, types, and what represents nothing.
-use Rattle.std.specs.Prelude.{ℕ, not, ◌==◌, if◌then◌else◌, Option, None, Some, List, [], ◌∷◌, ◌++◌, codes, filter}
+use Rattle.std.specs.Prelude.{ℕ, ◌==◌, if◌then◌else◌, Option, None, Some, List, [], ◌∷◌, ◌++◌, codes}
 use Rattle.std.specs.Prelude.{unwrap_or}
+use Rattle.std.specs.List.{flat_map}
 use Rattle.std.specs.Option.{option_or}
 use Rattle.ad_ids.specs.declared.guid.Guid.{Guid}
 use Rattle.ad_ids.specs.Guid.{same_guid}
@@ -8,8 +9,9 @@ use Rattle.ad_ids.specs.GuidText.{guid_text}
 use Rattle.ad_acl.specs.Entry.{says}
 use Rattle.ad_acl.specs.declared.kind.AceKind.{AceKind}
 use Rattle.ad_acl.specs.declared.kind.AceKind.TheVariants.{Allow, Deny, Audit}
-use Rattle.ad_sddl.specs.Words.{flag_codes}
-use Rattle.ad_sddl.specs.Canonical.{codes_text}
+use Rattle.ad_acl.specs.Codes.{flag_codes}
+use Rattle.ad_acl.specs.declared.codes.Code.{Code}
+use Rattle.ad_sddl.specs.Canonical.{code_text}
 use Rattle.ad_schema.specs.declared.line.SchemaRecord.{SchemaRecord}
 use Rattle.ad_schema.specs.declared.info.AttrInfo.{AttrInfo}
 use Rattle.ad_schema.specs.declared.info.ClassInfo.{ClassInfo}
@@ -21,9 +23,6 @@ use Rattle.ad_schema.specs.Classes.{classes_of}
 
 abbrev pub newline : List ℕ
 newline = 10 ∷ []
-
-abbrev pub spaced : List ℕ → List ℕ
-spaced text = text ++ codes " "
 
 -- a line
 abbrev pub labelled : List ℕ → List ℕ → List ℕ
@@ -41,9 +40,12 @@ kind_text Allow = codes "allow"
 kind_text Deny = codes "deny"
 kind_text Audit = codes "audit"
 
--- the codes of the flags but that of an inherited entry (16)
+-- the letters of a flag that an entry has, but for that of an inherited entry (16)
+abbrev pub own_flag : ℕ → Code → List ℕ
+own_flag flags code = if code.bits == 16 then [] else code_text flags code
+
 unfoldable pub flags_text : ℕ → List ℕ
-flags_text flags = codes_text (filter (λ code. not (code.bits == 16)) flag_codes) flags
+flags_text flags = flat_map (own_flag flags) flag_codes
 
 abbrev pub origin_text : ℕ → List ℕ
 origin_text flags = if says flags 16 then codes "inherited" else codes "explicit"

@@ -3,13 +3,13 @@
 ghost use Rattle.std.specs.Prelude.{◌≡◌, ◌++◌, OnOk};
 ghost use Rattle.std.specs.List.{flat_map};
 ghost use Rattle.ad_ids.specs.SidText.{sid_text};
-ghost use Rattle.ad_dsacls.specs.Puts.{Puts};
-ghost use Rattle.ad_dsacls.specs.Words.{spaced, labelled, or_dash, flags_text};
+ghost use Rattle.ad_bytes.specs.Puts.{Puts, spaced};
+ghost use Rattle.ad_dsacls.specs.Words.{labelled, or_dash, flags_text};
 ghost use Rattle.ad_sddl.specs.Canonical.{rights_text};
 ghost use Rattle.ad_dsacls.specs.Listing.{entry_line, protection_text, list_lines, lines_of};
 
 use crate::pieces::{put, put_labelled, put_or_dash, put_spaced};
-use crate::words::{flags_text, kind_text, origin_text, put_type, rights_text};
+use crate::words::{flags_text, kind_text, origin_text, put_type};
 use ad_acl::Ace;
 use ad_ids::Sid;
 use ad_schema::Schema;
@@ -25,7 +25,7 @@ fn put_sid(alloc: Global, out: &mut Vec<u8>, sid: &Sid) -> Result<(), AllocError
 fn put_rights(alloc: Global, out: &mut Vec<u8>, mask: u32) -> Result<(), AllocError>
     ensures { OnOk result (Puts out.old.items out.new.items (spaced (or_dash (rights_text mask)))) }
 {
-    put_or_dash(out, rights_text(alloc, mask)?.as_slice())
+    put_or_dash(out, ad_sddl::rights_text(alloc, mask)?.as_bytes())
 }
 
 fn put_flags(alloc: Global, out: &mut Vec<u8>, flags: u8) -> Result<(), AllocError>

@@ -1,9 +1,9 @@
 //! Lines of what is granted, from masks.
 
 ghost use Rattle.std.specs.Prelude.{OnOk};
-ghost use Rattle.ad_sddl.specs.Words.{right_codes};
+ghost use Rattle.ad_acl.specs.Codes.{right_codes};
 ghost use Rattle.ad_sddl.specs.Canonical.{codes_text};
-ghost use Rattle.ad_dsacls.specs.Puts.{Puts};
+ghost use Rattle.ad_bytes.specs.Puts.{Puts};
 ghost use Rattle.ad_dsacls.specs.Effective.{line_of, label_of};
 
 use crate::pieces::{put, put_labelled, put_spaced};

@@ -1,26 +1,13 @@
 //! The lines of an object's descriptor.
 
 ghost use Rattle.std.specs.Prelude.{◌≡◌, true, IfOk};
-ghost use Rattle.ad_sd.specs.Seen.{seen};
-ghost use Rattle.ad_dir_model.specs.Objects.{is_live, sd_at};
+ghost use Rattle.ad_dir_model.specs.Objects.{is_live};
 ghost use Rattle.ad_dir_model.specs.Names.{name_text};
 ghost use Rattle.ad_dsacls.specs.Listing.{listing};
 
 use crate::entries::put_lines;
-use ad_dir::Dir;
-use ad_sd::SdView;
+use ad_dir::{Dir, live_sd};
 use std::alloc::{AllocError, Global};
-
-// The descriptor of a live object.
-pub(crate) fn view_of(dir: &Dir, number: u32) -> SdView<'_>
-    requires { is_live dir.now.objects number ≡ true }
-    ensures { seen result ≡ sd_at dir.entry.now.objects number }
-{
-    match dir.sd(number) {
-        Some(view) => view,
-        None => unreachable!(),
-    }
-}
 
 // The text of the name of a live object.
 fn name_text(alloc: Global, dir: &Dir, number: u32) -> Result<Vec<u8>, AllocError>
@@ -44,7 +31,7 @@ pub fn list(alloc: Global, dir: &Dir, number: u32) -> Result<Vec<u8>, AllocError
     requires { is_live dir.now.objects number ≡ true }
     ensures { IfOk result (λ text. text.items ≡ listing dir.now number) }
 {
-    let sd = view_of(dir, number).to_sd(alloc)?;
+    let sd = live_sd(dir, number).to_sd(alloc)?;
     let name = name_text(alloc, dir, number)?;
     let mut out = Vec::new(alloc);
     put_lines(alloc, &mut out, dir.schema(), name.as_slice(), &sd)?;

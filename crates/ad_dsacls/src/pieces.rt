@@ -1,8 +1,8 @@
 //! Pieces of text. Where memory runs out a part may have been put: the one call that makes the text then drops it.
 
 ghost use Rattle.std.specs.Prelude.{OnOk, codes};
-ghost use Rattle.ad_dsacls.specs.Puts.{Puts};
-ghost use Rattle.ad_dsacls.specs.Words.{spaced, labelled, or_dash};
+ghost use Rattle.ad_bytes.specs.Puts.{Puts, spaced};
+ghost use Rattle.ad_dsacls.specs.Words.{labelled, or_dash};
 
 use std::alloc::AllocError;
 

@@ -5,9 +5,13 @@ use Rattle.gate_log.specs.declared.log.Log.{Log}
 use Rattle.row_store.specs.Rows.{EndsWith}
 use Rattle.row_store.specs.declared.store.Store.{Store}
 
--- No more than the greater of 1,048,576 and the length of the first body, and so much besides.
+-- so many bytes may follow the first body however short that one is
+abbrev pub short_journal : ℕ
+short_journal = 1048576
+
+-- No more than the greater of that and the length of the first body, and so much besides.
 pub data IsWithin (first : Option ℕ) (more behind : ℕ) : Type 0 where
-  by_limit : behind ≤ 1048576 + more → IsWithin first more behind
+  by_limit : behind ≤ short_journal + more → IsWithin first more behind
   by_first : behind ≤ unwrap_or first 0 + more → IsWithin first more behind
 
 -- The bodies after the first have room for one more, unless the generation can't rise any more.

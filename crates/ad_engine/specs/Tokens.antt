@@ -1,6 +1,7 @@
 -- The tokens of connections.
 use Rattle.std.specs.Prelude.{ℕ, zero, suc, Option, Some, None, unwrap_or, List, [], ◌∷◌, slice_get}
 use Rattle.ad_ids.specs.SidValue.{SidValue}
+use Rattle.ad_ids.specs.WellKnown.{everyone}
 use Rattle.ad_ids.specs.declared.token.Token.{Token}
 
 -- ---- a connection without a token
@@ -8,10 +9,6 @@ use Rattle.ad_ids.specs.declared.token.Token.{Token}
 -- S-1-5-7
 abbrev pub anonymous : SidValue
 anonymous = record { authority = 5; sub_authorities = 7 ∷ [] }
-
--- S-1-1-0
-abbrev pub everyone : SidValue
-everyone = record { authority = 1; sub_authorities = 0 ∷ [] }
 
 -- no privilege, the anonymous user as user and owner, and everyone as primary and only group
 abbrev pub anonymous_token : Token

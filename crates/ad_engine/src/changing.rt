@@ -7,6 +7,7 @@ ghost use Rattle.ad_dir_model.specs.Soundness.{IsSound};
 ghost use Rattle.ad_dn.specs.Text.{dn_text};
 ghost use Rattle.ad_ldap.specs.MessageValue.{op_seen, message_seen};
 ghost use Rattle.ad_ldap.specs.Settings.{settings_of};
+ghost use Rattle.ad_ldap.specs.ResultCodes.{no_such_object, insufficient_access_rights};
 ghost use Rattle.ad_needs_rules.specs.Needs.{need_text};
 ghost use Rattle.ad_needs.specs.Verdicts.{IsChange, verdict_of};
 ghost use Rattle.ad_needs_rules.specs.declared.outcome.Verdict.TheVariants.{Granted as IsGranted};
@@ -22,17 +23,24 @@ use ad_change::{Plan, plan};
 use ad_dir::{Act, Dir, Edit};
 use ad_dn::Dn;
 use ad_ids::Token;
-use ad_ldap::{Message, Op, Settings, settings};
+use ad_ldap::{Message, Op, Settings, result_code, settings};
 use ad_needs::{Need, Verdict, a_missing_need_names_live_objects, text, verdict};
 use std::alloc::{AllocError, Global};
 
 // The object isn't there, or isn't visible: the name above it that is told.
 fn hidden(alloc: Global, id: u32, tag: u8, dn: &Dn) -> Result<Decided, AllocError>
     ensures { IfOk result (λ decided. (dir : Directory)
-        → IsDecided dir (replies (done id tag 32 (dn_text dn.now) [])) decided) }
+        → IsDecided dir (replies (done id tag no_such_object (dn_text dn.now) [])) decided) }
 {
     let name = dn.text(alloc)?;
-    let bytes = done(alloc, id, tag, 32, name, Vec::new(alloc))?;
+    let bytes = done(
+        alloc,
+        id,
+        tag,
+        result_code::NO_SUCH_OBJECT,
+        name,
+        Vec::new(alloc),
+    )?;
     Ok(replying(alloc, bytes))
 }
 
@@ -40,19 +48,33 @@ fn hidden(alloc: Global, id: u32, tag: u8, dn: &Dn) -> Result<Decided, AllocErro
 fn missing(alloc: Global, dir: &Dir, id: u32, tag: u8, need: &Need) -> Result<Decided, AllocError>
     requires { All (λ want. is_live dir.now.objects want.object ≡ true) need.now.alternatives }
     ensures { IfOk result (IsDecided dir.now
-        (replies (done id tag 50 [] (need_text dir.now need.now)))) }
+        (replies (done id tag insufficient_access_rights [] (need_text dir.now need.now)))) }
 {
     let diagnostic = text(alloc, dir, need)?;
-    let bytes = done(alloc, id, tag, 50, Vec::new(alloc), diagnostic)?;
+    let bytes = done(
+        alloc,
+        id,
+        tag,
+        result_code::INSUFFICIENT_ACCESS_RIGHTS,
+        Vec::new(alloc),
+        diagnostic,
+    )?;
     Ok(replying(alloc, bytes))
 }
 
 // The change is made by these edits.
-fn made(alloc: Global, id: u32, tag: u8, edits: List<Edit>) -> Result<Decided, AllocError>
+fn success_of(alloc: Global, id: u32, tag: u8, edits: List<Edit>) -> Result<Decided, AllocError>
     ensures { IfOk result (λ decided. (dir after : Directory) → AreEditsTo dir edits after
         → IsDecided dir (by_effect id tag (changes_to after)) decided) }
 {
-    let bytes = done(alloc, id, tag, 0, Vec::new(alloc), Vec::new(alloc))?;
+    let bytes = done(
+        alloc,
+        id,
+        tag,
+        result_code::SUCCESS,
+        Vec::new(alloc),
+        Vec::new(alloc),
+    )?;
     Ok(Decided {
         reply: Bytes::from_vec(bytes),
         edits,
@@ -81,12 +103,12 @@ fn planned(
     stays_sound(dir, &message.op);
     match plan(alloc, dir, token, act)? {
         Plan::Refused(code) => refused(alloc, message.id, tag, code),
-        Plan::Edits(edits) => made(alloc, message.id, tag, edits),
+        Plan::Edits(edits) => success_of(alloc, message.id, tag, edits),
     }
 }
 
 // A change whose controls are as they should be.
-fn judged(
+fn decision_of(
     alloc: Global,
     dir: &Dir,
     token: &Token,
@@ -125,7 +147,7 @@ pub(crate) fn change(
         (settings_of (message_seen message.now)))) }
 {
     match settings(message) {
-        Ok(settings) => judged(alloc, dir, token, message, tag, &settings),
+        Ok(settings) => decision_of(alloc, dir, token, message, tag, &settings),
         Err(code) => refused(alloc, message.id, tag, code),
     }
 }

@@ -16,7 +16,7 @@ use site_io::Site;
 use std::alloc::Global;
 
 /// Makes a store of a directory in two empty slots, as `Engine::create` says.
-pub(crate) fn made<S: Site>(
+pub(crate) fn store_of<S: Site>(
     alloc: Global,
     site: &mut S,
     dir: &Dir,

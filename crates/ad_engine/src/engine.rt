@@ -13,7 +13,7 @@ ghost use Rattle.ad_engine.specs.Faults.{OnlyTaken};
 ghost use Rattle.ad_engine.specs.Settling.{LastsAs};
 
 use crate::Tokens;
-use crate::creating::made;
+use crate::creating::store_of;
 use crate::engine_fault::EngineFault;
 use crate::fault::OpenFault;
 use ad_dir::Dir;
@@ -81,7 +81,7 @@ impl Engine {
         ensures cause { IsErrOf result OpenFault.Site → HasRisen (S.slot_faults site.old)
             (S.slot_faults site.new) }
     {
-        match made(alloc, site, &dir) {
+        match store_of(alloc, site, &dir) {
             Ok((store, tokens)) => Ok(Engine {
                 alloc,
                 dir,

@@ -16,26 +16,11 @@ use crate::replies::{dropping, notice, refused, replying};
 use ad_dir::Dir;
 use ad_ids::Token;
 use ad_ldap::{
-    Compare, LdapFault, Message, Op, Search, read_message, settings, what_a_message_has,
+    Compare, LdapFault, Message, Op, Search, read_message, result_code, settings, tags,
+    what_a_message_has,
 };
 use ad_search::{answer, compare};
 use std::alloc::{AllocError, Global};
-
-const BIND_RESPONSE: u8 = 97;
-
-const SEARCH_DONE: u8 = 101;
-
-const MODIFY_RESPONSE: u8 = 103;
-
-const ADD_RESPONSE: u8 = 105;
-
-const DELETE_RESPONSE: u8 = 107;
-
-const RENAME_RESPONSE: u8 = 109;
-
-const COMPARE_RESPONSE: u8 = 111;
-
-const EXTENDED_RESPONSE: u8 = 120;
 
 fn search(
     alloc: Global,
@@ -54,7 +39,7 @@ fn search(
             let bytes = answer(alloc, dir, token, message.id, request, settings.sd_flags)?;
             Ok(replying(alloc, bytes))
         }
-        Err(code) => refused(alloc, message.id, SEARCH_DONE, code),
+        Err(code) => refused(alloc, message.id, tags::SEARCH_DONE, code),
     }
 }
 
@@ -75,7 +60,7 @@ fn comparison(
             let bytes = compare(alloc, dir, token, message.id, request)?;
             Ok(replying(alloc, bytes))
         }
-        Err(code) => refused(alloc, message.id, COMPARE_RESPONSE, code),
+        Err(code) => refused(alloc, message.id, tags::COMPARE_RESPONSE, code),
     }
 }
 
@@ -92,16 +77,26 @@ fn operation(
         (op_decided dir.now token.now (message_seen message.now) (op_seen message.now.op))) }
 {
     match &message.op {
-        Op::Bind => refused(alloc, message.id, BIND_RESPONSE, 7),
+        Op::Bind => refused(
+            alloc,
+            message.id,
+            tags::BIND_RESPONSE,
+            result_code::AUTH_METHOD_NOT_SUPPORTED,
+        ),
         Op::Unbind => Ok(dropping(alloc)),
         Op::Search(request) => search(alloc, dir, token, message, request),
         Op::Compare(request) => comparison(alloc, dir, token, message, request),
-        Op::Modify(_) => change(alloc, dir, token, message, MODIFY_RESPONSE),
-        Op::Add(_) => change(alloc, dir, token, message, ADD_RESPONSE),
-        Op::Delete(_) => change(alloc, dir, token, message, DELETE_RESPONSE),
-        Op::Rename(_) => change(alloc, dir, token, message, RENAME_RESPONSE),
+        Op::Modify(_) => change(alloc, dir, token, message, tags::MODIFY_RESPONSE),
+        Op::Add(_) => change(alloc, dir, token, message, tags::ADD_RESPONSE),
+        Op::Delete(_) => change(alloc, dir, token, message, tags::DELETE_RESPONSE),
+        Op::Rename(_) => change(alloc, dir, token, message, tags::RENAME_RESPONSE),
         Op::Abandon => Ok(replying(alloc, Vec::new(alloc))),
-        Op::Extended => refused(alloc, message.id, EXTENDED_RESPONSE, 2),
+        Op::Extended => refused(
+            alloc,
+            message.id,
+            tags::EXTENDED_RESPONSE,
+            result_code::PROTOCOL_ERROR,
+        ),
     }
 }
 

@@ -10,8 +10,8 @@ ghost use Rattle.ad_dir_model.specs.Soundness.{IsSound};
 ghost use Rattle.ad_prop.specs.Step.{MayTake, turn_edits};
 ghost use Rattle.ad_engine.specs.Stepping.{Makes, MakesSteps, MakesBeside};
 
-use ad_dir::{Dir, Edit};
-use ad_dir_write::{copied, live_object};
+use ad_dir::{Dir, Edit, live_object};
+use ad_dir_write::copied;
 use ad_prop::{Turn, turn_beside};
 use ad_rows::Batch;
 use ad_sd::NormalSd;

@@ -1,8 +1,7 @@
 -- The reader of frames is that of their encodings.
 use Rattle.std.proofs.Common.{◌≡◌, ℕ, ◌+◌, ◌<◌, ◌≤◌, true, cond, eqb, eq-eqb, leb, ltb, List, [], ◌++◌, length}
 use Rattle.std.proofs.Common.{Option, None, Some, Ok, refl, sym, ap, subst, ◌∙◌, append_assoc, length-append, inl}
-use Rattle.std.proofs.Common.{inr, arith}
-use Rattle.std.specs.Prelude.{◌&&◌}
+use Rattle.std.proofs.Common.{inr, ◌&&◌, arith}
 use Rattle.std.proofs.lemmas.Bool.{cases_Bool, eqb-true, leb-true, le-leb, ltb-true, lt-ltb}
 use Rattle.std.proofs.lemmas.List.{append-nil, nil_from_length}
 use Rattle.ad_bytes.specs.Reading.{IsBytes, ◌>>=◌, or_fault, fault_as, TakesFront, StartsWith, IsReaderOf}
@@ -21,6 +20,7 @@ use Rattle.ad_frames.specs.declared.frame.FrameBody.TheVariants as body
 use Rattle.ad_frames.specs.declared.reading.FrameKind.{FrameKind}
 use Rattle.ad_frames.specs.declared.reading.FrameKind.TheVariants as kind
 use Rattle.ad_frames.specs.declared.reading.Header.{Header}
+use Rattle.ad_frames.specs.Kinds.{token_byte, message_byte, steps_byte, run_byte}
 use Rattle.ad_frames.specs.Limits.{max_body, max_connections, max_steps}
 use Rattle.ad_frames.specs.Frame.{kind_byte, SpellsContent, SpellsFrame}
 use Rattle.ad_frames.specs.Reading.{kind_by_byte, ok_or, has_length, header_of, header_at, content_at, token_at}
@@ -29,10 +29,10 @@ use Rattle.ad_frames.specs.Reading.{message_at, steps_of, steps_at, body_by, fra
 -- ---- the header
 
 byte_of : FrameKind → ℕ
-byte_of kind.Token = 1
-byte_of kind.Message = 2
-byte_of kind.Steps = 3
-byte_of kind.Run = 4
+byte_of kind.Token = token_byte
+byte_of kind.Message = message_byte
+byte_of kind.Steps = steps_byte
+byte_of kind.Run = run_byte
 
 kind_of_body : FrameBody → FrameKind
 kind_of_body (body.Token t) = kind.Token
@@ -57,9 +57,8 @@ one_kind b n k found others is rest e =
 kind_byte_is : (b : ℕ) (k : FrameKind) → kind_by_byte b ≡ Some k → b ≡ byte_of k
 unfolding byte_of
 kind_byte_is b k e =
-    one_kind b 1 kind.Token k _ refl (one_kind b 2 kind.Message k _ refl
-    (one_kind b 3 kind.Steps k _ refl (one_kind b 4 kind.Run k None refl (λ (none : None ≡ Some k). absurd cc))))
-    e
+    one_kind b token_byte kind.Token k _ refl (one_kind b message_byte kind.Message k _ refl (one_kind b steps_byte
+    kind.Steps k _ refl (one_kind b run_byte kind.Run k None refl (λ (none : None ≡ Some k). absurd cc)))) e
 
 kind_byte_again : (k : FrameKind) → kind_by_byte (byte_of k) ≡ Some k
 unfolding byte_of

@@ -1,5 +1,6 @@
 pub mod Fault
 pub mod Limits
+pub mod Kinds
 pub mod Frame
 pub mod Reading
 pub mod Source

@@ -12,14 +12,15 @@ use Rattle.ad_frames.specs.declared.frame.FrameBody.TheVariants as body
 use Rattle.ad_frames.specs.declared.reading.FrameKind.{FrameKind}
 use Rattle.ad_frames.specs.declared.reading.FrameKind.TheVariants as kind
 use Rattle.ad_frames.specs.declared.reading.Header.{Header}
+use Rattle.ad_frames.specs.Kinds.{token_byte, message_byte, steps_byte, run_byte, bytes_of_steps}
 use Rattle.ad_frames.specs.Limits.{max_body, max_connections, max_steps}
 
 abbrev pub kind_by_byte : ℕ → Option FrameKind
 kind_by_byte b =
-    if nat_eq b 1 then Some kind.Token
-    else if nat_eq b 2 then Some kind.Message
-    else if nat_eq b 3 then Some kind.Steps
-    else if nat_eq b 4 then Some kind.Run
+    if nat_eq b token_byte then Some kind.Token
+    else if nat_eq b message_byte then Some kind.Message
+    else if nat_eq b steps_byte then Some kind.Steps
+    else if nat_eq b run_byte then Some kind.Run
     else None
 
 -- or this is the fault
@@ -31,7 +32,7 @@ ok_or d (Some x) = Ok x
 abbrev pub has_length : FrameKind → ℕ → Bool
 has_length kind.Token n = nat_le n max_body
 has_length kind.Message n = nat_le n max_body
-has_length kind.Steps n = nat_eq n 4
+has_length kind.Steps n = nat_eq n bytes_of_steps
 has_length kind.Run n = nat_eq n 0
 
 -- the header that seven bytes are
@@ -73,13 +74,13 @@ message_at len bytes = do
 
 unfoldable pub steps_of : List ℕ → Result FrameBody FrameFault
 steps_of bytes = do
-  n ← or_fault fault.Truncated (be_at 4 bytes)
+  n ← or_fault fault.Truncated (be_at bytes_of_steps bytes)
   _ ← need (nat_le 1 n.0 && nat_le n.0 max_steps) (fault.Steps n.0)
   Ok (body.Steps n.0)
 
 unfoldable pub steps_at : List ℕ → Reading FrameBody FrameFault
 steps_at bytes = do
-  content ← content_at 4 bytes
+  content ← content_at bytes_of_steps bytes
   steps ← steps_of content.0
   Ok (steps, content.1)
 

@@ -30,6 +30,7 @@
 mod fault;
 mod filling;
 mod frame;
+pub mod kind_byte;
 mod laws;
 mod reading;
 
@@ -39,4 +40,4 @@ pub use laws::{
     a_frame_needs_nothing_behind_it, no_frame_begins_another, the_frames_are_the_longest,
     the_frames_one_by_one,
 };
-pub use reading::next_frame;
+pub use reading::{MAX_STEPS, next_frame};

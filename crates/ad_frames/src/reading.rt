@@ -14,6 +14,7 @@ ghost use Rattle.ad_frames.specs.declared.fault.FrameFault.TheVariants.{Source a
 use crate::fault::FrameFault;
 use crate::filling::fill_within;
 use crate::frame::{Frame, FrameBody};
+use crate::kind_byte;
 use ad_bytes::{Bytes, Input};
 use ad_ids::Token;
 use site_io::Source;
@@ -23,9 +24,13 @@ const MAX_BODY: u32 = 1_048_576;
 
 const MAX_CONNECTIONS: u16 = 1024;
 
-const MAX_STEPS: u32 = 1_000_000;
+/// The most steps that a frame asks for.
+pub const MAX_STEPS: u32 = 1_000_000;
 
 const HEADER: usize = 7;
+
+// The bytes of a number of steps.
+const STEPS_BYTES: usize = 4;
 
 #[derive(Clone, Copy)]
 pub(crate) enum FrameKind {
@@ -46,13 +51,13 @@ pub(crate) struct Header {
 fn kind_of(byte: u8) -> Option<FrameKind>
     ensures { result ≡ kind_by_byte byte }
 {
-    if byte == 1 {
+    if byte == kind_byte::TOKEN {
         Some(FrameKind::Token)
-    } else if byte == 2 {
+    } else if byte == kind_byte::MESSAGE {
         Some(FrameKind::Message)
-    } else if byte == 3 {
+    } else if byte == kind_byte::STEPS {
         Some(FrameKind::Steps)
-    } else if byte == 4 {
+    } else if byte == kind_byte::RUN {
         Some(FrameKind::Run)
     } else {
         None
@@ -67,7 +72,7 @@ fn may_have(kind: FrameKind, len: u32) -> bool
     match kind {
         FrameKind::Token => len <= MAX_BODY,
         FrameKind::Message => len <= MAX_BODY,
-        FrameKind::Steps => len == 4,
+        FrameKind::Steps => len == STEPS_BYTES as u32,
         FrameKind::Run => len == 0,
     }
 }
@@ -141,9 +146,9 @@ fn next_steps<I: Source>(source: &mut I) -> Result<FrameBody, FrameFault>
         (I.faults source.new) }
     ensures memory { IsErrOf result MemoryFault → ⊥ }
 {
-    let mut bytes = [0u8; 4];
+    let mut bytes = [0u8; STEPS_BYTES];
     let n = fill_within(source, &mut bytes[..])?;
-    if n < 4 {
+    if n < STEPS_BYTES {
         return Err(FrameFault::Truncated);
     }
     steps(&bytes)

@@ -1,6 +1,7 @@
 -- The frames of the sample, all on connection 0.
 use Rattle.std.specs.Prelude.{ℕ, List, [], ◌∷◌, ◌++◌, length}
 use Rattle.ad_bytes.specs.Numbers.{be_bytes}
+use Rattle.ad_frames.specs.Kinds.{token_byte, message_byte, steps_byte, run_byte, bytes_of_steps}
 use Rattle.ad_ids.specs.SidValue.{SidValue}
 use Rattle.ad_ids.specs.Sid.{sid_bytes}
 use Rattle.ad_gen.specs.Messages.{modify_message, search_message}
@@ -35,19 +36,23 @@ user_token =
     identity 0 (in_domain 1002) (in_domain 513)
     ++ ((0 ∷ 2 ∷ []) ++ (sid_bytes (well_known 5 11) ++ sid_bytes (well_known 1 0)))
 
+-- the most steps that a frame asks for
+abbrev pub all_steps : List ℕ
+all_steps = be_bytes bytes_of_steps 1000000
+
 -- An administrator widens the domain's list, propagates it in up to 1,000,000 steps, has the protected objects
 -- protected, and propagates again.
 unfoldable pub changing : List ℕ
 changing =
-    frame 1 administrator
-    ++ (frame 2 modify_message
-    ++ (frame 3 (be_bytes 4 1000000)
-    ++ (frame 4 []
-    ++ frame 3 (be_bytes 4 1000000))))
+    frame token_byte administrator
+    ++ (frame message_byte modify_message
+    ++ (frame steps_byte all_steps
+    ++ (frame run_byte []
+    ++ frame steps_byte all_steps)))
 
 -- Then a user searches for users.
 unfoldable pub whole : List ℕ
-whole = changing ++ (frame 1 user_token ++ frame 2 search_message)
+whole = changing ++ (frame token_byte user_token ++ frame message_byte search_message)
 
 -- It is the same for each size.
 abbrev pub frames : ℕ → List ℕ

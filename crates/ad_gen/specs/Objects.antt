@@ -43,7 +43,14 @@ users i (suc j) = users i j ++ user i (suc j)
 unfoldable pub unit : ℕ → List ℕ
 unit i = codes "dn: OU=o" ++ (decimal (i + 1) ++ codes ",DC=sample\nobjectClass: organizationalUnit\n\n")
 
--- the first so many units, each before its ten users
+abbrev pub users_of_unit : ℕ
+users_of_unit = 10
+
+-- the most units of a sample
+abbrev pub max_units : ℕ
+max_units = 1000
+
+-- the first so many units, each before its users
 unfoldable pub units : ℕ → List ℕ
 units zero = []
-units (suc i) = units i ++ (unit i ++ users i 10)
+units (suc i) = units i ++ (unit i ++ users i users_of_unit)

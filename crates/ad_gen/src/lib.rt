@@ -31,4 +31,4 @@ mod stream;
 mod text;
 
 pub use stream::frames;
-pub use text::ldif;
+pub use text::{MAX_UNITS, ldif};

@@ -5,7 +5,7 @@ ghost use Rattle.std.specs.Prelude.{OnOk};
 ghost use Rattle.std.specs.String.{string_bytes};
 ghost use Rattle.base64.specs.Engines.{standard};
 ghost use Rattle.base64.specs.GeneralPurpose.{encode_of};
-ghost use Rattle.ad_gen.specs.Puts.{Puts};
+ghost use Rattle.ad_bytes.specs.Puts.{Puts};
 ghost use Rattle.ad_gen.specs.Lines.{line, encoded_line};
 
 use base64::engine::general_purpose::STANDARD;

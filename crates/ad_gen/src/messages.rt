@@ -8,33 +8,17 @@ ghost use Rattle.ad_gen.specs.Messages.{search_request, search_message};
 
 use crate::descriptor::descriptor_bytes;
 use ad_ber::{put, put_number};
+use ad_ldap::{DACL_PART, REPLACE_VALUES, WHOLE_SUBTREE, tags};
 use std::alloc::{AllocError, Global};
 
-const BOOLEAN: u8 = 1;
-
-const INTEGER: u8 = 2;
-
-const OCTETS: u8 = 4;
-
-const ENUMERATED: u8 = 10;
-
-const SEQUENCE: u8 = 0x30;
-
-const SET: u8 = 0x31;
-
-const MODIFY_REQUEST: u8 = 0x66;
-
-const SEARCH_REQUEST: u8 = 0x63;
-
-const CONTROLS: u8 = 0xa0;
-
-const EQUALITY_MATCH: u8 = 0xa3;
+// The byte of a boolean that is true.
+const TRUE: u8 = 255;
 
 // Puts an octet string at the end.
 fn put_octets(into: &mut Vec<u8>, bytes: &[u8]) -> Result<(), AllocError>
     ensures { OnOk result (into.new.items ≡ into.old.items ++ octets bytes.now) }
 {
-    put(into, OCTETS, bytes)?;
+    put(into, tags::OCTET_STRING, bytes)?;
     Ok(())
 }
 
@@ -55,11 +39,11 @@ fn attribute_of_change(alloc: Global) -> Result<Vec<u8>, AllocError>
         alloc,
         b"D:(A;CI;GA;;;BA)(A;CI;RPLCLORC;;;AU)(A;CI;RPWP;;;S-1-5-12)",
     )?;
-    let value = element(alloc, OCTETS, &sd)?;
+    let value = element(alloc, tags::OCTET_STRING, &sd)?;
     let mut body = Vec::new(alloc);
     put_octets(&mut body, b"nTSecurityDescriptor")?;
-    put(&mut body, SET, &value)?;
-    element(alloc, SEQUENCE, &body)
+    put(&mut body, tags::SET, &value)?;
+    element(alloc, tags::SEQUENCE, &body)
 }
 
 #[tactic(auto, unfolding(crate::specs::Messages::changes))]
@@ -68,10 +52,10 @@ fn changes(alloc: Global) -> Result<Vec<u8>, AllocError>
 {
     let attribute = attribute_of_change(alloc)?;
     let mut body = Vec::new(alloc);
-    put_number(&mut body, ENUMERATED, 2)?;
+    put_number(&mut body, tags::ENUMERATED, REPLACE_VALUES as u32)?;
     body.extend_from_slice(&attribute)?;
-    let change = element(alloc, SEQUENCE, &body)?;
-    element(alloc, SEQUENCE, &change)
+    let change = element(alloc, tags::SEQUENCE, &body)?;
+    element(alloc, tags::SEQUENCE, &change)
 }
 
 #[tactic(auto, unfolding(crate::specs::Messages::modify_request))]
@@ -82,7 +66,7 @@ fn modify_request(alloc: Global) -> Result<Vec<u8>, AllocError>
     let mut body = Vec::new(alloc);
     put_octets(&mut body, b"DC=sample")?;
     body.extend_from_slice(&changes)?;
-    element(alloc, MODIFY_REQUEST, &body)
+    element(alloc, tags::MODIFY_REQUEST, &body)
 }
 
 #[tactic(auto, unfolding(crate::specs::Messages::list_flag))]
@@ -90,8 +74,8 @@ fn list_flag(alloc: Global) -> Result<Vec<u8>, AllocError>
     ensures { IfOk result (λ bytes. bytes.items ≡ list_flag) }
 {
     let mut flag = Vec::new(alloc);
-    put_number(&mut flag, INTEGER, 4)?;
-    element(alloc, SEQUENCE, &flag)
+    put_number(&mut flag, tags::INTEGER, DACL_PART as u32)?;
+    element(alloc, tags::SEQUENCE, &flag)
 }
 
 #[tactic(auto, unfolding(crate::specs::Messages::critical_flag))]
@@ -100,7 +84,7 @@ fn critical_flag(alloc: Global) -> Result<Vec<u8>, AllocError>
 {
     let value = list_flag(alloc)?;
     let mut bytes = Vec::new(alloc);
-    put(&mut bytes, BOOLEAN, &[255])?;
+    put(&mut bytes, tags::BOOLEAN, &[TRUE])?;
     put_octets(&mut bytes, &value)?;
     Ok(bytes)
 }
@@ -113,7 +97,7 @@ fn list_alone(alloc: Global) -> Result<Vec<u8>, AllocError>
     let mut body = Vec::new(alloc);
     put_octets(&mut body, b"1.2.840.113556.1.4.801")?;
     body.extend_from_slice(&flag)?;
-    element(alloc, SEQUENCE, &body)
+    element(alloc, tags::SEQUENCE, &body)
 }
 
 /// Message 1: a change of the domain's DACL.
@@ -124,10 +108,10 @@ pub(crate) fn modify_message(alloc: Global) -> Result<Vec<u8>, AllocError>
     let request = modify_request(alloc)?;
     let control = list_alone(alloc)?;
     let mut body = Vec::new(alloc);
-    put_number(&mut body, INTEGER, 1)?;
+    put_number(&mut body, tags::INTEGER, 1)?;
     body.extend_from_slice(&request)?;
-    put(&mut body, CONTROLS, &control)?;
-    element(alloc, SEQUENCE, &body)
+    put(&mut body, tags::TAG_OF_CONTROLS, &control)?;
+    element(alloc, tags::SEQUENCE, &body)
 }
 
 #[tactic(auto, unfolding(crate::specs::Messages::filter))]
@@ -137,18 +121,18 @@ fn filter(alloc: Global) -> Result<Vec<u8>, AllocError>
     let mut body = Vec::new(alloc);
     put_octets(&mut body, b"objectClass")?;
     put_octets(&mut body, b"user")?;
-    element(alloc, EQUALITY_MATCH, &body)
+    element(alloc, tags::EQUALITY_MATCH, &body)
 }
 
 #[tactic(auto, unfolding(crate::specs::Messages::bounds))]
 fn put_bounds(into: &mut Vec<u8>) -> Result<(), AllocError>
     ensures { OnOk result (into.new.items ≡ into.old.items ++ bounds) }
 {
-    put_number(into, ENUMERATED, 2)?;
-    put_number(into, ENUMERATED, 0)?;
-    put_number(into, INTEGER, 0)?;
-    put_number(into, INTEGER, 0)?;
-    put(into, BOOLEAN, &[0])?;
+    put_number(into, tags::ENUMERATED, WHOLE_SUBTREE as u32)?;
+    put_number(into, tags::ENUMERATED, 0)?;
+    put_number(into, tags::INTEGER, 0)?;
+    put_number(into, tags::INTEGER, 0)?;
+    put(into, tags::BOOLEAN, &[0])?;
     Ok(())
 }
 
@@ -157,13 +141,13 @@ fn search_request(alloc: Global) -> Result<Vec<u8>, AllocError>
     ensures { IfOk result (λ bytes. bytes.items ≡ search_request) }
 {
     let filter = filter(alloc)?;
-    let asked = element(alloc, OCTETS, b"cn")?;
+    let asked = element(alloc, tags::OCTET_STRING, b"cn")?;
     let mut body = Vec::new(alloc);
     put_octets(&mut body, b"DC=sample")?;
     put_bounds(&mut body)?;
     body.extend_from_slice(&filter)?;
-    put(&mut body, SEQUENCE, &asked)?;
-    element(alloc, SEARCH_REQUEST, &body)
+    put(&mut body, tags::SEQUENCE, &asked)?;
+    element(alloc, tags::SEARCH_REQUEST, &body)
 }
 
 /// Message 2: a search for all users, of which their names are asked.
@@ -173,7 +157,7 @@ pub(crate) fn search_message(alloc: Global) -> Result<Vec<u8>, AllocError>
 {
     let request = search_request(alloc)?;
     let mut body = Vec::new(alloc);
-    put_number(&mut body, INTEGER, 2)?;
+    put_number(&mut body, tags::INTEGER, 2)?;
     body.extend_from_slice(&request)?;
-    element(alloc, SEQUENCE, &body)
+    element(alloc, tags::SEQUENCE, &body)
 }

@@ -4,8 +4,9 @@ ghost use Rattle.std.specs.Prelude.{◌≡◌, ◌≤◌, ◌<◌, OnOk, codes, 
 ghost use Rattle.std.specs.String.{string_bytes};
 ghost use Rattle.ad_gen.specs.Descriptor.{descriptor_bytes};
 ghost use Rattle.ad_gen.specs.Lines.{encoded_line};
-ghost use Rattle.ad_gen.specs.Puts.{Puts};
+ghost use Rattle.ad_bytes.specs.Puts.{Puts};
 ghost use Rattle.ad_gen.specs.Objects.{descriptor_line, domain, containers, administrators, unit, user, users, units};
+ghost use Rattle.ad_gen.specs.Objects.{users_of_unit, max_units};
 
 use crate::descriptor::descriptor_bytes;
 use crate::lines::{push_encoded, push_text};
@@ -82,7 +83,7 @@ pub(crate) fn push_administrators(out: &mut String) -> Result<(), AllocError>
 // Puts the user `j` of the unit `i + 1` at the end.
 #[tactic(auto, unfolding(crate::specs::Objects::user))]
 fn push_user(out: &mut String, i: u32, j: u32) -> Result<(), AllocError>
-    requires { (i < 1000) × (j ≤ 10) }
+    requires { (i < max_units) × (j ≤ users_of_unit) }
     ensures { OnOk result (Puts (string_bytes out.old) (string_bytes out.new) (user i j)) }
 {
     push_text(out, "dn: CN=u")?;
@@ -102,8 +103,8 @@ fn push_user(out: &mut String, i: u32, j: u32) -> Result<(), AllocError>
 
 // Puts the users of the unit `i + 1` at the end.
 fn push_users(out: &mut String, i: u32) -> Result<(), AllocError>
-    requires { i < 1000 }
-    ensures { OnOk result (Puts (string_bytes out.old) (string_bytes out.new) (users i 10)) }
+    requires { i < max_units }
+    ensures { OnOk result (Puts (string_bytes out.old) (string_bytes out.new) (users i users_of_unit)) }
 {
     for j in 0..USERS {
         push_user(out, i, j + 1)?;
@@ -114,7 +115,7 @@ fn push_users(out: &mut String, i: u32) -> Result<(), AllocError>
 // Puts the unit `i + 1` by itself at the end.
 #[tactic(auto, unfolding(crate::specs::Objects::unit))]
 fn push_unit(out: &mut String, i: u32) -> Result<(), AllocError>
-    requires { i < 1000 }
+    requires { i < max_units }
     ensures { OnOk result (Puts (string_bytes out.old) (string_bytes out.new) (unit i)) }
 {
     push_text(out, "dn: OU=o")?;
@@ -125,7 +126,7 @@ fn push_unit(out: &mut String, i: u32) -> Result<(), AllocError>
 
 /// Puts the first `n` units with their users at the end.
 pub(crate) fn push_units(out: &mut String, n: u32) -> Result<(), AllocError>
-    requires { n ≤ 1000 }
+    requires { n ≤ max_units }
     ensures { OnOk result (Puts (string_bytes out.old) (string_bytes out.new) (units n)) }
 {
     for i in 0..n {

@@ -3,7 +3,7 @@
 ghost use Rattle.std.specs.Prelude.{◌≡◌, ◌++◌, ◌∷◌, [], codes, OnOk};
 ghost use Rattle.std.specs.String.{string_bytes};
 ghost use Rattle.ad_gen.specs.Lines.{encoded_line};
-ghost use Rattle.ad_gen.specs.Puts.{Puts};
+ghost use Rattle.ad_bytes.specs.Puts.{Puts};
 ghost use Rattle.ad_gen.specs.Schema.{named, begun, attribute, class, right, own_guid};
 
 use crate::lines::{push_encoded, push_line, push_text};

@@ -2,7 +2,7 @@
 
 ghost use Rattle.std.specs.Prelude.{OnOk};
 ghost use Rattle.std.specs.String.{string_bytes};
-ghost use Rattle.ad_gen.specs.Puts.{Puts};
+ghost use Rattle.ad_bytes.specs.Puts.{Puts};
 ghost use Rattle.ad_gen.specs.Schema.{user_guid, computer_guid, naming_attributes, identity_attributes};
 ghost use Rattle.ad_gen.specs.Schema.{account_attributes};
 ghost use Rattle.ad_gen.specs.Schema.{personal_attributes, attributes, outer_classes, account_classes};

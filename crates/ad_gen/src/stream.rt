@@ -3,22 +3,16 @@
 ghost use Rattle.std.specs.Prelude.{◌≡◌, ◌<◌, ◌++◌, ◌∷◌, [], length, IfOk, OnOk};
 ghost use Rattle.ad_bytes.specs.Numbers.{be_bytes};
 ghost use Rattle.ad_ids.specs.Sid.{sid_bytes};
+ghost use Rattle.ad_frames.specs.Kinds.{token_byte, message_byte, steps_byte};
 ghost use Rattle.ad_gen.specs.Messages.{modify_message, search_message};
-ghost use Rattle.ad_gen.specs.Puts.{Puts};
+ghost use Rattle.ad_bytes.specs.Puts.{Puts};
 ghost use Rattle.ad_gen.specs.Frames.{frame, identity, builtin_administrators, in_domain, administrator, user_token};
-ghost use Rattle.ad_gen.specs.Frames.{changing, whole, frames};
+ghost use Rattle.ad_gen.specs.Frames.{all_steps, changing, whole, frames};
 
 use crate::messages::{modify_message, search_message};
-use ad_ids::Sid;
+use ad_frames::{MAX_STEPS, kind_byte};
+use ad_ids::{SECURITY, Sid};
 use std::alloc::{AllocError, Global};
-
-const TOKEN: u8 = 1;
-
-const MESSAGE: u8 = 2;
-
-const STEPS: u8 = 3;
-
-const RUN: u8 = 4;
 
 // Puts bytes at the end.
 fn put_bytes(into: &mut Vec<u8>, bytes: &[u8]) -> Result<(), AllocError>
@@ -101,17 +95,18 @@ fn put_identity(
     Ok(())
 }
 
-// The token of an administrator, put at the end.
+// The token of the administrators, who may read and write SACLs, put at the end.
 fn put_administrator(into: &mut Vec<u8>) -> Result<(), AllocError>
     ensures { OnOk result (Puts into.old.items into.new.items administrator) }
 {
     let sid = builtin_administrators();
-    put_identity(into, 1, &sid, &sid)?;
+    put_identity(into, SECURITY, &sid, &sid)?;
     put_bytes(into, &[0, 0])?;
     Ok(())
 }
 
-// The token of a user, put at the end.
+// The token of the second user of the first unit, in the domain's users, with two groups: authenticated users and
+// everyone, put at the end.
 fn put_user_token(into: &mut Vec<u8>) -> Result<(), AllocError>
     ensures { OnOk result (Puts into.old.items into.new.items user_token) }
 {
@@ -140,52 +135,52 @@ fn user_token(alloc: Global) -> Result<Vec<u8>, AllocError>
 
 // Puts the frame of a token at the end.
 fn put_administrator_frame(alloc: Global, into: &mut Vec<u8>) -> Result<(), AllocError>
-    ensures { OnOk result (Puts into.old.items into.new.items (frame 1 administrator)) }
+    ensures { OnOk result (Puts into.old.items into.new.items (frame token_byte administrator)) }
 {
     let token = administrator(alloc)?;
-    put_frame(into, TOKEN, &token)?;
+    put_frame(into, kind_byte::TOKEN, &token)?;
     Ok(())
 }
 
 fn put_user_frame(alloc: Global, into: &mut Vec<u8>) -> Result<(), AllocError>
-    ensures { OnOk result (Puts into.old.items into.new.items (frame 1 user_token)) }
+    ensures { OnOk result (Puts into.old.items into.new.items (frame token_byte user_token)) }
 {
     let token = user_token(alloc)?;
-    put_frame(into, TOKEN, &token)?;
+    put_frame(into, kind_byte::TOKEN, &token)?;
     Ok(())
 }
 
 // Puts the frame of a message at the end.
 fn put_modify_frame(alloc: Global, into: &mut Vec<u8>) -> Result<(), AllocError>
-    ensures { OnOk result (Puts into.old.items into.new.items (frame 2 modify_message)) }
+    ensures { OnOk result (Puts into.old.items into.new.items (frame message_byte modify_message)) }
 {
     let message = modify_message(alloc)?;
-    put_frame(into, MESSAGE, &message)?;
+    put_frame(into, kind_byte::MESSAGE, &message)?;
     Ok(())
 }
 
 fn put_search_frame(alloc: Global, into: &mut Vec<u8>) -> Result<(), AllocError>
-    ensures { OnOk result (Puts into.old.items into.new.items (frame 2 search_message)) }
+    ensures { OnOk result (Puts into.old.items into.new.items (frame message_byte search_message)) }
 {
     let message = search_message(alloc)?;
-    put_frame(into, MESSAGE, &message)?;
+    put_frame(into, kind_byte::MESSAGE, &message)?;
     Ok(())
 }
 
 fn steps(alloc: Global) -> Result<Vec<u8>, AllocError>
-    ensures { IfOk result (λ bytes. bytes.items ≡ be_bytes 4 1000000) }
+    ensures { IfOk result (λ bytes. bytes.items ≡ all_steps) }
 {
     let mut bytes = Vec::new(alloc);
-    put_number(&mut bytes, 1_000_000)?;
+    put_number(&mut bytes, MAX_STEPS as usize)?;
     Ok(bytes)
 }
 
 // Puts the frame of 1,000,000 steps at the end.
 fn put_steps_frame(alloc: Global, into: &mut Vec<u8>) -> Result<(), AllocError>
-    ensures { OnOk result (Puts into.old.items into.new.items (frame 3 (be_bytes 4 1000000))) }
+    ensures { OnOk result (Puts into.old.items into.new.items (frame steps_byte all_steps)) }
 {
     let steps = steps(alloc)?;
-    put_frame(into, STEPS, &steps)?;
+    put_frame(into, kind_byte::STEPS, &steps)?;
     Ok(())
 }
 
@@ -196,7 +191,7 @@ fn put_changing(alloc: Global, into: &mut Vec<u8>) -> Result<(), AllocError>
     put_administrator_frame(alloc, into)?;
     put_modify_frame(alloc, into)?;
     put_steps_frame(alloc, into)?;
-    put_frame(into, RUN, &[])?;
+    put_frame(into, kind_byte::RUN, &[])?;
     put_steps_frame(alloc, into)?;
     Ok(())
 }

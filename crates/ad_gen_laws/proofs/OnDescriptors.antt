@@ -3,7 +3,8 @@ use Rattle.std.specs.Prelude.{⊤}
 use Rattle.ad_sddl.specs.Reading.{read_of, rest_at, part_at, once_at, list_at, list_flags_at, list_flag_at}
 use Rattle.ad_sddl.specs.Reading.{entries_at, entry_at, type_at, end_at}
 use Rattle.ad_sddl.specs.Reading.{codes_at, code_at, guid_at, alias_at, sid_at, hex_at}
-use Rattle.ad_sddl.specs.Words.{begins, flag_codes, right_codes, alias_codes}
+use Rattle.ad_sddl.specs.Words.{begins, alias_codes}
+use Rattle.ad_acl.specs.Codes.{flag_codes, right_codes}
 use Rattle.ad_ids.specs.SidFront.{longest}
 use Rattle.ad_ids.specs.SidOfText.{sid_of_text, number_of}
 use Rattle.ad_bytes.specs.Numbers.{byte_at, le_bytes, be_bytes}

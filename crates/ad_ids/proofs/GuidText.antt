@@ -13,11 +13,11 @@ use Rattle.ad_ids.specs.GuidText.{guid_text, guid_of_text, SpellsGuidText}
 abbrev guid : List ℕ → Guid
 guid bytes = record { bytes = bytes }
 
-some_one : {X : Type 0} (a b : X) → Some a ≡ Some b → a ≡ b
+pub some_one : {X : Type 0} (a b : X) → Some a ≡ Some b → a ≡ b
 some_one a b e = ap (λ (o : Option _). unwrap_or o a) e
 
 -- what stands after a test that passed
-tested : {X : Type 0} (b : Bool) (o : Option X) (x : X) → Some x ≡ (if b then o else None) → Some x ≡ o
+pub tested : {X : Type 0} (b : Bool) (o : Option X) (x : X) → Some x ≡ (if b then o else None) → Some x ≡ o
 tested true o x e = e
 tested false o x e = absurd cc
 
@@ -26,7 +26,7 @@ pub parsed_at_36 : (s : List ℕ) → length s ≡ 36 → parsed s ≡ parsed_hy
 parsed_at_36 s len = rw len refl
 
 -- what is read has 16 bytes
-sixteen_read : (s xs : List ℕ) → Some xs ≡ parsed_hyphenated s → length xs ≡ 16
+pub sixteen_read : (s xs : List ℕ) → Some xs ≡ parsed_hyphenated s → length xs ≡ 16
 sixteen_read s xs e =
     let inner = tested _ _ xs (tested _ _ xs e) in
     ap length (some_one xs _ inner) ∙ by_index_length 16 _

@@ -1,5 +1,5 @@
 -- The text of a GUID.
-use Rattle.std.specs.Prelude.{◌≡◌, ℕ, ◌==◌, List, length, Option, Some, None, option_map, if◌then◌else◌}
+use Rattle.std.specs.Prelude.{◌≡◌, ℕ, ◌==◌, List, length, codes, Option, Some, None, option_map, if◌then◌else◌}
 use Rattle.uuid.specs.Text.{lower, hyphenated_text, parsed_hyphenated}
 use Rattle.uuid.specs.Parts.{swap_fields}
 use Rattle.ad_ids.specs.declared.guid.Guid.{Guid}
@@ -20,3 +20,8 @@ guid_of_text text = option_map (λ bytes. record { bytes = swap_fields bytes }) 
 -- a text of 36 characters in that form, with digits in either case
 abbrev pub SpellsGuidText : Guid → List ℕ → Type 0
 SpellsGuidText g text = (length g.bytes ≡ 16) × (parsed_hyphenated text ≡ Some (swap_fields g.bytes))
+
+-- that of a GUID, or a hyphen where there is none
+abbrev pub guid_or_hyphen : Option Guid → List ℕ
+guid_or_hyphen None = codes "-"
+guid_or_hyphen (Some guid) = guid_text guid

@@ -9,6 +9,7 @@ pub mod SidChild
 pub mod SidGrammar
 pub mod SidOfText
 pub mod SidFront
+pub mod WellKnown
 pub mod Token
 pub mod TokenReading
 -- only for private contracts, invariants and proofs

@@ -1,16 +1,20 @@
 -- The bytes of an access token.
-use Rattle.std.specs.Prelude.{◌≡◌, ◌⊎◌, ℕ, ◌<◌, ◌≤◌, Bool, ◌||◌, IsTrue, List, [], ◌∷◌, length}
+use Rattle.std.specs.Prelude.{◌≡◌, ◌⊎◌, ℕ, ◌<◌, ◌≤◌, Bool, IsTrue, List, [], ◌∷◌, length}
 use Rattle.ad_bytes.specs.Reading.{StartsWith, SpellsEach}
 use Rattle.ad_bytes.specs.Numbers.{SpellsByte, SpellsBe}
 use Rattle.ad_ids.specs.declared.token.Token.{Token}
 use Rattle.ad_ids.specs.declared.mark.Mark.{Mark}
 use Rattle.ad_ids.specs.declared.mark.Mark.TheVariants.{Enabled, DenyOnly}
-use Rattle.ad_ids.specs.SidValue.{SidValue, same_sid, contains_sid}
+use Rattle.ad_ids.specs.SidValue.{SidValue, contains_sid}
 use Rattle.ad_ids.specs.Sid.{SpellsSid}
+
+-- the identifier is the user or an enabled group
+abbrev pub holds : Token → SidValue → Bool
+holds t sid = contains_sid (t.user ∷ t.groups) sid
 
 -- the owner is the user or an enabled group
 abbrev pub has_own_owner : Token → Bool
-has_own_owner t = same_sid t.owner t.user || contains_sid t.groups t.owner
+has_own_owner t = holds t t.owner
 
 -- ---- groups with their marks
 

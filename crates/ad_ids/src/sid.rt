@@ -124,6 +124,31 @@ impl Hash for Sid {
 impl Sid {
     ghost use Rattle.std.specs.Prelude.{[], ◌∷◌, ◌^◌, ◌<◌};
     ghost use Rattle.ad_ids.specs.SidValue.{same_sid};
+    ghost use Rattle.ad_ids.specs.WellKnown.{builtin, administrators, users};
+
+    /// The identifier S-1-5-32 with this number, as those of the groups that each domain has are.
+    pub fn builtin(number: u32) -> Sid
+        ensures { result ≡ builtin number }
+    {
+        match Sid::well_known(5, 32).child(number) {
+            Some(sid) => sid,
+            None => unreachable!(),
+        }
+    }
+
+    /// The group of administrators, S-1-5-32-544.
+    pub fn administrators() -> Sid
+        ensures { result ≡ administrators }
+    {
+        Sid::builtin(544)
+    }
+
+    /// The group of users, S-1-5-32-545.
+    pub fn users() -> Sid
+        ensures { result ≡ users }
+    {
+        Sid::builtin(545)
+    }
 
     /// The identifier with the one sub-authority below the authority, as those of well-known principals
     /// are. The authority is below 2^48.

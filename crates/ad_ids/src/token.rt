@@ -1,5 +1,8 @@
 //! The access token of a caller as a value, and the bits of its privileges.
 
+ghost use Rattle.std.specs.Prelude.{◌≡◌};
+ghost use Rattle.ad_ids.specs.Token.{holds};
+
 use crate::sid::Sid;
 use crate::sids::Sids;
 
@@ -30,4 +33,13 @@ pub struct Token {
     pub deny_only: Sids,
     /// The restricting identifiers. Where there are any, a right has to be granted to them too.
     pub restricting: Sids,
+}
+
+impl Token {
+    /// Whether the identifier is the user or an enabled group: those that the token holds.
+    pub fn holds(&self, sid: &Sid) -> bool
+        ensures { result ≡ holds self.now sid.now }
+    {
+        self.user == *sid || self.groups.contains(sid)
+    }
 }

@@ -193,7 +193,7 @@ impl Token {
     fn has_own_owner(&self) -> bool
         ensures { result ≡ has_own_owner self.now }
     {
-        self.owner == self.user || self.groups.contains(&self.owner)
+        self.holds(&self.owner)
     }
 
     /// Reads the token that all of the bytes encode.

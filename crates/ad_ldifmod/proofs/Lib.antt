@@ -1,7 +1,5 @@
 pub mod Dividing
 pub mod Descriptors
-pub mod Named
-pub mod Own
 pub mod Stepping
 pub mod OneByOne
 pub mod Framing

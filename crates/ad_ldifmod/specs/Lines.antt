@@ -7,6 +7,19 @@ use Rattle.ad_ldifmod.specs.declared.lines.Verb.TheVariants.{Grant, Deny, Revoke
 
 -- ---- lines
 
+abbrev pub line_feed : ℕ
+line_feed = 10
+
+abbrev pub hash : ℕ
+hash = 35
+
+abbrev pub blank : ℕ
+blank = 32
+
+-- the most bytes of a text, and so the most lines
+abbrev pub most_bytes : ℕ
+most_bytes = 1048576
+
 -- a byte before the first line
 abbrev pub in_front : ℕ → List (List ℕ) → List (List ℕ)
 in_front b [] = (b ∷ []) ∷ []
@@ -15,12 +28,12 @@ in_front b (line ∷ lines) = (b ∷ line) ∷ lines
 -- The lines of a text, each without the line feed that ends it. The last one may have none.
 unfoldable pub lines_of : List ℕ → List (List ℕ)
 lines_of [] = []
-lines_of (b ∷ text) = if b == 10 then [] ∷ lines_of text else in_front b (lines_of text)
+lines_of (b ∷ text) = if b == line_feed then [] ∷ lines_of text else in_front b (lines_of text)
 
 -- an empty line, and one that begins with #, say nothing
 abbrev pub says_nothing : List ℕ → Bool
 says_nothing [] = true
-says_nothing (b ∷ line) = b == 35
+says_nothing (b ∷ line) = b == hash
 
 -- ---- the parts of a line
 
@@ -52,7 +65,7 @@ with_word word rest = option_map (with_verb rest) (verb_of word)
 
 -- The three, with one blank between them. None where the line has another form.
 abbrev pub parts_behind : List ℕ × List ℕ → Option Parts
-parts_behind first = option_and_then (with_word first.0) (divided 32 first.1)
+parts_behind first = option_and_then (with_word first.0) (divided blank first.1)
 
 unfoldable pub parts_of : List ℕ → Option Parts
-parts_of line = option_and_then parts_behind (divided 32 line)
+parts_of line = option_and_then parts_behind (divided blank line)

@@ -1,5 +1,5 @@
 -- The message that a line gives: a modification of its object, of the descriptor's list alone.
-use Rattle.std.specs.Prelude.{ℕ, nat_le, true, Option, List, [], ◌∷◌, length, codes, Result, Ok}
+use Rattle.std.specs.Prelude.{ℕ, ◌^◌, nat_le, true, Option, List, [], ◌∷◌, length, codes, Result, Ok}
 use Rattle.ad_bytes.specs.Reading.{◌>>=◌, need, or_fault}
 use Rattle.ad_sd.specs.declared.parts.AceList.{AceList}
 use Rattle.ad_sd.specs.declared.parts.SdParts.{SdParts}
@@ -10,6 +10,8 @@ use Rattle.ad_ldap.specs.declared.requests.Message.{Message}
 use Rattle.ad_ldap.specs.declared.requests.Op.TheVariants.{Modify}
 use Rattle.ad_ldap.specs.MessageValue.{message_seen}
 use Rattle.ad_ldap.specs.Settings.{sd_flags}
+use Rattle.ad_ldap.specs.Tags.{sequence, integer}
+use Rattle.ad_ldap.specs.Choices.{replace_values, dacl_part}
 use Rattle.ad_ldifmod_message.specs.Written.{message_bytes}
 use Rattle.ad_ldifmod.specs.declared.fault.GrantKind.TheVariants as kind
 use Rattle.ad_ldifmod.specs.declared.fault.Stop.{Stop}
@@ -23,13 +25,16 @@ max_message = 1048576
 abbrev pub list_alone : AceList → SdParts
 list_alone list = record { owner = Option.None; group = Option.None; dacl = Option.Some list; sacl = Option.None }
 
--- the descriptor's list alone is meant: a sequence of the integer 4
+-- the descriptor's list alone is meant: a sequence of three bytes, which are an integer of one byte
+abbrev pub list_flag : List ℕ
+list_flag = sequence ∷ 3 ∷ integer ∷ 1 ∷ 2 ^ dacl_part ∷ []
+
 abbrev pub flags_control : Control
-flags_control = record { oid = sd_flags; critical = true; value = Option.Some (0x30 ∷ 0x03 ∷ 0x02 ∷ 0x01 ∷ 0x04 ∷ []) }
+flags_control = record { oid = sd_flags; critical = true; value = Option.Some list_flag }
 
 -- the descriptor is replaced by these bytes
 abbrev pub sd_item : List ℕ → Item
-sd_item sd = record { op = 2; attr = codes "nTSecurityDescriptor"; values = sd ∷ [] }
+sd_item sd = record { op = replace_values; attr = codes "nTSecurityDescriptor"; values = sd ∷ [] }
 
 abbrev pub modify : ℕ → List ℕ → List ℕ → Message
 modify id name sd = record {

@@ -5,32 +5,20 @@ ghost use Rattle.std.specs.Prelude.{◌≡◌, ◌≢◌, ◌++◌, [], ◌∷�
 ghost use Rattle.std.specs.List.{filter};
 ghost use Rattle.std.specs.HashMap.{get};
 ghost use Rattle.ad_ids.specs.SidValue.{same_sid};
-ghost use Rattle.ad_sd.specs.Seen.{seen};
-ghost use Rattle.ad_dir_model.specs.Objects.{is_live, sd_at};
+ghost use Rattle.ad_dir_model.specs.Objects.{is_live};
 ghost use Rattle.ad_ldifmod.specs.Lists.{stored_list, changed, changed_list};
 ghost use Rattle.ad_ldifmod.specs.Steps.{lists_in};
 
 use crate::change::Change;
 use ad_acl::{Ace, Aces};
-use ad_dir::Dir;
+use ad_dir::{Dir, live_sd};
 use ad_ids::Sid;
-use ad_sd::{AceList, Sd, SdView};
+use ad_sd::{AceList, Sd};
 use std::alloc::{AllocError, Global};
 use std::collections::HashMap;
 
 /// The lists that lines have changed so far.
 pub(crate) type Kept = HashMap<u32, AceList>;
-
-// The descriptor of a live object.
-fn view_of(dir: &Dir, number: u32) -> SdView<'_>
-    requires { is_live dir.now.objects number ≡ true }
-    ensures { seen result ≡ sd_at dir.entry.now.objects number }
-{
-    match dir.sd(number) {
-        Some(view) => view,
-        None => unreachable!(),
-    }
-}
 
 // The list of a live object as it is stored, without inherited entries.
 fn stored_list(alloc: Global, dir: &Dir, number: u32) -> Result<AceList, AllocError>
@@ -42,7 +30,7 @@ fn stored_list(alloc: Global, dir: &Dir, number: u32) -> Result<AceList, AllocEr
         group: _,
         dacl,
         sacl: _,
-    } = ad_inherit::explicit(alloc, view_of(dir, number))?;
+    } = ad_inherit::explicit(alloc, live_sd(dir, number))?;
     Ok(dacl)
 }
 
@@ -96,7 +84,7 @@ fn changed_list(list: AceList, change: &Change) -> Result<AceList, AllocError>
 }
 
 // Takes the list of a live object from those that are kept, or as it is stored.
-fn taken(alloc: Global, kept: &mut Kept, dir: &Dir, number: u32) -> Result<AceList, AllocError>
+fn list_taken(alloc: Global, kept: &mut Kept, dir: &Dir, number: u32) -> Result<AceList, AllocError>
     requires { is_live dir.now.objects number ≡ true }
     ensures list { IfOk result (λ list. list ≡ lists_in dir.now kept.old number) }
     ensures others { OnOk result ((n : ℕ) → n ≢ number → lists_in dir.now kept.new n
@@ -131,7 +119,7 @@ pub(crate) fn change_list(
     ensures others { OnOk result ((n : ℕ) → n ≢ number → lists_in dir.now kept.new n
         ≡ lists_in dir.now kept.old n) }
 {
-    let list = taken(alloc, kept, dir, number)?;
+    let list = list_taken(alloc, kept, dir, number)?;
     let list = changed_list(list, change)?;
     keep(kept, number, list)
 }

@@ -13,7 +13,7 @@ ghost use Rattle.ad_ldifmod.specs.Steps.{is_memory_stop, of_list};
 use crate::fault::{GrantKind, Stop};
 use ad_acl::{AclWriteFault, write_acl};
 use ad_bytes::{Bytes, List};
-use ad_ldap::{Control, Controls, Item, Message, Modify, Op};
+use ad_ldap::{Control, Controls, DACL_PART, Item, Message, Modify, Op, REPLACE_VALUES, tags};
 use ad_ldifmod_message::write_message;
 use ad_sd::AceList;
 use std::alloc::{AllocError, Global};
@@ -24,8 +24,8 @@ const MAX_MESSAGE: usize = 1_048_576;
 /// The control that says which parts of a descriptor are meant.
 const SD_FLAGS: &[u8] = b"1.2.840.113556.1.4.801";
 
-/// Its value: that the DACL alone is.
-const LIST_ALONE: &[u8] = &[0x30, 0x03, 0x02, 0x01, 0x04];
+/// Its value, that the DACL alone is: a sequence of three bytes, which are an integer of one byte.
+const LIST_ALONE: &[u8] = &[tags::SEQUENCE, 3, tags::INTEGER, 1, DACL_PART];
 
 // What stands before the list in a descriptor that has nothing else: revision 1, its control bits, and that the
 // list stands right after these 20 bytes.
@@ -85,7 +85,7 @@ fn sd_item(alloc: Global, sd: Bytes) -> Result<Item, AllocError>
     let mut values = List::new(alloc);
     values.push(sd)?;
     Ok(Item {
-        op: 2,
+        op: REPLACE_VALUES,
         attr: Bytes::from_slice(alloc, b"nTSecurityDescriptor")?,
         values,
     })

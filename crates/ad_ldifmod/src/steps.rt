@@ -61,7 +61,6 @@ fn number_named(alloc: Global, dir: &Dir, text: &[u8]) -> Result<Option<u32>, Al
     ensures named { IfOk result (λ number. number ≡ number_named dir.now text.now) }
     ensures live { IfOk result (λ number. IfSome number (λ n. is_live dir.now.objects n ≡ true)) }
 {
-    dir.stands();
     match ad_dn::read(alloc, text) {
         Ok(dn) => dir.find(alloc, &dn),
         Err(DnFault::Bad { place: _ }) => Ok(None),

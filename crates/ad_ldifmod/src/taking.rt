@@ -3,7 +3,7 @@
 ghost use Rattle.std.specs.Prelude.{◌≡◌, ◌≤◌, ◌<◌, ◌+◌, ◌++◌, [], ◌∷◌, ℕ, false, Ok, Err, List, length, vec_len};
 ghost use Rattle.std.specs.Prelude.{IfOk, IfErr, OnOk, OnErr};
 ghost use Rattle.ad_bytes.specs.Reading.{GivesUnless};
-ghost use Rattle.ad_ldifmod.specs.Lines.{lines_of};
+ghost use Rattle.ad_ldifmod.specs.Lines.{lines_of, most_bytes};
 ghost use Rattle.ad_ldifmod.specs.Grants.{is_memory, messages_of, AreFrames};
 ghost use Rattle.ad_ldifmod.specs.Steps.{IsTaken, IsFaulty, from_here};
 
@@ -32,7 +32,7 @@ fn take_line(
     n: u32,
     line: &[u8],
 ) -> Result<(), GrantFault>
-    requires few { vec_len messages.old < 1048576 }
+    requires few { vec_len messages.old < most_bytes }
     ensures taken { OnOk result (IsTaken dir.now kept.old kept.new messages.old.items
         messages.new.items n line.now) }
     ensures faulty { IfErr result (IsFaulty dir.now kept.old messages.old.items n line.now) }
@@ -56,7 +56,7 @@ fn take_lines(
     dir: &Dir,
     text: &[u8],
 ) -> Result<(), GrantFault>
-    requires few { length text.now ≤ 1048576 }
+    requires few { length text.now ≤ most_bytes }
     requires none { messages.old.items ≡ [] }
     ensures taken { OnOk result (from_here dir.now kept.old [] 1 (lines_of text.now)
         ≡ Ok messages.new.items) }
@@ -89,7 +89,7 @@ fn take_lines(
 /// `TooLong` where the new list takes more than 65,535 bytes, or the message more than 1,048,576. `Memory` may come
 /// instead of any answer.
 pub fn grants(alloc: Global, dir: &Dir, text: &[u8]) -> Result<Vec<Message>, GrantFault>
-    requires { length text.now ≤ 1048576 }
+    requires { length text.now ≤ most_bytes }
     // What the lines give, and which fault it is.
     ensures given { GivesUnless is_memory (λ messages. messages.items) result
         (messages_of dir.now text.now) }

@@ -21,7 +21,7 @@ use Rattle.ad_dir_model.specs.Directory.{Directory}
 use Rattle.ad_dir_model.specs.Identity.{domain_sid}
 use Rattle.ad_dir_model.specs.Inheritance.{written}
 use Rattle.ad_needs_rules.specs.Requests.{parts_in}
-use Rattle.ad_needs_rules.proofs.Named.{found_live}
+use Rattle.ad_dir_model.proofs.Named.{found_live}
 use Rattle.ad_engine.specs.Answer.{answer}
 use Rattle.ad_engine.specs.Runs.{after_from}
 use Rattle.ad_ldifmod.specs.Lines.{says_nothing}

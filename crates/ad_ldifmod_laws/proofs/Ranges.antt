@@ -24,7 +24,8 @@ use Rattle.ad_ids.specs.SidValue.{SidValue}
 use Rattle.ad_acl.specs.Entry.{Entry}
 use Rattle.ad_acl.specs.Writing.{IsEntry, IsGuidIf}
 use Rattle.ad_sd.specs.declared.parts.SdParts.{SdParts}
-use Rattle.ad_sddl.specs.Words.{flag_codes, right_codes, find_alias, alias_codes, are_letters, meant_by, sid}
+use Rattle.ad_sddl.specs.Words.{find_alias, alias_codes, are_letters, meant_by, sid}
+use Rattle.ad_acl.specs.Codes.{flag_codes, right_codes}
 use Rattle.ad_sddl.specs.Grammar.{IsIn, with_codes, SpellsCodes, digits_value, SpellsRights, SpellsSid, SpellsGuidIf}
 use Rattle.ad_sddl.specs.Grammar.{SpellsEntry, Piece, owner, group, dacl, sacl, SpellsPiece, with_piece, with_pieces}
 use Rattle.ad_sddl.specs.Grammar.{no_parts}

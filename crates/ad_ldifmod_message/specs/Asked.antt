@@ -9,6 +9,10 @@ use Rattle.ad_ldap.specs.declared.controls.Control.{Control}
 use Rattle.ad_ldap.specs.declared.items.Item.{Item}
 use Rattle.ad_ldap.specs.MessageValue.{OpValue, ModifyOf, AddOf, DeleteOf, RenameOf, MessageValue}
 
+-- the number of a message is less (RFC 4511 4.1.1: maxInt)
+abbrev pub ids_end : ℕ
+ids_end = 2147483648
+
 -- an attribute of a new object: its name, and its values
 abbrev pub Attribute : Type 0
 Attribute = List ℕ × List (List ℕ)

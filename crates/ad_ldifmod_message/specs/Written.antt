@@ -6,13 +6,21 @@ use Rattle.ad_ber.specs.Writing.{element_bytes, number_element}
 use Rattle.ad_ldap.specs.declared.controls.Control.{Control}
 use Rattle.ad_ldap.specs.declared.items.Item.{Item}
 use Rattle.ad_ldap.specs.declared.requests.Rename.{Rename}
+use Rattle.ad_ldap.specs.Tags.{boolean, integer, octet_string, enumerated, sequence, tag_of_controls, new_superior}
+use Rattle.ad_ldap.specs.Tags.{modify_request, add_request, delete_request, rename_request}
 use Rattle.ad_ldap.specs.Reply.{attr_bytes, entry_body}
 use Rattle.ad_ldap.specs.MessageValue.{OpValue, ModifyOf, AddOf, DeleteOf, RenameOf, MessageValue}
 use Rattle.ad_ldap.specs.Ranges.{HasRanges}
 
--- a truth value: 255 is true
+-- the one byte of a truth value (RFC 4511 5.1)
+abbrev pub true_byte : ℕ
+true_byte = 255
+
+abbrev pub false_byte : ℕ
+false_byte = 0
+
 abbrev pub truth_bytes : Bool → List ℕ
-truth_bytes truth = element_bytes 1 ((if truth then 255 else 0) ∷ [])
+truth_bytes truth = element_bytes boolean ((if truth then true_byte else false_byte) ∷ [])
 
 -- an octet string with this tag, or none
 abbrev pub option_bytes : ℕ → Option (List ℕ) → List ℕ
@@ -23,21 +31,21 @@ option_bytes tag (Some octets) = element_bytes tag octets
 
 -- an item: how, and an attribute with values
 unfoldable pub item_bytes : Item → List ℕ
-item_bytes i = element_bytes 48 (number_element 10 i.op ++ attr_bytes (i.attr, i.values))
+item_bytes i = element_bytes sequence (number_element enumerated i.op ++ attr_bytes (i.attr, i.values))
 
 abbrev pub modify_body : List ℕ → List Item → List ℕ
-modify_body dn items = element_bytes 4 dn ++ element_bytes 48 (flat_map item_bytes items)
+modify_body dn items = element_bytes octet_string dn ++ element_bytes sequence (flat_map item_bytes items)
 
 abbrev pub rename_body : Rename → List ℕ
-rename_body r = element_bytes 4 r.dn ++ (element_bytes 4 r.rdn
-    ++ (truth_bytes (not r.keep) ++ option_bytes 128 r.superior))
+rename_body r = element_bytes octet_string r.dn ++ (element_bytes octet_string r.rdn
+    ++ (truth_bytes (not r.keep) ++ option_bytes new_superior r.superior))
 
 -- A new object is spelled as an entry is. Other requests aren't written.
 unfoldable pub op_bytes : OpValue → List ℕ
-op_bytes (ModifyOf m) = element_bytes 102 (modify_body m.dn m.items)
-op_bytes (AddOf a) = element_bytes 104 (entry_body a.dn a.attrs)
-op_bytes (DeleteOf dn) = element_bytes 74 dn
-op_bytes (RenameOf r) = element_bytes 108 (rename_body r)
+op_bytes (ModifyOf m) = element_bytes modify_request (modify_body m.dn m.items)
+op_bytes (AddOf a) = element_bytes add_request (entry_body a.dn a.attrs)
+op_bytes (DeleteOf dn) = element_bytes delete_request dn
+op_bytes (RenameOf r) = element_bytes rename_request (rename_body r)
 op_bytes _ = []
 
 -- it is one of those that change something
@@ -52,16 +60,16 @@ IsChange _ = ⊥
 
 -- A control: its identifier, whether it is critical, which is left out where it isn't, and its value, if it has one.
 unfoldable pub control_bytes : Control → List ℕ
-control_bytes c = element_bytes 48 (element_bytes 4 c.oid
-    ++ ((if c.critical then truth_bytes c.critical else []) ++ option_bytes 4 c.value))
+control_bytes c = element_bytes sequence (element_bytes octet_string c.oid
+    ++ ((if c.critical then truth_bytes c.critical else []) ++ option_bytes octet_string c.value))
 
 -- the controls, which are left out where there is none
 unfoldable pub controls_bytes : List Control → List ℕ
 controls_bytes [] = []
-controls_bytes (c ∷ cs) = element_bytes 160 (flat_map control_bytes (c ∷ cs))
+controls_bytes (c ∷ cs) = element_bytes tag_of_controls (flat_map control_bytes (c ∷ cs))
 
 unfoldable pub message_bytes : MessageValue → List ℕ
-message_bytes m = element_bytes 48 (number_element 2 m.id ++ (op_bytes m.op ++ controls_bytes m.controls))
+message_bytes m = element_bytes sequence (number_element integer m.id ++ (op_bytes m.op ++ controls_bytes m.controls))
 
 -- a change's message, whose number, items and values are such as a message has
 pub record IsWritable (m : MessageValue) : Type 0 where

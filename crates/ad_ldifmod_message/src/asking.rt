@@ -3,7 +3,7 @@
 ghost use Rattle.std.specs.Prelude.{◌≡◌, ◌<◌, not, map, IfOk};
 ghost use Rattle.ad_ldif.specs.Change.{op_seen, change_seen};
 ghost use Rattle.ad_ldap.specs.MessageValue.{op_seen as request_seen, message_seen};
-ghost use Rattle.ad_ldifmod_message.specs.Asked.{item_asked, control_asked, op_asked, message_asked};
+ghost use Rattle.ad_ldifmod_message.specs.Asked.{item_asked, control_asked, op_asked, message_asked, ids_end};
 
 use crate::grouping::grouped;
 use ad_bytes::{Bytes, List};
@@ -122,7 +122,7 @@ fn op(alloc: Global, dn: &Bytes, kind: &LdifOp) -> Result<Op, AllocError>
 #[tactic(auto, unfolding(crate::specs::Asked::message_asked))]
 pub fn message(alloc: Global, change: &LdifChange, id: u32) -> Result<Message, AllocError>
     requires some { 0 < id }
-    requires most { id < 2147483648 }
+    requires most { id < ids_end }
     ensures { IfOk result (λ m. message_seen m ≡ message_asked (change_seen change.now) id) }
 {
     let op = op(alloc, &change.dn, &change.kind)?;

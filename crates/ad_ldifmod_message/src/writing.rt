@@ -4,6 +4,7 @@
 ghost use Rattle.std.specs.Prelude.{◌≡◌, ◌++◌, not, length, ◌<◌, ◌^◌, if◌then◌else◌, [], ◌∷◌, OnOk, IfOk};
 ghost use Rattle.std.specs.List.{flat_map};
 ghost use Rattle.ad_ber.specs.Writing.{element_bytes};
+ghost use Rattle.ad_ldap.specs.Tags.{octet_string};
 ghost use Rattle.ad_ldap.specs.Reply.{values_bytes, attr_bytes, attrs_bytes, entry_body};
 ghost use Rattle.ad_ldap.specs.MessageValue.{op_seen, message_seen};
 ghost use Rattle.ad_ldap.specs.Messages.{SpellsMessage};
@@ -13,44 +14,30 @@ ghost use Rattle.ad_ldifmod_message.specs.Written.{IsWritable};
 
 use ad_ber::{put, put_number};
 use ad_bytes::{Bytes, List};
+use ad_ldap::tags::{
+    ADD_REQUEST, BOOLEAN, DELETE_REQUEST, ENUMERATED, INTEGER, MODIFY_REQUEST, NEW_SUPERIOR,
+    OCTET_STRING, RENAME_REQUEST, SEQUENCE, SET, TAG_OF_CONTROLS,
+};
 use ad_ldap::{Add, Control, Item, Message, Modify, Op, Rename};
 use std::alloc::{AllocError, Global};
 
-const BOOLEAN: u8 = 1;
+// The one byte of a truth value (RFC 4511 5.1).
+const TRUE: u8 = 255;
 
-const INTEGER: u8 = 2;
-
-const OCTETS: u8 = 4;
-
-const ENUMERATED: u8 = 10;
-
-const SEQUENCE: u8 = 0x30;
-
-const SET: u8 = 0x31;
-
-const DELETE_REQUEST: u8 = 0x4a;
-
-const MODIFY_REQUEST: u8 = 0x66;
-
-const ADD_REQUEST: u8 = 0x68;
-
-const RENAME_REQUEST: u8 = 0x6c;
-
-const SUPERIOR: u8 = 0x80;
-
-const CONTROLS: u8 = 0xa0;
+const FALSE: u8 = 0;
 
 fn put_octets(into: &mut Vec<u8>, octets: &[u8]) -> Result<(), AllocError>
-    ensures { OnOk result (into.new.items ≡ into.old.items ++ element_bytes 4 octets.now) }
+    ensures { OnOk result (into.new.items
+        ≡ into.old.items ++ element_bytes octet_string octets.now) }
 {
-    put(into, OCTETS, octets)?;
+    put(into, OCTET_STRING, octets)?;
     Ok(())
 }
 
 fn put_truth(into: &mut Vec<u8>, truth: bool) -> Result<(), AllocError>
     ensures { OnOk result (into.new.items ≡ into.old.items ++ truth_bytes truth) }
 {
-    let byte = if truth { 255 } else { 0 };
+    let byte = if truth { TRUE } else { FALSE };
     put(into, BOOLEAN, &[byte])?;
     Ok(())
 }
@@ -162,7 +149,7 @@ fn rename_body(alloc: Global, rename: &Rename) -> Result<Vec<u8>, AllocError>
     put_octets(&mut body, rename.dn.as_slice())?;
     put_octets(&mut body, rename.rdn.as_slice())?;
     put_truth(&mut body, !rename.keep)?;
-    put_option(&mut body, SUPERIOR, &rename.superior)?;
+    put_option(&mut body, NEW_SUPERIOR, &rename.superior)?;
     Ok(body)
 }
 
@@ -199,7 +186,7 @@ fn put_control(alloc: Global, into: &mut Vec<u8>, control: &Control) -> Result<(
     let mut body = Vec::new(alloc);
     put_octets(&mut body, control.oid.as_slice())?;
     put_critical(&mut body, control.critical)?;
-    put_option(&mut body, OCTETS, &control.value)?;
+    put_option(&mut body, OCTET_STRING, &control.value)?;
     put(into, SEQUENCE, &body)?;
     Ok(())
 }
@@ -227,7 +214,7 @@ fn put_controls(alloc: Global, into: &mut Vec<u8>, controls: &[Control]) -> Resu
     }
     let mut body = Vec::new(alloc);
     put_each_control(alloc, &mut body, controls)?;
-    put(into, CONTROLS, &body)?;
+    put(into, TAG_OF_CONTROLS, &body)?;
     Ok(())
 }
 

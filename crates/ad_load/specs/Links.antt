@@ -5,6 +5,7 @@ use Rattle.std.specs.Option.{option_and_then}
 use Rattle.std.specs.List.{list_all}
 use Rattle.ad_bytes.specs.Reading.{◌>>=◌, need}
 use Rattle.ad_ids.specs.SidValue.{SidValue}
+use Rattle.ad_ids.specs.WellKnown.{administrators}
 use Rattle.ad_ids.specs.SidChild.{child_of}
 use Rattle.ad_dn.specs.declared.rdn.Rdn.{Rdn}
 use Rattle.ad_dn.specs.Reading.{dn_of}
@@ -56,10 +57,6 @@ unfoldable pub all_stored : List SchemaRecord → List Draft → List Given → 
 all_stored schema drafts given = through (with_given schema drafts) [] given
 
 -- ---- descriptors
-
--- S-1-5-32-544
-abbrev pub administrators : SidValue
-administrators = record { authority = 5; sub_authorities = 32 ∷ 544 ∷ [] }
 
 -- The descriptor that is given. Else the lists are the class's default, and owner and group the administrators.
 abbrev pub own_sd : List SchemaRecord → Option SidValue → ℕ → Option Sd → Sd
@@ -124,9 +121,13 @@ above_all schema domain n [] = n
 above_all schema domain n (draft ∷ drafts) = above_all schema domain
     (above n (option_and_then (rid_of domain) (draft_sid schema draft))) drafts
 
+-- the last number of the first identifier that a domain gives
+abbrev pub first_rid : ℕ
+first_rid = 1000
+
 unfoldable pub next_rid : List SchemaRecord → Option SidValue → List Draft → ℕ
-next_rid schema None drafts = 1000
-next_rid schema (Some domain) drafts = above_all schema domain 1000 drafts
+next_rid schema None drafts = first_rid
+next_rid schema (Some domain) drafts = above_all schema domain first_rid drafts
 
 -- ---- the directory, before its descriptors are computed
 

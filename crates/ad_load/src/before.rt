@@ -13,6 +13,7 @@ ghost use Rattle.ad_load.specs.Links.{domain_of, objects_of, meta_of, directory_
 ghost use Rattle.ad_load.specs.Links.{linked};
 ghost use Rattle.ad_load.specs.Counting.{IsCounted};
 ghost use Rattle.ad_load.specs.Seen.{entry_seen, before_seen};
+ghost use Rattle.ad_load_records.specs.Records.{most_lines};
 
 use crate::counters::{next_rid, suffix_of};
 use crate::limits::{are_shallow, check_defaults, is_short};
@@ -77,7 +78,7 @@ fn is_within_limits(
     next_rid: u64,
     suffix: &Dn,
 ) -> Result<bool, AllocError>
-    ensures within { IfOk result (λ within. (drafts : List DraftValue) → length drafts ≤ 67108864
+    ensures within { IfOk result (λ within. (drafts : List DraftValue) → length drafts ≤ most_lines
         → shallow ≡ list_all (is_shallow drafts) drafts → next_rid
         ≡ (meta_of schema.now drafts).next_rid
         → suffix.now.rdns ≡ (meta_of schema.now drafts).suffix
@@ -102,7 +103,7 @@ fn count(
     domain: Option<&Sid>,
     drafts: &[Draft],
 ) -> Result<Counted, AllocError>
-    requires few { length drafts.now ≤ 67108864 }
+    requires few { length drafts.now ≤ most_lines }
     requires domain { option_copied domain ≡ domain_of schema.now (map draft_seen drafts.now) }
     ensures { IfOk result (IsCounted schema.now (map draft_seen drafts.now)) }
 {
@@ -127,7 +128,7 @@ fn check(
     counted: &Counted,
 ) -> Result<u32, LoadFault>
     ghost all: { List DraftValue }
-    requires few { length all ≤ 67108864 }
+    requires few { length all ≤ most_lines }
     requires domain { option_copied domain ≡ domain_of schema.now all }
     requires objects { objects_of schema.now all ≡ Ok (map entry_seen objects.now) }
     requires counted { IsCounted schema.now all counted.now }
@@ -167,7 +168,7 @@ fn before_of(
     counted: Counted,
 ) -> Result<Before, LoadFault>
     ghost all: { List DraftValue }
-    requires few { length all ≤ 67108864 }
+    requires few { length all ≤ most_lines }
     requires domain { option_copied domain ≡ domain_of schema.now all }
     requires objects { objects_of schema.now all ≡ Ok (map entry_seen objects.items) }
     requires counted { IsCounted schema.now all counted }
@@ -191,7 +192,7 @@ fn objects_with(
     drafts: Drafts,
     domain: Option<&Sid>,
 ) -> Result<Vec<(Object, NormalSd)>, LoadFault>
-    requires few { length drafts.items.items ≤ 67108864 }
+    requires few { length drafts.items.items ≤ most_lines }
     requires indexed { IsIndexed drafts }
     requires domain { option_copied domain ≡ domain_of schema.now (drafts_seen drafts) }
     ensures { GivesUnless is_memory (λ objects. map entry_seen objects.items) result
@@ -204,7 +205,7 @@ fn objects_with(
 /// The objects of drafts with their links, and the counters.
 pub(crate) fn link_all(alloc: Global, schema: &Schema, drafts: Drafts) -> Result<Before, LoadFault>
     ghost all: { List DraftValue }
-    requires few { length drafts.items.items ≤ 67108864 }
+    requires few { length drafts.items.items ≤ most_lines }
     requires indexed { IsIndexed drafts }
     requires same { all ≡ drafts_seen drafts }
     ensures { GivesUnless is_memory (before_seen schema.now) result (linked schema.now all) }

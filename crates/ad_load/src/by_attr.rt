@@ -11,6 +11,7 @@ ghost use Rattle.ad_load.specs.Seen.{by_attr};
 ghost use Rattle.ad_load_objects.specs.Drafts.{Draft as DraftValue};
 ghost use Rattle.ad_load_objects.specs.Index.{AreNames};
 ghost use Rattle.ad_load_objects.specs.Seen.{given_seen};
+ghost use Rattle.ad_load_records.specs.Records.{most_lines};
 
 use crate::links::stored_of;
 use ad_bytes::Few;
@@ -58,7 +59,7 @@ fn add_given(
     one: Given,
 ) -> Result<(), LoadFault>
     ghost all: { List DraftValue }
-    requires few { length all ≤ 67108864 }
+    requires few { length all ≤ most_lines }
     requires names { AreNames all names.now }
     ensures { GivesUnless is_memory (λ _. by_attr values.new.entries) result
         (with_given schema.now all (by_attr values.old.entries) (given_seen one)) }
@@ -78,7 +79,7 @@ fn all_by_attr(
     given: Vec<Given>,
 ) -> Result<BTreeMap<u32, Few<Stored>>, LoadFault>
     ghost all: { List DraftValue }
-    requires few { length all ≤ 67108864 }
+    requires few { length all ≤ most_lines }
     requires names { AreNames all names.now }
     ensures { GivesUnless is_memory (λ values. by_attr values.entries) result
         (all_stored schema.now all (map given_seen given.items)) }
@@ -130,7 +131,7 @@ pub(crate) fn many_stored(
     given: Vec<Given>,
 ) -> Result<Vec<(AttrId, Few<Stored>)>, LoadFault>
     ghost all: { List DraftValue }
-    requires few { length all ≤ 67108864 }
+    requires few { length all ≤ most_lines }
     requires names { AreNames all names.now }
     ensures { GivesUnless is_memory (λ values. map held_seen values.items) result
         (all_stored schema.now all (map given_seen given.items)) }

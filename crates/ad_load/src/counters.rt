@@ -51,6 +51,9 @@ fn rid_of(domain: &Sid, sid: &Sid) -> Option<u32>
     }
 }
 
+// The last number of the first identifier that a domain gives.
+const FIRST_RID: u64 = 1000;
+
 fn above(n: u64, rid: Option<u32>) -> u64
     requires { n ≤ 2 ^ 32 }
     ensures value { result ≡ above n rid }
@@ -80,10 +83,10 @@ fn draft_rid(schema: &Schema, domain: &Sid, draft: &Draft) -> Option<u32>
 }
 
 fn above_all(schema: &Schema, domain: &Sid, drafts: &[Draft]) -> u64
-    ensures value { result ≡ above_all schema.now domain.now 1000 (map draft_seen drafts.now) }
+    ensures value { result ≡ above_all schema.now domain.now first_rid (map draft_seen drafts.now) }
     ensures small { result ≤ 2 ^ 32 }
 {
-    let mut n = 1000;
+    let mut n = FIRST_RID;
     for draft in drafts {
         n = above(n, draft_rid(schema, domain, draft));
     }
@@ -98,7 +101,7 @@ pub(crate) fn next_rid(schema: &Schema, domain: Option<&Sid>, drafts: &[Draft]) 
 {
     match domain {
         Some(domain) => above_all(schema, domain, drafts),
-        None => 1000,
+        None => FIRST_RID,
     }
 }
 

@@ -4,7 +4,7 @@ ghost use Rattle.std.specs.Prelude.{◌≡◌, None, IfOk};
 ghost use Rattle.std.specs.Prelude.{option_map};
 ghost use Rattle.std.specs.Option.{option_copied};
 ghost use Rattle.ad_sd.specs.Sd.{list_or_empty};
-ghost use Rattle.ad_load.specs.Links.{administrators, own_sd};
+ghost use Rattle.ad_load.specs.Links.{own_sd};
 
 use ad_acl::Aces;
 use ad_ids::Sid;
@@ -13,16 +13,6 @@ use ad_schema_defaults::default_parts;
 use ad_sd::{AceList, NormalSd, Sd};
 use std::alloc::{AllocError, Global};
 use std::rc::Rc;
-
-// S-1-5-32-544.
-fn administrators() -> Sid
-    ensures { result ≡ administrators }
-{
-    match Sid::well_known(5, 32).child(544) {
-        Some(sid) => sid,
-        None => unreachable!(),
-    }
-}
 
 fn list_or_empty(alloc: Global, list: Option<AceList>) -> AceList
     ensures { result ≡ list_or_empty list }
@@ -48,8 +38,8 @@ fn default_sd(
 {
     let parts = default_parts(alloc, schema, domain, class)?;
     let sd = Sd {
-        owner: administrators(),
-        group: administrators(),
+        owner: Sid::administrators(),
+        group: Sid::administrators(),
         dacl: list_or_empty(alloc, parts.dacl),
         sacl: list_or_empty(alloc, parts.sacl),
     };

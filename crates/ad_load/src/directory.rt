@@ -14,6 +14,7 @@ ghost use Rattle.ad_load.specs.Loaded.{loaded};
 ghost use Rattle.ad_load_records.specs.Seen.{seen};
 ghost use Rattle.ad_load.specs.Seen.{before_seen};
 ghost use Rattle.ad_load.specs.Settling.{made_of};
+ghost use Rattle.ad_load_records.specs.Records.{most_lines};
 
 use crate::before::{Before, link_all};
 use crate::parts::Parts;
@@ -28,7 +29,7 @@ use std::alloc::Global;
 // The objects of records, each with its descriptor from the root.
 fn made_of(alloc: Global, schema: &Schema, records: Vec<Record>) -> Result<Before, LoadFault>
     requires good { AllByRecursion IsGoodRecord (map seen records.items) }
-    requires few { length records.items ≤ 67108864 }
+    requires few { length records.items ≤ most_lines }
     requires makes { MakeSchema schema.now }
     requires short { list_all is_short_record schema.now ≡ true }
     requires reads { ReadsBack }
@@ -51,7 +52,7 @@ fn made_of(alloc: Global, schema: &Schema, records: Vec<Record>) -> Result<Befor
 /// As [`directory_of`] of the text.
 pub fn parts_of(alloc: Global, records: Vec<Record>) -> Result<Parts, LoadFault>
     requires read { (text : List ℕ) × (records_in text ≡ Ok (map seen records.items)) }
-    requires few { length records.items ≤ 67108864 }
+    requires few { length records.items ≤ most_lines }
     // The directory that is loaded of each text with these records, or the first fault.
     ensures loaded { (text : List ℕ) → records_in text ≡ Ok (map seen records.items)
         → GivesUnless is_memory (λ dir. dir) result (loaded text) }
@@ -70,7 +71,7 @@ pub fn parts_of(alloc: Global, records: Vec<Record>) -> Result<Parts, LoadFault>
 // The directory of these records.
 fn directory_with(alloc: Global, records: Vec<Record>) -> Result<Dir, LoadFault>
     requires read { (text : List ℕ) × (records_in text ≡ Ok (map seen records.items)) }
-    requires few { length records.items ≤ 67108864 }
+    requires few { length records.items ≤ most_lines }
     ensures loaded { (text : List ℕ) → records_in text ≡ Ok (map seen records.items)
         → GivesUnless is_memory (λ dir. dir) result (loaded text) }
     ensures sound { IfOk result IsSound }

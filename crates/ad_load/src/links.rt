@@ -14,6 +14,7 @@ ghost use Rattle.ad_load_objects.specs.Seen.{given_seen, draft_seen};
 ghost use Rattle.ad_load.specs.Seen.{entry_seen, with_stored_at};
 ghost use Rattle.ad_load_objects.specs.Index.{AreNames};
 ghost use Rattle.ad_load_objects.specs.Drafts.{Draft as DraftValue};
+ghost use Rattle.ad_load_records.specs.Records.{most_lines};
 
 use crate::by_attr::many_stored;
 use crate::descriptors::own_sd;
@@ -33,7 +34,7 @@ use std::alloc::{AllocError, Global};
 // The object of a name's text.
 fn target_of(alloc: Global, names: &Names, text: &[u8]) -> Result<Option<u32>, AllocError>
     ghost all: { List DraftValue }
-    requires few { length all ≤ 67108864 }
+    requires few { length all ≤ most_lines }
     requires names { AreNames all names.now }
     ensures { IfOk result (λ number. number ≡ target_of all text.now) }
 {
@@ -56,7 +57,7 @@ fn is_link(schema: &Schema, attr: AttrId) -> bool
 
 fn link_to(alloc: Global, names: &Names, one: &Given) -> Result<u32, LoadFault>
     ghost all: { List DraftValue }
-    requires few { length all ≤ 67108864 }
+    requires few { length all ≤ most_lines }
     requires names { AreNames all names.now }
     ensures { GivesUnless is_memory (λ number. number) result
         (ok_or (target_of all one.now.value.shown)
@@ -77,7 +78,7 @@ pub(crate) fn stored_of(
     one: Given,
 ) -> Result<Stored, LoadFault>
     ghost all: { List DraftValue }
-    requires few { length all ≤ 67108864 }
+    requires few { length all ≤ most_lines }
     requires names { AreNames all names.now }
     ensures { GivesUnless is_memory stored_seen result (stored_of schema.now all (given_seen one)) }
 {
@@ -150,7 +151,7 @@ fn add_given(
     one: Given,
 ) -> Result<(), LoadFault>
     ghost all: { List DraftValue }
-    requires few { length all ≤ 67108864 }
+    requires few { length all ≤ most_lines }
     requires names { AreNames all names.now }
     ensures { GivesUnless is_memory (λ _. map held_seen values.new.items) result
         (with_given schema.now all (map held_seen values.old.items) (given_seen one)) }
@@ -169,7 +170,7 @@ fn few_stored(
     given: Vec<Given>,
 ) -> Result<Vec<(AttrId, Few<Stored>)>, LoadFault>
     ghost all: { List DraftValue }
-    requires few { length all ≤ 67108864 }
+    requires few { length all ≤ most_lines }
     requires names { AreNames all names.now }
     ensures { GivesUnless is_memory (λ values. map held_seen values.items) result
         (all_stored schema.now all (map given_seen given.items)) }
@@ -192,7 +193,7 @@ fn all_stored(
     given: Vec<Given>,
 ) -> Result<Vec<(AttrId, Few<Stored>)>, LoadFault>
     ghost all: { List DraftValue }
-    requires few { length all ≤ 67108864 }
+    requires few { length all ≤ most_lines }
     requires names { AreNames all names.now }
     ensures { GivesUnless is_memory (λ values. map held_seen values.items) result
         (all_stored schema.now all (map given_seen given.items)) }
@@ -225,7 +226,7 @@ fn object_of(
     draft: Draft,
 ) -> Result<(Object, NormalSd), LoadFault>
     ghost all: { List DraftValue }
-    requires few { length all ≤ 67108864 }
+    requires few { length all ≤ most_lines }
     requires names { AreNames all names.now }
     ensures { GivesUnless is_memory entry_seen result (object_of schema.now all
         (option_copied domain.entry) number (draft_seen draft)) }
@@ -253,9 +254,9 @@ fn add_object(
     draft: Draft,
 ) -> Result<(), LoadFault>
     ghost all: { List DraftValue }
-    requires few { length all ≤ 67108864 }
+    requires few { length all ≤ most_lines }
     requires names { AreNames all names.now }
-    requires fewer { length objects.old.items < 67108864 }
+    requires fewer { length objects.old.items < most_lines }
     ensures { GivesUnless is_memory (λ _. map entry_seen objects.new.items) result
         (with_object schema.now all (option_copied domain.entry)
         (map entry_seen objects.old.items) (draft_seen draft)) }
@@ -277,7 +278,7 @@ pub(crate) fn objects_of(
     domain: Option<&Sid>,
 ) -> Result<Vec<(Object, NormalSd)>, LoadFault>
     ghost all: { List DraftValue }
-    requires few { length all ≤ 67108864 }
+    requires few { length all ≤ most_lines }
     requires names { AreNames all names.now }
     requires same { all ≡ map draft_seen items.items }
     requires domain { option_copied domain ≡ domain_of schema.now (map draft_seen items.items) }

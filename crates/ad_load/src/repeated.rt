@@ -27,7 +27,7 @@ fn is_same(a: &NormalSd, b: &NormalSd) -> bool
 }
 
 // The descriptor that was computed, where it was made of these.
-fn made<'a>(
+fn same_as_last<'a>(
     last: &'a Option<WholeSd>,
     above: &NormalSd,
     own: &NormalSd,
@@ -60,7 +60,7 @@ fn computed(
 }
 
 // A descriptor with what it was computed of.
-fn kept(
+fn with_its_parts(
     alloc: Global,
     above: &NormalSd,
     own: &NormalSd,
@@ -91,7 +91,7 @@ fn make(
     ensures { IfOk result (λ sd. sd ≡ whole above.now own.now class) }
 {
     let sd = computed(alloc, above, own, class)?;
-    let made = kept(alloc, above, own, class, &sd)?;
+    let made = with_its_parts(alloc, above, own, class, &sd)?;
     *last = Some(made);
     Ok(sd)
 }
@@ -106,7 +106,7 @@ pub(crate) fn whole_again(
 ) -> Result<NormalSd, AllocError>
     ensures { IfOk result (λ sd. sd ≡ whole above.now own.now class) }
 {
-    if let Some(sd) = made(last, above, own, class) {
+    if let Some(sd) = same_as_last(last, above, own, class) {
         return sd.copy(alloc);
     }
     make(alloc, last, above, own, class)

@@ -2,7 +2,7 @@
 -- are numbered from 1; the first is the root.
 use Rattle.std.specs.Prelude.{ℕ, nat_le, nat_lt, Bool, false, not, ◌==◌, ◌&&◌, ◌||◌, is_none, if◌then◌else◌}
 use Rattle.std.specs.Prelude.{codes, Option, Some, None, ok_or, List, [], ◌∷◌, ◌++◌, length, drop}
-use Rattle.std.specs.Prelude.{slice_get, map, Result, Ok}
+use Rattle.std.specs.Prelude.{map, Result, Ok}
 use Rattle.std.specs.Option.{option_map_or}
 use Rattle.std.specs.List.{list_all, list_any}
 use Rattle.sha2.specs.Sha256.{sha256}
@@ -17,10 +17,9 @@ use Rattle.ad_value.specs.ValueOf.{normal_or_fault, sid_of}
 use Rattle.ad_schema.specs.declared.line.SchemaRecord.{SchemaRecord}
 use Rattle.ad_schema.specs.declared.info.ClassId.{ClassId}
 use Rattle.ad_schema_classes.specs.Names.{same_name}
-use Rattle.ad_schema.specs.Attributes.{attrs_of}
 use Rattle.ad_schema.specs.Classes.{class_named, naming_of}
 use Rattle.ad_schema.specs.Meaning.{attr_is_back_link}
-use Rattle.ad_dir_model.specs.Attributes.{attr_place, attr_name, is_named, syntax_at, object_sid}
+use Rattle.ad_dir_model.specs.Attributes.{attr_place, attr_name, is_password, is_single, syntax_at, object_sid}
 use Rattle.ad_dir_model.specs.Identity.{is_sid}
 use Rattle.ad_dir_model.specs.Names.{same_folded}
 use Rattle.ad_schema_defaults.specs.NewClass.{is_structural, lowest_of}
@@ -121,11 +120,8 @@ is_dropped schema class attr name =
 -- A value in its attribute's syntax. A password is kept as its digest, and its syntax isn't asked.
 unfoldable pub value_of : List SchemaRecord → ℕ → Field → Result Value LoadFault
 value_of schema attr field =
-    if is_named schema (codes "unicodePwd") attr then Ok (as_shown (sha256 field.value))
+    if is_password schema attr then Ok (as_shown (sha256 field.value))
     else or_fault (at field.line (cause.Value field.name)) (normal_or_fault (syntax_at schema attr) field.value)
-
-unfoldable pub is_single : List SchemaRecord → ℕ → Bool
-is_single schema attr = option_map_or (λ info. info.single) (slice_get (attrs_of schema) attr) false
 
 -- of this attribute, where one value is all, or the value has the key
 abbrev pub is_same_given : Bool → ℕ → Value → Given → Bool

@@ -1,10 +1,10 @@
 //! Which attribute a rule means. An attribute's own name is looked at first, since to look a name up takes much
 //! longer.
 
-ghost use Rattle.std.specs.Prelude.{◌≡◌, ◌<◌, ◌==◌, length, false, codes};
+ghost use Rattle.std.specs.Prelude.{◌≡◌, ◌<◌, ◌==◌, length, false};
 ghost use Rattle.std.specs.Option.{option_map_or};
 ghost use Rattle.ad_schema.specs.Attributes.{attrs_of};
-ghost use Rattle.ad_dir_model.specs.Attributes.{attr_name, is_named, object_sid};
+ghost use Rattle.ad_dir_model.specs.Attributes.{attr_name, is_named, is_password, object_sid};
 
 use ad_schema::{AttrId, RuleAttr, Schema};
 use ad_schema_classes::same_name;
@@ -30,7 +30,7 @@ fn is_found(schema: &Schema, attr: AttrId, name: &[u8]) -> bool
 /// Whether values of this attribute are kept as their digests.
 pub(crate) fn is_password(schema: &Schema, attr: AttrId) -> bool
     requires { attr.0 < length (attrs_of schema.now) }
-    ensures { result ≡ is_named schema.now (codes "unicodePwd") attr.0 }
+    ensures { result ≡ is_password schema.now attr.0 }
 {
     if !same_name(own_name(schema, attr), b"unicodePwd") {
         return false;

@@ -2,7 +2,8 @@
 //! what was found last is kept, in a table with a place for the names of each sum of a few of their bytes:
 //! attributes first, and classes after them.
 
-ghost use Rattle.std.specs.Prelude.{◌≡◌, ◌<◌, Some, length, IfSome, IfOk, OnOk};
+ghost use Rattle.std.specs.Prelude.{◌≡◌, ◌<◌, Some, List, length, IfSome, IfOk, OnOk};
+ghost use Rattle.ad_schema.specs.declared.line.SchemaRecord.{SchemaRecord};
 ghost use Rattle.ad_schema.specs.Attributes.{attrs_of, attr_named};
 ghost use Rattle.ad_schema.specs.Classes.{classes_of, class_named};
 ghost use Rattle.ad_load_objects.specs.Found.{IsFound, AreFound};
@@ -24,10 +25,9 @@ pub(crate) struct Found {
 
 /// A table of nothing.
 #[tactic(auto, using(crate::proofs::Places::all_more))]
-pub(crate) fn none_found(alloc: Global, schema: &Schema) -> Result<Vec<Found>, AllocError>
-    ensures { IfOk result (λ found. AreFound schema.now found.items) }
+pub(crate) fn none_found(alloc: Global) -> Result<Vec<Found>, AllocError>
+    ensures { IfOk result (λ found. (schema : List SchemaRecord) → AreFound schema found.items) }
 {
-    let _ = schema;
     let mut found = Vec::with_capacity(alloc, 2 * PLACES)?;
     for _ in 0..2 * PLACES {
         found.push(Found {
@@ -56,11 +56,9 @@ fn place_of(name: &[u8]) -> usize {
 }
 
 // What is kept, where it was found by this name.
-fn if_named<'a>(schema: &Schema, one: &'a Found, name: &[u8]) -> Option<&'a Found>
-    requires { IsFound schema.now one.now }
-    ensures { IfSome result (λ kept. IsFound schema.now kept.now × (kept.now.name ≡ name.now)) }
+fn if_named<'a>(one: &'a Found, name: &[u8]) -> Option<&'a Found>
+    ensures { IfSome result (λ kept. (kept.now ≡ one.now) × (kept.now.name ≡ name.now)) }
 {
-    let _ = schema;
     if one.name.as_slice() == name {
         return Some(one);
     }
@@ -69,36 +67,34 @@ fn if_named<'a>(schema: &Schema, one: &'a Found, name: &[u8]) -> Option<&'a Foun
 
 // The same at a place.
 #[tactic(auto, using(crate::proofs::Places::all_here))]
-fn kept_at<'a>(schema: &Schema, found: &'a [Found], place: usize, name: &[u8]) -> Option<&'a Found>
-    requires { AreFound schema.now found.now }
-    ensures { IfSome result (λ kept. IsFound schema.now kept.now × (kept.now.name ≡ name.now)) }
+fn entry_at<'a>(found: &'a [Found], place: usize, name: &[u8]) -> Option<&'a Found>
+    ensures named { IfSome result (λ kept. kept.now.name ≡ name.now) }
+    ensures found { (schema : List SchemaRecord) → AreFound schema found.now
+        → IfSome result (λ kept. IsFound schema kept.now) }
 {
     if place < found.len() {
-        return if_named(schema, &found[place], name);
+        return if_named(&found[place], name);
     }
     None
 }
 
 // Puts something at a place, where there is such a place.
 #[tactic(auto, using(crate::proofs::Places::all_set))]
-fn put_at(schema: &Schema, found: &mut Vec<Found>, place: usize, one: Found)
-    requires found { AreFound schema.now found.old.items }
-    requires one { IsFound schema.now one }
-    ensures { AreFound schema.now found.new.items }
+fn put_at(found: &mut Vec<Found>, place: usize, one: Found)
+    ensures { (schema : List SchemaRecord) → AreFound schema found.old.items → IsFound schema one
+        → AreFound schema found.new.items }
 {
-    let _ = schema;
     if place < found.len() {
         found[place] = one;
     }
 }
 
 // The attribute that is kept at a place, where it was found by this name.
-fn attr_at(schema: &Schema, found: &[Found], place: usize, name: &[u8]) -> Option<AttrId>
-    requires { AreFound schema.now found.now }
-    ensures { IfSome result (λ id. (attr_named schema.now name.now ≡ Some id)
-        × (id.0 < length (attrs_of schema.now))) }
+fn attr_at(found: &[Found], place: usize, name: &[u8]) -> Option<AttrId>
+    ensures { (schema : List SchemaRecord) → AreFound schema found.now → IfSome result
+        (λ id. (attr_named schema name.now ≡ Some id) × (id.0 < length (attrs_of schema))) }
 {
-    kept_at(schema, found, place, name)?.attr
+    entry_at(found, place, name)?.attr
 }
 
 /// The attribute of a name, as the schema has it.
@@ -115,7 +111,7 @@ pub(crate) fn attr_of(
     ensures found { OnOk result (AreFound schema.now found.new.items) }
 {
     let place = place_of(name);
-    if let Some(attr) = attr_at(schema, found.as_slice(), place, name) {
+    if let Some(attr) = attr_at(found.as_slice(), place, name) {
         return Ok(Some(attr));
     }
     let Some(attr) = schema.attr(name) else {
@@ -126,19 +122,18 @@ pub(crate) fn attr_of(
         attr: Some(attr),
         class: None,
     };
-    put_at(schema, found, place, one);
+    put_at(found, place, one);
     Ok(Some(attr))
 }
 
 // ---- classes
 
 // The class that is kept at a place, where it was found by this name.
-fn class_at(schema: &Schema, found: &[Found], place: usize, name: &[u8]) -> Option<ClassId>
-    requires { AreFound schema.now found.now }
-    ensures { IfSome result (λ id. (class_named schema.now name.now ≡ Some id)
-        × (id.0 < length (classes_of schema.now))) }
+fn class_at(found: &[Found], place: usize, name: &[u8]) -> Option<ClassId>
+    ensures { (schema : List SchemaRecord) → AreFound schema found.now → IfSome result
+        (λ id. (class_named schema name.now ≡ Some id) × (id.0 < length (classes_of schema))) }
 {
-    kept_at(schema, found, place, name)?.class
+    entry_at(found, place, name)?.class
 }
 
 /// The class of a name, as the schema has it.
@@ -155,7 +150,7 @@ pub(crate) fn class_named(
     ensures found { OnOk result (AreFound schema.now found.new.items) }
 {
     let place = PLACES.saturating_add(place_of(name));
-    if let Some(class) = class_at(schema, found.as_slice(), place, name) {
+    if let Some(class) = class_at(found.as_slice(), place, name) {
         return Ok(Some(class));
     }
     let Some(class) = schema.class(name) else {
@@ -166,6 +161,6 @@ pub(crate) fn class_named(
         attr: None,
         class: Some(class),
     };
-    put_at(schema, found, place, one);
+    put_at(found, place, one);
     Ok(Some(class))
 }

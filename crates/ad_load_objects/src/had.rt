@@ -1,8 +1,9 @@
 //! Which attributes an object has values of, and which values. It is kept once the values are many, so that one
 //! more isn't compared with each of them.
 
-ghost use Rattle.std.specs.Prelude.{◌≡◌, ◌++◌, [], ◌∷◌, not, map, IfOk, IfSome};
+ghost use Rattle.std.specs.Prelude.{◌≡◌, ◌++◌, List, [], ◌∷◌, not, map, IfOk, IfSome, OnOk};
 ghost use Rattle.std.specs.List.{list_any};
+ghost use Rattle.ad_load_objects.specs.Drafts as drafts;
 ghost use Rattle.ad_load_objects.specs.Drafts.{is_given};
 ghost use Rattle.ad_load_objects.specs.Had.{AreHad, IsKeyOf, is_had};
 ghost use Rattle.ad_load_objects.specs.Seen.{given_seen};
@@ -67,17 +68,14 @@ fn nothing_had(alloc: Global) -> Had
 pub(crate) fn note(
     alloc: Global,
     had: &mut Had,
-    items: &[Given],
     single: bool,
     one: &Given,
 ) -> Result<bool, AllocError>
-    requires { AreHad (map given_seen items.now) had.old }
-    ensures new { IfOk result (λ new. new
-        ≡ not (is_had single (given_seen one.now) (map given_seen items.now))) }
-    ensures had { IfOk result (λ _. AreHad (map given_seen items.now ++ given_seen one.now ∷ [])
-        had.new) }
+    ensures new { (given : List drafts.Given) → AreHad given had.old
+        → IfOk result (λ new. new ≡ not (is_had single (given_seen one.now) given)) }
+    ensures had { (given : List drafts.Given) → AreHad given had.old
+        → OnOk result (AreHad (given ++ given_seen one.now ∷ []) had.new) }
 {
-    let _ = items;
     let key = key_of(alloc, one.attr, &one.value)?;
     let new_attr = had.attrs.insert(one.attr.0)?;
     let new_value = had.values.insert(key)?;
@@ -90,7 +88,7 @@ fn had_of(alloc: Global, items: &[Given]) -> Result<Had, AllocError>
 {
     let mut had = nothing_had(alloc);
     for i in 0..items.len() {
-        note(alloc, &mut had, &items[..i], false, &items[i])?;
+        note(alloc, &mut had, false, &items[i])?;
     }
     Ok(had)
 }
@@ -109,10 +107,9 @@ pub(crate) fn had_of_many(alloc: Global, items: &[Given]) -> Result<Option<Had>,
 }
 
 /// Whether one of these values is of the attribute.
-pub(crate) fn has_attr(items: &[Given], had: &Had, attr: AttrId) -> bool
-    requires { AreHad (map given_seen items.now) had.now }
-    ensures { result ≡ list_any (is_given attr.0) (map given_seen items.now) }
+pub(crate) fn has_attr(had: &Had, attr: AttrId) -> bool
+    ensures { (given : List drafts.Given) → AreHad given had.now
+        → result ≡ list_any (is_given attr.0) given }
 {
-    let _ = items;
     had.attrs.contains(&attr.0)
 }

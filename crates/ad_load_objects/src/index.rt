@@ -1,6 +1,6 @@
 //! Objects by their names and by their places below a parent.
 
-ghost use Rattle.std.specs.Prelude.{◌≡◌, ◌≤◌, ◌++◌, [], ◌∷◌, drop, length, List, IfOk, OnOk};
+ghost use Rattle.std.specs.Prelude.{◌≡◌, ◌≤◌, ◌<◌, ◌^◌, ◌++◌, ℕ, [], ◌∷◌, drop, length, List, IfOk, OnOk};
 ghost use Rattle.std.specs.Option.{option_copied};
 ghost use Rattle.ad_bytes.specs.Numbers.{be_bytes};
 ghost use Rattle.ad_dn.specs.NameKey.{rdns_key};
@@ -11,6 +11,7 @@ ghost use Rattle.ad_load_objects.specs.Drafts.{Draft as DraftValue, naming_value
 ghost use Rattle.ad_load_objects.specs.Objects.{parent_of, is_taken, is_sid_used};
 ghost use Rattle.ad_load_objects.specs.Seen.{draft_seen};
 ghost use Rattle.ad_load_objects.specs.Index.{drafts_seen, place_key, with_sid, AreNames, IsIndexed, IsKeyed, HasSids};
+ghost use Rattle.ad_load_records.specs.Records.{most_lines};
 
 use crate::above::key_above;
 use crate::drafts::{Draft, Drafts, draft_sid, naming_value};
@@ -93,7 +94,7 @@ fn place_named(alloc: Global, names: &Names, dn: &Dn) -> Result<Option<u32>, All
 /// The number of the object of a name, among objects that have these names.
 pub fn number_in(alloc: Global, names: &Names, dn: &Dn) -> Result<Option<u32>, AllocError>
     ghost all: { List DraftValue }
-    requires few { length all ≤ 67108864 }
+    requires few { length all ≤ most_lines }
     requires names { AreNames all names.now }
     ensures { IfOk result (λ number. number ≡ number_named all dn.now.rdns) }
 {
@@ -106,7 +107,7 @@ pub fn number_in(alloc: Global, names: &Names, dn: &Dn) -> Result<Option<u32>, A
 
 // The number of the object whose name is this one without its first part.
 fn number_above(drafts: &Drafts, dn: &Dn, key: &[u8]) -> Option<u32>
-    requires few { length drafts.now.items.items ≤ 67108864 }
+    requires few { length drafts.now.items.items ≤ most_lines }
     requires indexed { IsIndexed drafts.now }
     requires key { key.now ≡ rdns_key dn.now.rdns }
     ensures { result ≡ number_named (drafts_seen drafts.now) (drop 1 dn.now.rdns) }
@@ -120,7 +121,7 @@ fn number_above(drafts: &Drafts, dn: &Dn, key: &[u8]) -> Option<u32>
 /// The number of the object above a name, of which this is the key; the root has 0.
 #[tactic(auto, unfolding(crate::specs::Objects::parent_of))]
 pub(crate) fn parent_of(drafts: &Drafts, dn: &Dn, key: &[u8]) -> Option<u32>
-    requires few { length drafts.now.items.items ≤ 67108864 }
+    requires few { length drafts.now.items.items ≤ most_lines }
     requires indexed { IsIndexed drafts.now }
     requires key { key.now ≡ rdns_key dn.now.rdns }
     ensures { result ≡ parent_of (drafts_seen drafts.now) dn.now.rdns }
@@ -133,14 +134,12 @@ pub(crate) fn parent_of(drafts: &Drafts, dn: &Dn, key: &[u8]) -> Option<u32>
 
 // ---- places and identifiers
 
-/// Whether a child of the parent has the naming value of this name. This is the key of that place.
-pub(crate) fn is_taken(drafts: &Drafts, parent: u32, dn: &Dn, key: &[u8]) -> bool
+/// Whether a child of a parent has a naming value, of which this is the key.
+pub(crate) fn is_taken(drafts: &Drafts, key: &[u8]) -> bool
     requires indexed { IsIndexed drafts.now }
-    requires key { key.now ≡ place_key parent (naming_value dn.now.rdns) }
-    ensures { result ≡ is_taken (drafts_seen drafts.now) parent (naming_value dn.now.rdns) }
+    ensures { (parent : ℕ) (name : List ℕ) → parent < 2 ^ 32 → key.now ≡ place_key parent name
+        → result ≡ is_taken (drafts_seen drafts.now) parent name }
 {
-    let _ = dn;
-    let _ = parent;
     find(&drafts.places, key).is_some()
 }
 
@@ -168,7 +167,7 @@ fn note_sid(sids: &mut IndexSet<Sid>, sid: Option<Sid>) -> Result<(), AllocError
 
 /// Puts an object after the others, by the keys of its name and of its place.
 pub(crate) fn push(schema: &Schema, drafts: &mut Drafts, one: Keyed) -> Result<(), AllocError>
-    requires few { length drafts.old.items.items ≤ 67108864 }
+    requires few { length drafts.old.items.items ≤ most_lines }
     requires indexed { IsIndexed drafts.old }
     requires sids { HasSids schema.now drafts.old }
     requires keyed { IsKeyed one }

@@ -96,7 +96,7 @@ fn push_known(
     ensures had { IfOk result (λ again. again ≡ None → AreHad (map given_seen items.new.items)
         known.new) }
 {
-    if !note(alloc, known, items.as_slice(), single, &one)? {
+    if !note(alloc, known, single, &one)? {
         return Ok(Some(one));
     }
     items.push(one)?;
@@ -156,7 +156,7 @@ fn is_of_one(items: &[Given], had: &Option<Had>, attr: AttrId) -> bool
     ensures { result ≡ list_any (is_given attr.0) (map given_seen items.now) }
 {
     match had {
-        Some(known) => has_attr(items, known, attr),
+        Some(known) => has_attr(known, attr),
         None => is_given(items, attr),
     }
 }

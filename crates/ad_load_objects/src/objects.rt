@@ -14,6 +14,7 @@ ghost use Rattle.ad_load_objects.specs.KeptSeen.{kept_seen};
 ghost use Rattle.ad_load_objects.specs.Index.{drafts_seen, place_key, IsIndexed, HasSids, IsKeyed};
 ghost use Rattle.ad_load_objects.specs.Standing.{draft_at};
 ghost use Rattle.ad_load_objects.specs.Found.{AreFound};
+ghost use Rattle.ad_load_records.specs.Records.{most_lines};
 
 use crate::classes::{class_of, is_named_by};
 use crate::drafts::{Draft, Drafts};
@@ -67,7 +68,7 @@ fn standing_of(
     one: &Record,
     name: &[u8],
 ) -> Result<Standing, LoadFault>
-    requires few { length drafts.now.items.items ≤ 67108864 }
+    requires few { length drafts.now.items.items ≤ most_lines }
     requires indexed { IsIndexed drafts.now }
     requires name { name.now ≡ rdns_key one.now.dn.rdns }
     requires found { AreFound schema.now found.old.items }
@@ -89,7 +90,7 @@ fn standing_of(
         return Err(bad(line, LoadCause::Naming));
     }
     let place = place_key(alloc, parent, &one.dn)?;
-    if is_taken(drafts, parent, &one.dn, place.as_slice()) {
+    if is_taken(drafts, place.as_slice()) {
         return Err(bad(line, LoadCause::NameTaken));
     }
     Ok(Standing {
@@ -107,7 +108,7 @@ fn draft_of(
     found: &mut Vec<Found>,
     one: Record,
 ) -> Result<Keyed, LoadFault>
-    requires few { length drafts.now.items.items ≤ 67108864 }
+    requires few { length drafts.now.items.items ≤ most_lines }
     requires indexed { IsIndexed drafts.now }
     requires sids { HasSids schema.now drafts.now }
     requires found { AreFound schema.now found.old.items }
@@ -137,7 +138,7 @@ fn add_record(
     found: &mut Vec<Found>,
     one: Record,
 ) -> Result<(), LoadFault>
-    requires few { length drafts.old.items.items ≤ 67108864 }
+    requires few { length drafts.old.items.items ≤ most_lines }
     requires indexed { IsIndexed drafts.old }
     requires sids { HasSids schema.now drafts.old }
     requires found { AreFound schema.now found.old.items }
@@ -165,14 +166,14 @@ fn add_records(
     found: &mut Vec<Found>,
     records: Vec<Record>,
 ) -> Result<(), LoadFault>
-    requires few { length records.items ≤ 67108864 }
+    requires few { length records.items ≤ most_lines }
     requires none { drafts_seen drafts.old ≡ [] }
     requires indexed { IsIndexed drafts.old }
     requires sids { drafts.old.sids.keys ≡ [] }
     requires found { AreFound schema.now found.old.items }
     ensures drafts { GivesUnless is_memory (λ _. drafts_seen drafts.new) result
         (through (with_record schema.now) [] (map seen records.items)) }
-    ensures few { OnOk result (length drafts.new.items.items ≤ 67108864) }
+    ensures few { OnOk result (length drafts.new.items.items ≤ most_lines) }
     ensures indexed { OnOk result (IsIndexed drafts.new) }
 {
     for one in records {
@@ -183,13 +184,13 @@ fn add_records(
 
 // The drafts of sorted records.
 fn all_drafts(alloc: Global, schema: &Schema, records: Vec<Record>) -> Result<Drafts, LoadFault>
-    requires { length records.items ≤ 67108864 }
+    requires { length records.items ≤ most_lines }
     ensures drafts { GivesUnless is_memory drafts_seen result
         (through (with_record schema.now) [] (map seen records.items)) }
-    ensures few { IfOk result (λ drafts. length drafts.items.items ≤ 67108864) }
+    ensures few { IfOk result (λ drafts. length drafts.items.items ≤ most_lines) }
     ensures indexed { IfOk result IsIndexed }
 {
-    let mut found = none_found(alloc, schema)?;
+    let mut found = none_found(alloc)?;
     let mut last = None;
     let mut drafts = no_drafts(alloc);
     add_records(alloc, schema, &mut drafts, &mut last, &mut found, records)?;
@@ -199,10 +200,10 @@ fn all_drafts(alloc: Global, schema: &Schema, records: Vec<Record>) -> Result<Dr
 /// The drafts of the objects among the records.
 #[tactic(auto, unfolding(crate::specs::Objects::drafts_of))]
 pub fn drafts_of(alloc: Global, schema: &Schema, records: Vec<Record>) -> Result<Drafts, LoadFault>
-    requires { length records.items ≤ 67108864 }
+    requires { length records.items ≤ most_lines }
     ensures drafts { GivesUnless is_memory drafts_seen result
         (drafts_of schema.now (map seen records.items)) }
-    ensures few { IfOk result (λ drafts. length drafts.items.items ≤ 67108864) }
+    ensures few { IfOk result (λ drafts. length drafts.items.items ≤ most_lines) }
     ensures indexed { IfOk result IsIndexed }
 {
     let mut records = records;

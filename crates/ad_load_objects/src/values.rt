@@ -12,7 +12,8 @@ ghost use Rattle.ad_load_records.specs.declared.fault.LoadCause.TheVariants as c
 ghost use Rattle.ad_load_records.specs.Faults.{at, is_memory};
 ghost use Rattle.ad_load_records.specs.Seen.{bytes_of, held_field};
 ghost use Rattle.ad_load_objects.specs.Had.{PutsUnless};
-ghost use Rattle.ad_load_objects.specs.Objects.{nothing_kept, with_sd, is_dropped, value_of, is_single};
+ghost use Rattle.ad_load_objects.specs.Objects.{nothing_kept, with_sd, is_dropped, value_of};
+ghost use Rattle.ad_dir_model.specs.Attributes.{is_single};
 ghost use Rattle.ad_load_objects.specs.Objects.{is_one_too_many, is_sid_taken, with_value, with_ordinary, with_line};
 ghost use Rattle.ad_load_objects.specs.Objects.{with_lines};
 ghost use Rattle.ad_load_objects.specs.Index.{drafts_seen, HasSids};
@@ -152,7 +153,7 @@ fn value_of(
     }
 }
 
-#[tactic(auto, unfolding(crate::specs::Objects::is_single))]
+#[tactic(auto, unfolding(ad_dir_model::specs::Attributes::is_single))]
 fn is_single(schema: &Schema, attr: AttrId) -> bool
     requires { attr.0 < length (attrs_of schema.now) }
     ensures { result ≡ is_single schema.now attr.0 }

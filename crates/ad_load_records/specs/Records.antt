@@ -18,6 +18,10 @@ use Rattle.ad_load_records.specs.Faults.{at, of_all, of_grammar}
 unfoldable pub max_text : ℕ
 max_text = 67108864
 
+-- the lines of a text, and so its records: each has a byte
+abbrev pub most_lines : ℕ
+most_lines = 67108864
+
 -- A record, by the line of its `dn`: its name, what it defines where it is a record of the schema, and its lines.
 pub record Record : Type 0 where
   pub line : ℕ

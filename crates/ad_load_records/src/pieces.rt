@@ -9,6 +9,7 @@ ghost use Rattle.ad_ldif.specs.Pieces.{EndsRecord};
 ghost use Rattle.ad_load_records.specs.Faults.{is_memory};
 ghost use Rattle.ad_load_records.specs.Pieces.{read_on};
 ghost use Rattle.ad_load_records.specs.Seen.{seen};
+ghost use Rattle.ad_load_records.specs.Records.{most_lines};
 
 use crate::fault::{LoadCause, LoadFault};
 use crate::records::{MAX_TEXT, Record, read_all};
@@ -68,7 +69,7 @@ impl Front {
     fn read(&mut self, alloc: Global, end: usize) -> Result<(), LoadFault>
         requires ends { EndsRecord (take end self.old.held.items) }
         requires within { end ≤ length self.old.held.items }
-        requires range { self.old.line + length self.old.held.items ≤ 67108865 }
+        requires range { self.old.line + length self.old.held.items ≤ most_lines + 1 }
         ensures next { IfOk result (λ _. (rest : List ℕ)
             → read_on (map seen self.old.records.items) self.old.line (self.old.held.items ++ rest)
             ≡ read_on (map seen self.new.records.items) self.new.line
@@ -92,7 +93,7 @@ impl Front {
 
     // Takes the next bytes, and reads the records that are whole with them.
     fn push(&mut self, alloc: Global, piece: &[u8]) -> Result<(), LoadFault>
-        requires { self.old.line + length self.old.held.items + length piece.now ≤ 67108865 }
+        requires { self.old.line + length self.old.held.items + length piece.now ≤ most_lines + 1 }
         ensures next { IfOk result (λ _. (rest : List ℕ)
             → read_on (map seen self.old.records.items) self.old.line
             (self.old.held.items ++ (piece.now ++ rest))
@@ -123,7 +124,7 @@ pub struct Pieces {
     count: usize,
     front: Front,
     stop: Option<(u32, LoadCause)>,
-    ghost few: { count ≤ 67108864 },
+    ghost few: { count ≤ most_lines },
     ghost range: { front.line + length front.held.items ≤ count + 1 },
     ghost records: { length front.records.items + length front.held.items ≤ count },
 }
@@ -222,7 +223,7 @@ impl Pieces {
     pub fn finish(self, alloc: Global) -> Result<Vec<Record>, LoadFault>
         ensures records { GivesUnless is_memory (λ records. map seen records.items) result
             (gives self []) }
-        ensures few { IfOk result (λ records. length records.items ≤ 67108864) }
+        ensures few { IfOk result (λ records. length records.items ≤ most_lines) }
     {
         let Pieces {
             count: _,

@@ -10,6 +10,7 @@ ghost use Rattle.ad_load_records.specs.Prefixed.{prefixed};
 ghost use Rattle.ad_load_records.specs.Records.{kind_named, kind_in, kind_of, may_be_named, record_of, all_of};
 ghost use Rattle.ad_load_records.specs.Records.{records_in};
 ghost use Rattle.ad_load_records.specs.Seen.{held_field, seen, of_reader};
+ghost use Rattle.ad_load_records.specs.Records.{most_lines};
 
 use crate::fault::{LoadCause, LoadFault};
 use ad_dn::{Dn, DnFault, Rdn};
@@ -166,7 +167,7 @@ pub(crate) fn read_all(
     kept: Kept,
     records: &mut Vec<Record>,
 ) -> Result<Kept, LoadFault>
-    requires { line + length text.now ≤ 67108865 }
+    requires { line + length text.now ≤ most_lines + 1 }
     ensures read { IfOk result (λ _. read_on (map seen records.old.items) line text.now
         ≡ Ok (map seen records.new.items)) }
     ensures fault { IfErr result (λ f. is_memory f ≡ false → read_on (map seen records.old.items)
@@ -182,7 +183,7 @@ pub(crate) fn read_all(
 pub fn records_in(alloc: Global, text: &[u8]) -> Result<Vec<Record>, LoadFault>
     ensures records { GivesUnless is_memory (λ records. map seen records.items) result
         (records_in text.now) }
-    ensures few { IfOk result (λ records. length records.items ≤ 67108864) }
+    ensures few { IfOk result (λ records. length records.items ≤ most_lines) }
 {
     if text.len() > MAX_TEXT {
         return Err(LoadFault::Bad {

@@ -6,6 +6,7 @@ ghost use Rattle.ad_schema.specs.Records.{finished};
 ghost use Rattle.ad_load_records.specs.Faults.{is_memory, of_schema};
 ghost use Rattle.ad_load_records.specs.Schema.{line_of, added_if, all_added, schema_of, schema_in};
 ghost use Rattle.ad_load_records.specs.Seen.{held_field, seen};
+ghost use Rattle.ad_load_records.specs.Records.{most_lines};
 
 use crate::fault::{LoadCause, LoadFault};
 use crate::records::{Record, records_in};
@@ -78,7 +79,7 @@ fn finish(builder: Builder) -> Result<Schema, LoadFault>
 
 // The schema of the records, of which there are at most 67,108,864.
 pub fn schema_of(alloc: Global, records: &[Record]) -> Result<Schema, LoadFault>
-    requires { length records.now ≤ 67108864 }
+    requires { length records.now ≤ most_lines }
     ensures { GivesUnless is_memory (λ schema. schema) result (schema_of (map seen records.now)) }
 {
     let mut builder = builder(alloc)?;

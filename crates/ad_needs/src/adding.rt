@@ -11,7 +11,7 @@ ghost use Rattle.ad_dir_model.specs.Tree.{root};
 ghost use Rattle.ad_dir_model.specs.Names.{found};
 ghost use Rattle.ad_access_dir.specs.Sight.{visible_of};
 ghost use Rattle.ad_needs_rules.specs.Checks.{all_met};
-ghost use Rattle.ad_needs_rules.specs.Descriptors.{sd_in_one, asked_parts};
+ghost use Rattle.ad_needs_rules.specs.Descriptors.{sd_in_one};
 ghost use Rattle.ad_schema_defaults.specs.NewClass.{is_schema_class};
 ghost use Rattle.ad_needs.specs.Renaming.{is_typed};
 ghost use Rattle.ad_needs.specs.Adding.{first_part, sent, new_class, new_sd, all_ordinary, own_checks, brings_sacl};
@@ -20,7 +20,6 @@ ghost use Rattle.ad_needs.specs.Additions.{sd_sent, class_judged, below_judged};
 ghost use Rattle.ad_needs_rules.specs.Judged.{refusal_of};
 ghost use Rattle.ad_needs.specs.Verdicts.{verdict_of};
 
-use crate::modify_needs::asked_in;
 use crate::renaming::is_typed;
 use crate::sent::{new_values, sent, unless_all_lawful, unless_named_once};
 use ad_bytes::Bytes;
@@ -29,7 +28,7 @@ use ad_dn::{Dn, Rdn};
 use ad_ids::Token;
 use ad_ldap::{Add, Settings, result_code};
 use ad_needs_rules::{
-    Ask, ROOT, Right, Verdict, asked_parts, class_path, matched, read_name, sd_in_one,
+    Ask, ROOT, Right, Verdict, asked_in, asked_of, class_path, matched, read_name, sd_in_one,
     unless_granted, visible,
 };
 use ad_schema::ClassId;
@@ -82,16 +81,6 @@ fn sd_sent(alloc: Global, add: &Add) -> Result<Option<Option<SdParts>>, AllocErr
     match sent(add, b"nTSecurityDescriptor") {
         Some(values) => some_parts(alloc, values),
         None => Ok(Some(None)),
-    }
-}
-
-// The parts of it that are asked for.
-fn sd_asked(flags: u8, sd: Option<SdParts>) -> Option<SdParts>
-    ensures { result ≡ option_map (asked_parts flags) sd }
-{
-    match sd {
-        Some(parts) => Some(asked_parts(flags, parts)),
-        None => None,
     }
 }
 
@@ -218,7 +207,7 @@ fn judged_with(
     ensures { IfOk result (λ verdict. verdict ≡ class_judged dir.now token.now parent rdn class.0
         add.now flags) }
 {
-    let sd = sd_asked(flags, sd);
+    let sd = asked_of(flags, sd);
     match unless_adds(alloc, dir, token, parent, &rdn, class, add, &sd)? {
         Some(refusal) => Ok(refusal),
         None => {

@@ -9,12 +9,12 @@ ghost use Rattle.ad_needs.specs.Deleting.{to_leave, delete_needs};
 ghost use Rattle.ad_needs_rules.specs.Judged.{refusal_of};
 ghost use Rattle.ad_needs.specs.Verdicts.{verdict_of};
 
-use ad_dir::{Act, Dir};
+use ad_dir::{Act, Dir, class_of, parent_of};
 use ad_ids::Token;
 use ad_ldap::{Settings, result_code};
 use ad_needs_rules::{
-    Ask, ROOT, Right, Verdict, class_of, class_path, matched, parent_of, read_name, unless_either,
-    unless_granted, visible,
+    Ask, ROOT, Right, Verdict, class_path, matched, read_name, unless_either, unless_granted,
+    visible,
 };
 use ad_types::Path;
 use std::alloc::{AllocError, Global};

@@ -13,10 +13,9 @@ ghost use Rattle.ad_needs.specs.ItemWords.{is_kept_from_all, placed_checks};
 
 use crate::items::{has_its_form, replaces_alone};
 use crate::sent::is_object_sid;
-use ad_bytes::Bytes;
-use ad_dir::Dir;
+use ad_dir::{Dir, naming_of};
 use ad_ldap::{Item, result_code};
-use ad_needs_rules::{Verdict, asked_parts, class_of, has_part, is_descriptor, sd_in_one};
+use ad_needs_rules::{Verdict, has_asked_part, is_descriptor};
 use ad_schema::{AttrId, Schema};
 use ad_schema_classes::same_name;
 use std::alloc::{AllocError, Global};
@@ -26,7 +25,7 @@ fn is_naming(dir: &Dir, number: u32, attr: AttrId) -> bool
     requires { is_live dir.now.objects number ≡ true }
     ensures { result ≡ (naming_of dir.now.schema (class_at dir.now number) == attr.0) }
 {
-    dir.schema().class_info(class_of(dir, number)).naming.0 == attr.0
+    naming_of(dir, number).0 == attr.0
 }
 
 fn is_kept_from_all(schema: &Schema, name: &[u8], attr: AttrId) -> bool
@@ -83,16 +82,6 @@ fn ordinary_refusal(
     match dir.schema().attr(name) {
         Some(attr) => placed_refusal(alloc, dir, number, items, name, attr),
         None => Ok(Some(Verdict::Refused(result_code::UNDEFINED_ATTRIBUTE_TYPE))),
-    }
-}
-
-// Whether the one value has a part that is asked for.
-fn has_asked_part(alloc: Global, flags: u8, values: &[Bytes]) -> Result<bool, AllocError>
-    ensures { IfOk result (λ has. has ≡ has_asked_part flags values.now) }
-{
-    match sd_in_one(alloc, values)? {
-        Some(parts) => Ok(has_part(&asked_parts(flags, parts))),
-        None => Ok(false),
     }
 }
 

@@ -8,6 +8,7 @@ ghost use Rattle.ad_needs.specs.ItemWords.{has_its_form};
 ghost use Rattle.ad_ldap.specs.Choices.{replace_values};
 
 use ad_ldap::{ADD_VALUES, DELETE_VALUES, Item, REPLACE_VALUES};
+use ad_needs_rules::is_password;
 use ad_schema_classes::same_name;
 use std::alloc::{AllocError, Global};
 
@@ -47,13 +48,6 @@ pub fn items_of<'a>(
 }
 
 // ---- passwords
-
-/// Whether the attribute of a name is unicodePwd.
-pub fn is_password(name: &[u8]) -> bool
-    ensures { result ≡ is_password name.now }
-{
-    same_name(name, b"unicodePwd")
-}
 
 // Whether an item is this operation with one value.
 fn is_of_one(item: &Item, op: u8) -> bool

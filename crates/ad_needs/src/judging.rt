@@ -34,7 +34,7 @@ pub fn verdict(
     match op {
         Op::Add(add) => add_verdict(alloc, dir, token, add, settings),
         Op::Delete(dn) => delete_verdict(alloc, dir, token, dn.as_slice(), settings),
-        Op::Rename(rename) => rename_verdict(alloc, dir, token, rename, settings),
+        Op::Rename(rename) => rename_verdict(alloc, dir, token, rename),
         Op::Modify(modify) => modify_verdict(alloc, dir, token, modify, settings),
         _ => unreachable!(),
     }

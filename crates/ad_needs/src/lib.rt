@@ -44,7 +44,7 @@ mod sent;
 pub use ad_needs_rules::{Need, Verdict, Want, text};
 pub use adding::{brings_sacl, new_class, new_sd, parent_named};
 pub use first_named::{is_first, none_named};
-pub use items::{is_forced, is_password, items_of};
+pub use items::{is_forced, items_of};
 pub use judging::verdict;
 pub use laws::a_missing_need_names_live_objects;
 pub use modify_needs::{password_right, written_sd};

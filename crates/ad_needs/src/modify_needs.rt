@@ -1,29 +1,24 @@
 //! Modify: what it needs.
 
-ghost use Rattle.std.specs.Prelude.{◌≡◌, ◌<◌, ◌∷◌, [], if◌then◌else◌, true, map, option_map, length, IfOk};
-ghost use Rattle.ad_acl.specs.Mask.{self_write, write_property};
+ghost use Rattle.std.specs.Prelude.{◌≡◌, ◌<◌, if◌then◌else◌, true, map, length, IfOk};
 ghost use Rattle.ad_schema.specs.Attributes.{attrs_of};
 ghost use Rattle.ad_dir_model.specs.Objects.{is_live};
 ghost use Rattle.ad_dir_model.specs.Attributes.{attr_place};
 ghost use Rattle.ad_needs_rules.specs.Checks.{all_met};
-ghost use Rattle.ad_needs_rules.specs.Descriptors.{sd_in_one, asked_parts};
 ghost use Rattle.ad_needs.specs.Modifying.{written_sd, need_if, parts_needs, descriptor_needs, password_needs};
 ghost use Rattle.ad_needs.specs.Modifying.{attr_needs, ordinary_needs};
 ghost use Rattle.ad_needs.specs.Modifying.{items_of, modify_needs, force_change, change};
-ghost use Rattle.ad_needs_rules.specs.Needs.{needs};
-ghost use Rattle.ad_needs_rules.specs.Requests.{class_at, attr_path};
-ghost use Rattle.ad_needs_rules.specs.Judged.{bit_of, asked, refusal_of};
+ghost use Rattle.ad_needs_rules.specs.Judged.{bit_of, refusal_of};
 ghost use Rattle.ad_needs.specs.ItemWords.{needs_if, named_needs};
 
 use crate::first_named::{is_first, none_named};
-use crate::items::{is_forced, is_password, items_of};
-use ad_bytes::Bytes;
+use crate::items::{is_forced, items_of};
 use ad_dir::Dir;
 use ad_ids::{Guid, Token};
 use ad_ldap::Item;
 use ad_needs_rules::{
-    Ask, Right, Verdict, asked_parts, attr_path, class_of, has_owner_or_group, is_descriptor,
-    is_granted, sd_in_one, unless_either, unless_granted, validated_write,
+    Ask, Right, Verdict, asked_in, has_owner_or_group, is_descriptor, is_granted, is_password,
+    to_do, to_write, unless_either, unless_granted, validated_write,
 };
 use ad_schema::AttrId;
 use ad_sd::SdParts;
@@ -47,24 +42,6 @@ const CHANGE: Guid = Guid {
 };
 
 // ---- the descriptor
-
-/// The parts that are asked for of the descriptor in one value, where it reads.
-///
-/// # Errors
-///
-/// Memory ran out.
-pub(crate) fn asked_in(
-    alloc: Global,
-    values: &[Bytes],
-    flags: u8,
-) -> Result<Option<SdParts>, AllocError>
-    ensures { IfOk result (λ sd. sd ≡ option_map (asked_parts flags) (sd_in_one values.now)) }
-{
-    match sd_in_one(alloc, values)? {
-        Some(parts) => Ok(Some(asked_parts(flags, parts))),
-        None => Ok(None),
-    }
-}
 
 /// The parts of the descriptor that are written: those that are asked for, in the first item of it.
 ///
@@ -182,33 +159,6 @@ fn password_refusal(
 }
 
 // ---- attributes
-
-// The right to write an attribute.
-fn to_write(dir: &Dir, number: u32, attr: AttrId) -> Ask
-    requires live { is_live dir.now.objects number ≡ true }
-    requires attr { attr.0 < length (attrs_of dir.now.schema) }
-    ensures object { result.object ≡ number }
-    ensures asked { asked result ≡ needs number write_property
-        (attr_path dir.now.schema (class_at dir.now number) attr.0) }
-{
-    Ask {
-        object: number,
-        right: Right::WriteProperty,
-        path: attr_path(dir.schema(), class_of(dir, number), attr),
-    }
-}
-
-// The right to do a validated write.
-fn to_do(number: u32, guid: Guid) -> Ask
-    ensures object { result.object ≡ number }
-    ensures asked { asked result ≡ needs number self_write (guid ∷ []) }
-{
-    Ask {
-        object: number,
-        right: Right::SelfWrite,
-        path: Path::one(guid),
-    }
-}
 
 // The refusal where neither the right to write the attribute is granted nor that of a validated write, by all of
 // its items.

@@ -3,6 +3,7 @@
 ghost use Rattle.std.specs.Prelude.{◌≡◌, ◌≢◌, ◌<◌, ◌∷◌, [], true, length, codes, IfOk, IfSome};
 ghost use Rattle.std.specs.Option.{option_and_then};
 ghost use Rattle.ad_ldap.specs.MessageValue.{RenameOf};
+ghost use Rattle.ad_ldap.specs.declared.controls.Settings.{Settings};
 ghost use Rattle.ad_schema.specs.Attributes.{attrs_of};
 ghost use Rattle.ad_schema.specs.Classes.{classes_of, naming_of};
 ghost use Rattle.ad_dir_model.specs.Objects.{is_live};
@@ -18,13 +19,13 @@ ghost use Rattle.ad_needs_rules.specs.Judged.{refusal_of};
 ghost use Rattle.ad_needs.specs.Verdicts.{verdict_of};
 
 use crate::deleting::unless_leaves;
-use ad_dir::{Act, Dir, live_object};
+use ad_dir::{Act, Dir, class_of, live_object, naming_of, parent_of};
 use ad_dn::{Dn, Rdn};
 use ad_ids::Token;
-use ad_ldap::{Rename, Settings, result_code};
+use ad_ldap::{Rename, result_code};
 use ad_needs_rules::{
-    Ask, ROOT, Right, Verdict, attr_path, class_of, class_path, goes_with, matched, parent_of,
-    read_name, unless_granted, visible,
+    Ask, ROOT, Right, Verdict, attr_path, class_path, goes_with, matched, read_name,
+    unless_granted, visible,
 };
 use ad_schema::{AttrId, ClassId, Schema};
 use ad_schema_classes::same_name;
@@ -165,15 +166,6 @@ fn unless_names(
     }
 }
 
-// The naming attribute of a live object.
-fn naming_of(dir: &Dir, number: u32) -> AttrId
-    requires { is_live dir.now.objects number ≡ true }
-    ensures naming { result.0 ≡ naming_of dir.now.schema (class_at dir.now number) }
-    ensures in_range { result.0 < length (attrs_of dir.now.schema) }
-{
-    dir.schema().class_info(class_of(dir, number)).naming
-}
-
 // The refusal where what another name needs is missing.
 fn unless_named(
     alloc: Global,
@@ -243,7 +235,7 @@ fn unless_lawful(
 }
 
 // What is said after the names.
-fn judged(
+fn verdict_there(
     alloc: Global,
     dir: &Dir,
     token: &Token,
@@ -277,7 +269,7 @@ fn judged_in_place(
     ensures { IfOk result (λ verdict. verdict ≡ in_place_judged dir.now token.now dn.now.rdns rdn) }
 {
     match visible(alloc, dir, token, dn)? {
-        Some(number) => judged(alloc, dir, token, number, rdn, None),
+        Some(number) => verdict_there(alloc, dir, token, number, rdn, None),
         None => Ok(Verdict::Hidden(matched(alloc, dir, token, dn)?)),
     }
 }
@@ -305,10 +297,10 @@ fn judged_moved(
         let next = matched(alloc, dir, token, &above)?;
         return Ok(Verdict::Hidden(next));
     };
-    judged(alloc, dir, token, number, rdn, Some(parent))
+    verdict_there(alloc, dir, token, number, rdn, Some(parent))
 }
 
-/// The first check that fails of a Rename, up to what it needs; or what it asks for.
+/// The first check that fails of a Rename, up to what it needs; or what it asks for. No control is for it.
 ///
 /// # Errors
 ///
@@ -318,12 +310,10 @@ pub(crate) fn rename_verdict(
     dir: &Dir,
     token: &Token,
     rename: &Rename,
-    settings: &Settings,
 ) -> Result<Verdict, AllocError>
-    ensures { IfOk result (λ verdict. verdict ≡ verdict_of dir.now token.now (RenameOf rename.now)
-        settings.now) }
+    ensures { (settings : Settings) → IfOk result (λ verdict. verdict
+        ≡ verdict_of dir.now token.now (RenameOf rename.now) settings) }
 {
-    let _ = settings;
     let Some(dn) = read_name(alloc, rename.dn.as_slice())? else {
         return Ok(Verdict::Refused(result_code::INVALID_DN_SYNTAX));
     };

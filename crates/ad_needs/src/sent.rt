@@ -20,8 +20,9 @@ ghost use Rattle.ad_ldap.specs.ResultCodes.{attribute_or_value_exists};
 
 use crate::first_named::{is_first_mark, none_sent};
 use ad_bytes::{Bytes, List};
+use ad_dir::{is_named, is_naming};
 use ad_ldap::{Add, result_code};
-use ad_needs_rules::{Verdict, is_descriptor, is_named};
+use ad_needs_rules::{Verdict, is_descriptor};
 use ad_schema::{AttrId, ClassId, RuleAttr, Schema};
 use ad_schema_classes::same_name;
 use std::alloc::{AllocError, Global};
@@ -134,14 +135,6 @@ fn ordinary(schema: &Schema, attr: &(Bytes, List<Bytes>)) -> Option<AttrId>
     } else {
         schema.attr(attr.0.as_slice())
     }
-}
-
-// Whether an attribute shows the naming value of objects of a class.
-fn is_naming(schema: &Schema, class: ClassId, attr: AttrId) -> bool
-    requires { class.0 < length (classes_of schema.now) }
-    ensures { result ≡ is_naming schema.now class.0 attr.0 }
-{
-    is_named(schema, b"name", attr) || schema.class_info(class).naming.0 == attr.0
 }
 
 /// Whether the attribute is objectSid, where that counts.

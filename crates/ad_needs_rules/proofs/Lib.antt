@@ -5,7 +5,6 @@ pub mod Refusing
 pub mod NameChecks
 pub mod SightLaws
 pub mod AboveLaws
-pub mod Paths
 pub mod DescriptorLaws
 pub mod ValidatedLaws
 pub mod StandingLaws

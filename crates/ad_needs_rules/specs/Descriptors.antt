@@ -2,7 +2,8 @@
 use Rattle.std.specs.Prelude.{ℕ, Bool, true, false, ◌||◌, if◌then◌else◌, Option, None, is_some, List, [], ◌∷◌}
 use Rattle.std.specs.Option.{option_map_or, option_and_then}
 use Rattle.std.specs.Result.{result_ok}
-use Rattle.ad_ids.specs.SidValue.{SidValue, contains_sid}
+use Rattle.ad_ids.specs.SidValue.{SidValue}
+use Rattle.ad_ids.specs.Token.{holds}
 use Rattle.ad_ids.specs.declared.token.Token.{Token}
 use Rattle.ad_acl.specs.Mask.{has_bit}
 use Rattle.ad_sd.specs.declared.parts.SdParts.{SdParts}
@@ -41,7 +42,7 @@ has_asked_part flags values = option_map_or (λ parts. has_part (asked_parts fla
 
 -- the token's user, one of its enabled groups, or anyone with the privilege to restore
 abbrev pub may_give : Token → SidValue → Bool
-may_give token sid = contains_sid (token.user ∷ token.groups) sid || has_bit token.privileges restore
+may_give token sid = holds token sid || has_bit token.privileges restore
 
 abbrev pub is_owner_allowed : Token → Option SdParts → Bool
 is_owner_allowed token sd = option_map_or (may_give token) (option_and_then (λ parts. parts.owner) sd) true

@@ -5,6 +5,5 @@ pub mod Requests
 pub mod Descriptors
 pub mod Validated
 -- only for private contracts, invariants and proofs
-pub mod Puts
 pub mod Judged
 pub mod OwnWrites

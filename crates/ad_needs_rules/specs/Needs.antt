@@ -1,19 +1,17 @@
 -- What an operation needs: requirements in order, each with alternatives of which one has to be granted ([MS-ADTS]
 -- 3.1.1.5), and how one that is missing is told.
-use Rattle.std.specs.Prelude.{ℕ, ◌^◌, Bool, ◌==◌, Option, None, Some, codes, List, [], ◌∷◌, ◌++◌, map, if◌then◌else◌}
+use Rattle.std.specs.Prelude.{ℕ, ◌^◌, Bool, codes, List, [], ◌∷◌, ◌++◌, map}
 use Rattle.std.specs.List.{list_any, flat_map}
 use Rattle.ad_ids.specs.declared.guid.Guid.{Guid}
-use Rattle.ad_ids.specs.GuidText.{guid_text}
+use Rattle.ad_ids.specs.GuidText.{guid_or_hyphen}
 use Rattle.ad_ids.specs.declared.token.Token.{Token}
 use Rattle.ad_dir_model.specs.Directory.{Directory}
 use Rattle.ad_dir_model.specs.Names.{name_text}
 use Rattle.ad_access_dir.specs.Sight.{is_granted}
 use Rattle.ad_needs_rules.specs.declared.need.Want.{Want}
 use Rattle.ad_needs_rules.specs.declared.need.Need.{Need}
-use Rattle.ad_acl.specs.Mask.{create_child, delete_child, list_children, self_write, read_property, write_property}
-use Rattle.ad_acl.specs.Mask.{delete_tree, list_object, control_access, delete_object, read_control, write_dac}
-use Rattle.ad_acl.specs.Mask.{write_owner, access_system_security, generic_all, generic_execute, generic_write}
-use Rattle.ad_acl.specs.Mask.{generic_read}
+use Rattle.ad_acl.specs.Codes.{letters_of}
+use Rattle.ad_types.specs.Path.{last_guid}
 
 -- a right on an object, on a path
 pub record Alternative : Type 0 where
@@ -30,11 +28,6 @@ is_met dir token requirement = list_any (λ a. is_granted dir token a.object a.p
 
 -- ---- as it is told
 
-abbrev pub last_guid : List Guid → Option Guid
-last_guid [] = None
-last_guid (guid ∷ []) = Some guid
-last_guid (guid ∷ other ∷ others) = last_guid (other ∷ others)
-
 -- the right as a mask, and the last GUID of the path
 abbrev pub want_of : Alternative → Want
 want_of a = record { object = a.object; right = 2 ^ a.bit; guid = last_guid a.path }
@@ -44,35 +37,9 @@ need_of requirement = record { alternatives = map want_of requirement }
 
 -- ---- as text
 
--- the code of a right, which is none for any other mask
-unfoldable pub code_of : ℕ → List ℕ
-code_of right =
-    if right == 2 ^ create_child then codes "CC" else
-    (if right == 2 ^ delete_child then codes "DC" else
-    (if right == 2 ^ list_children then codes "LC" else
-    (if right == 2 ^ self_write then codes "SW" else
-    (if right == 2 ^ read_property then codes "RP" else
-    (if right == 2 ^ write_property then codes "WP" else
-    (if right == 2 ^ delete_tree then codes "DT" else
-    (if right == 2 ^ list_object then codes "LO" else
-    (if right == 2 ^ control_access then codes "CR" else
-    (if right == 2 ^ delete_object then codes "SD" else
-    (if right == 2 ^ read_control then codes "RC" else
-    (if right == 2 ^ write_dac then codes "WD" else
-    (if right == 2 ^ write_owner then codes "WO" else
-    (if right == 2 ^ access_system_security then codes "AS" else
-    (if right == 2 ^ generic_all then codes "GA" else
-    (if right == 2 ^ generic_execute then codes "GX" else
-    (if right == 2 ^ generic_write then codes "GW" else
-    (if right == 2 ^ generic_read then codes "GR" else [])))))))))))))))))
-
-abbrev pub guid_or_hyphen : Option Guid → List ℕ
-guid_or_hyphen None = codes "-"
-guid_or_hyphen (Some guid) = guid_text guid
-
 -- the code, the GUID, and the name of the object
 unfoldable pub want_text : Directory → Want → List ℕ
-want_text dir want = code_of want.right ++ (codes " "
+want_text dir want = letters_of want.right ++ (codes " "
     ++ (guid_or_hyphen want.guid ++ (codes " at " ++ name_text dir want.object)))
 
 -- each further one after ` or `

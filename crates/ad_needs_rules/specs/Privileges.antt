@@ -1,18 +1,7 @@
--- The places of the privileges of a token (docs/profile/identifiers.md).
+-- The place of the privilege of a token that changes ask for (docs/profile/identifiers.md). Those that decide of rights
+-- stand in ad_access.
 use Rattle.std.specs.Prelude.{ℕ}
-
--- to read and write the SACL of any object
-abbrev pub security : ℕ
-security = 0
-
--- to write the owner of any object
-abbrev pub take_ownership : ℕ
-take_ownership = 1
 
 -- to make anyone an owner
 abbrev pub restore : ℕ
 restore = 2
-
--- the first two, as a byte
-abbrev pub security_and_ownership : ℕ
-security_and_ownership = 3

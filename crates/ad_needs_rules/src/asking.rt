@@ -1,21 +1,26 @@
 //! The rights that operations ask for.
 
-ghost use Rattle.std.specs.Prelude.{◌≡◌, ◌<◌, ◌^◌, true};
+ghost use Rattle.std.specs.Prelude.{◌≡◌, ◌<◌, ◌^◌, ◌∷◌, [], true, length};
+ghost use Rattle.ad_acl.specs.Mask.{self_write, write_property};
+ghost use Rattle.ad_schema.specs.Attributes.{attrs_of};
 ghost use Rattle.ad_types.specs.Path.{guids_of};
 ghost use Rattle.ad_dir_model.specs.Objects.{is_live};
 ghost use Rattle.ad_access_dir.specs.Sight.{is_granted};
-ghost use Rattle.ad_needs_rules.specs.Needs.{last_guid, want_of};
+ghost use Rattle.ad_needs_rules.specs.Needs.{needs, want_of};
+ghost use Rattle.ad_needs_rules.specs.Requests.{class_at, attr_path};
 ghost use Rattle.ad_needs_rules.specs.Judged.{bit_of, asked};
 
+use crate::naming::attr_path;
 use crate::need::Want;
 use ad_access_dir::grants;
 use ad_acl::{
     ACCESS_SYSTEM_SECURITY, CONTROL_ACCESS, CREATE_CHILD, DELETE, DELETE_CHILD, DELETE_TREE,
     SELF_WRITE, WRITE_DAC, WRITE_OWNER, WRITE_PROPERTY,
 };
-use ad_dir::Dir;
+use ad_dir::{Dir, class_of};
 use ad_ids::{Guid, Token};
-use ad_types::Path;
+use ad_schema::AttrId;
+use ad_types::{Path, last_of};
 
 /// A right that an operation can ask for ([MS-ADTS] 5.1.3.2).
 #[derive(Clone, Copy)]
@@ -41,7 +46,7 @@ pub struct Ask {
 }
 
 /// The right as a mask.
-pub(crate) fn mask_of(right: Right) -> u32
+pub fn mask_of(right: Right) -> u32
     ensures mask { result ≡ 2 ^ bit_of right }
     ensures below_generic { bit_of right < 28 }
 {
@@ -59,6 +64,33 @@ pub(crate) fn mask_of(right: Right) -> u32
     }
 }
 
+/// The right to write an attribute of a live object.
+pub fn to_write(dir: &Dir, number: u32, attr: AttrId) -> Ask
+    requires live { is_live dir.now.objects number ≡ true }
+    requires attr { attr.0 < length (attrs_of dir.now.schema) }
+    ensures object { result.object ≡ number }
+    ensures asked { asked result ≡ needs number write_property
+        (attr_path dir.now.schema (class_at dir.now number) attr.0) }
+{
+    Ask {
+        object: number,
+        right: Right::WriteProperty,
+        path: attr_path(dir.schema(), class_of(dir, number), attr),
+    }
+}
+
+/// The right to do a validated write.
+pub fn to_do(number: u32, guid: Guid) -> Ask
+    ensures object { result.object ≡ number }
+    ensures asked { asked result ≡ needs number self_write (guid ∷ []) }
+{
+    Ask {
+        object: number,
+        right: Right::SelfWrite,
+        path: Path::one(guid),
+    }
+}
+
 /// Whether what is asked for is granted on a live object.
 pub fn is_granted(dir: &Dir, token: &Token, ask: &Ask) -> bool
     requires { is_live dir.now.objects ask.now.object ≡ true }
@@ -66,17 +98,6 @@ pub fn is_granted(dir: &Dir, token: &Token, ask: &Ask) -> bool
         (bit_of ask.now.right) }
 {
     grants(dir, token, ask.object, &ask.path, mask_of(ask.right))
-}
-
-// The last GUID of a path, where it has one.
-fn last_of(guids: &[Guid]) -> Option<Guid>
-    ensures { result ≡ last_guid guids.now }
-{
-    let mut last = None;
-    for guid in guids {
-        last = Some(*guid);
-    }
-    last
 }
 
 /// What is told of it where it isn't granted.

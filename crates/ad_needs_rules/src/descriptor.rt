@@ -1,24 +1,16 @@
 //! The descriptor in a request.
 
-ghost use Rattle.std.specs.Prelude.{◌≡◌, IfOk};
+ghost use Rattle.std.specs.Prelude.{◌≡◌, option_map, IfOk};
 ghost use Rattle.std.specs.Result.{result_ok};
 ghost use Rattle.ad_sd.specs.Reading.{parts_of};
 ghost use Rattle.ad_needs_rules.specs.Descriptors.{sd_in_one, part_if, asked_parts, has_owner_or_group, has_part};
-ghost use Rattle.ad_needs_rules.specs.Requests.{is_descriptor};
+ghost use Rattle.ad_needs_rules.specs.Descriptors.{has_asked_part};
 
 use ad_bytes::Bytes;
 use ad_ids::Sid;
 use ad_ldap::{DACL_PART, GROUP_PART, OWNER_PART, SACL_PART};
-use ad_schema_classes::same_name;
 use ad_sd::{AceList, SdFault, SdParts, read_parts};
 use std::alloc::{AllocError, Global};
-
-/// Whether the attribute of a name is nTSecurityDescriptor.
-pub fn is_descriptor(name: &[u8]) -> bool
-    ensures { result ≡ is_descriptor name.now }
-{
-    same_name(name, b"nTSecurityDescriptor")
-}
 
 fn read_sd(alloc: Global, bytes: &[u8]) -> Result<Option<SdParts>, AllocError>
     ensures { IfOk result (λ sd. sd ≡ result_ok (parts_of bytes.now)) }
@@ -68,6 +60,44 @@ pub fn asked_parts(flags: u8, parts: SdParts) -> SdParts
     }
 }
 
+/// Those parts of a descriptor, where there is one.
+pub fn asked_of(flags: u8, sd: Option<SdParts>) -> Option<SdParts>
+    ensures { result ≡ option_map (asked_parts flags) sd }
+{
+    match sd {
+        Some(parts) => Some(asked_parts(flags, parts)),
+        None => None,
+    }
+}
+
+/// The parts that are asked for of the descriptor in one value, where it reads.
+///
+/// # Errors
+///
+/// Memory ran out.
+pub fn asked_in(alloc: Global, values: &[Bytes], flags: u8) -> Result<Option<SdParts>, AllocError>
+    ensures { IfOk result (λ sd. sd ≡ option_map (asked_parts flags) (sd_in_one values.now)) }
+{
+    match sd_in_one(alloc, values)? {
+        Some(parts) => Ok(Some(asked_parts(flags, parts))),
+        None => Ok(None),
+    }
+}
+
+/// Whether the one value has a part that is asked for.
+///
+/// # Errors
+///
+/// Memory ran out.
+pub fn has_asked_part(alloc: Global, flags: u8, values: &[Bytes]) -> Result<bool, AllocError>
+    ensures { IfOk result (λ has. has ≡ has_asked_part flags values.now) }
+{
+    match sd_in_one(alloc, values)? {
+        Some(parts) => Ok(has_part(&asked_parts(flags, parts))),
+        None => Ok(false),
+    }
+}
+
 /// Whether an owner or a group is there.
 pub fn has_owner_or_group(parts: &SdParts) -> bool
     ensures { result ≡ has_owner_or_group parts.now }
@@ -75,8 +105,8 @@ pub fn has_owner_or_group(parts: &SdParts) -> bool
     parts.owner.is_some() || parts.group.is_some()
 }
 
-/// Whether a part is there.
-pub fn has_part(parts: &SdParts) -> bool
+// Whether a part is there.
+fn has_part(parts: &SdParts) -> bool
     ensures { result ≡ has_part parts.now }
 {
     has_owner_or_group(parts) || parts.dacl.is_some() || parts.sacl.is_some()

@@ -17,7 +17,7 @@
 //!
 //! # The caller owes
 //!
-//! Live objects, for `parent_of` another one than the root; classes and attributes of the schema.
+//! Live objects; classes and attributes of the schema.
 //!
 //! # Cost
 //!
@@ -35,11 +35,11 @@ mod standing;
 mod telling;
 mod validated;
 
-pub use asking::{Ask, Right, is_granted};
-pub use descriptor::{asked_parts, has_owner_or_group, has_part, is_descriptor, sd_in_one};
+pub use asking::{Ask, Right, is_granted, mask_of, to_do, to_write};
+pub use descriptor::{asked_in, asked_of, has_asked_part, has_owner_or_group, sd_in_one};
 pub use missing::{unless_either, unless_granted};
 pub use naming::{
-    ROOT, attr_path, class_of, class_path, is_named, matched, parent_of, read_name, visible,
+    ROOT, attr_path, class_path, is_descriptor, is_password, matched, read_name, visible,
 };
 pub use need::{Need, Want};
 pub use outcome::Verdict;

@@ -1,22 +1,21 @@
 //! What the names in a request represent.
 
-ghost use Rattle.std.specs.Prelude.{◌≡◌, ◌≢◌, ◌<◌, ◌≤◌, if◌then◌else◌, true, length, drop, IfOk, IfSome};
+ghost use Rattle.std.specs.Prelude.{◌≡◌, ◌<◌, ◌≤◌, if◌then◌else◌, true, length, drop, IfOk, IfSome};
 ghost use Rattle.ad_dn.specs.Reading.{dn_of};
 ghost use Rattle.ad_types.specs.Path.{guids_of};
 ghost use Rattle.ad_schema.specs.Attributes.{attrs_of};
 ghost use Rattle.ad_schema.specs.Classes.{classes_of};
-ghost use Rattle.ad_dir_model.specs.Attributes.{is_named};
-ghost use Rattle.ad_dir_model.specs.Objects.{is_live, parent_at};
-ghost use Rattle.ad_dir_model.specs.Tree.{root};
+ghost use Rattle.ad_dir_model.specs.Objects.{is_live};
 ghost use Rattle.ad_access_dir.specs.Sight.{if_visible, visible_of, matched};
-ghost use Rattle.ad_needs_rules.specs.Requests.{class_at, class_path, attr_path};
+ghost use Rattle.ad_needs_rules.specs.Requests.{class_path, attr_path, is_descriptor, is_password};
 
 use ad_access_dir::is_visible;
-use ad_dir::{Dir, live_object};
+use ad_dir::Dir;
 use ad_dir_write::guid_of;
 use ad_dn::{Dn, DnFault};
 use ad_ids::Token;
 use ad_schema::{AttrId, ClassId, Schema};
+use ad_schema_classes::same_name;
 use ad_types::{Path, path};
 use std::alloc::{AllocError, Global};
 
@@ -38,27 +37,6 @@ pub fn read_name(alloc: Global, text: &[u8]) -> Result<Option<Dn>, AllocError>
         Err(DnFault::Bad { .. }) => Ok(None),
         Err(DnFault::Memory) => Err(AllocError),
     }
-}
-
-/// The parent of a live object that isn't the root.
-pub fn parent_of(dir: &Dir, number: u32) -> u32
-    requires live { is_live dir.now.objects number ≡ true }
-    requires below { number ≢ root }
-    ensures parent { result ≡ parent_at dir.now.objects number }
-    ensures live { is_live dir.now.objects result ≡ true }
-{
-    dir.stands();
-    live_object(dir, number).parent
-}
-
-/// The class of a live object, which is one of the schema.
-pub fn class_of(dir: &Dir, number: u32) -> ClassId
-    requires { is_live dir.now.objects number ≡ true }
-    ensures class { result.0 ≡ class_at dir.now number }
-    ensures in_range { result.0 < length (classes_of dir.now.schema) }
-{
-    dir.stands();
-    live_object(dir, number).class
 }
 
 // A live object, where the token sees it.
@@ -138,16 +116,20 @@ pub fn matched(alloc: Global, dir: &Dir, token: &Token, dn: &Dn) -> Result<Dn, A
     dn.ancestor(alloc, levels)
 }
 
-// ---- attributes
+// ---- names of attributes
 
-/// Whether the attribute of the name has the place.
-pub fn is_named(schema: &Schema, name: &[u8], attr: AttrId) -> bool
-    ensures { result ≡ is_named schema.now name.now attr.0 }
+/// Whether the attribute of a name is nTSecurityDescriptor.
+pub fn is_descriptor(name: &[u8]) -> bool
+    ensures { result ≡ is_descriptor name.now }
 {
-    match schema.attr(name) {
-        Some(id) => id.0 == attr.0,
-        None => false,
-    }
+    same_name(name, b"nTSecurityDescriptor")
+}
+
+/// Whether the attribute of a name is unicodePwd.
+pub fn is_password(name: &[u8]) -> bool
+    ensures { result ≡ is_password name.now }
+{
+    same_name(name, b"unicodePwd")
 }
 
 // ---- paths

@@ -4,81 +4,17 @@ ghost use Rattle.std.specs.Prelude.{◌≡◌, ◌++◌, All, OnOk, IfOk, true};
 ghost use Rattle.std.specs.Option.{option_copied};
 ghost use Rattle.ad_dir_model.specs.Objects.{is_live};
 ghost use Rattle.ad_dir_model.specs.Names.{name_text};
-ghost use Rattle.ad_needs_rules.specs.Needs.{code_of, guid_or_hyphen, want_text, other_text, others_text, wants_text};
+ghost use Rattle.ad_needs_rules.specs.Needs.{want_text, other_text, others_text, wants_text};
+ghost use Rattle.ad_ids.specs.GuidText.{guid_or_hyphen};
+ghost use Rattle.ad_acl.specs.Codes.{letters_of};
 ghost use Rattle.ad_needs_rules.specs.Needs.{need_text};
-ghost use Rattle.ad_needs_rules.specs.Puts.{Puts};
+ghost use Rattle.ad_bytes.specs.Puts.{Puts};
 
 use crate::need::{Need, Want};
-use ad_acl::{
-    ACCESS_SYSTEM_SECURITY, CONTROL_ACCESS, CREATE_CHILD, DELETE, DELETE_CHILD, DELETE_TREE,
-    GENERIC_ALL, GENERIC_EXECUTE, GENERIC_READ, GENERIC_WRITE, LIST_CHILDREN, LIST_OBJECT,
-    READ_CONTROL, READ_PROPERTY, SELF_WRITE, WRITE_DAC, WRITE_OWNER, WRITE_PROPERTY,
-};
+use ad_acl::letters_of;
 use ad_dir::Dir;
 use ad_ids::Guid;
 use std::alloc::{AllocError, Global};
-
-/// The code of a right, which is none for any other mask.
-#[tactic(auto, unfolding(crate::specs::Needs::code_of))]
-fn code_of(right: u32) -> &'static [u8]
-    ensures { result.now ≡ code_of right }
-{
-    if right == CREATE_CHILD {
-        return b"CC";
-    }
-    if right == DELETE_CHILD {
-        return b"DC";
-    }
-    if right == LIST_CHILDREN {
-        return b"LC";
-    }
-    if right == SELF_WRITE {
-        return b"SW";
-    }
-    if right == READ_PROPERTY {
-        return b"RP";
-    }
-    if right == WRITE_PROPERTY {
-        return b"WP";
-    }
-    if right == DELETE_TREE {
-        return b"DT";
-    }
-    if right == LIST_OBJECT {
-        return b"LO";
-    }
-    if right == CONTROL_ACCESS {
-        return b"CR";
-    }
-    if right == DELETE {
-        return b"SD";
-    }
-    if right == READ_CONTROL {
-        return b"RC";
-    }
-    if right == WRITE_DAC {
-        return b"WD";
-    }
-    if right == WRITE_OWNER {
-        return b"WO";
-    }
-    if right == ACCESS_SYSTEM_SECURITY {
-        return b"AS";
-    }
-    if right == GENERIC_ALL {
-        return b"GA";
-    }
-    if right == GENERIC_EXECUTE {
-        return b"GX";
-    }
-    if right == GENERIC_WRITE {
-        return b"GW";
-    }
-    if right == GENERIC_READ {
-        return b"GR";
-    }
-    b""
-}
 
 /// Puts a piece at the end.
 fn push(into: &mut Vec<u8>, piece: &[u8]) -> Result<(), AllocError>
@@ -117,7 +53,7 @@ fn push_want(alloc: Global, dir: &Dir, into: &mut Vec<u8>, want: &Want) -> Resul
     requires { is_live dir.now.objects want.now.object ≡ true }
     ensures { OnOk result (into.new.items ≡ into.old.items ++ want_text dir.now want.now) }
 {
-    push(into, code_of(want.right))?;
+    push(into, letters_of(want.right))?;
     push(into, b" ")?;
     push_guid(alloc, into, want.guid.as_ref())?;
     push(into, b" at ")?;

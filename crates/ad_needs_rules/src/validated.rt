@@ -12,8 +12,7 @@ ghost use Rattle.ad_needs_rules.specs.Validated.{is_own_host_name, validated_wri
 ghost use Rattle.ad_needs_rules.specs.OwnWrites.{is_valid, write_guid, is_of_computer, write_of, guid_if};
 
 use crate::hosts::{are_own_services, is_full_name};
-use crate::naming::is_named;
-use ad_dir::{Dir, live_object};
+use ad_dir::{Dir, is_named, live_object};
 use ad_dn::{Dn, DnFault};
 use ad_ids::{Guid, Sid, Token};
 use ad_ldap::{DELETE_VALUES, Item, REPLACE_VALUES};

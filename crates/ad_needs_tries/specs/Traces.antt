@@ -10,7 +10,8 @@ use Rattle.ad_needs_rules.specs.declared.need.Want.{Want}
 use Rattle.ad_needs_rules.specs.declared.need.Need.{Need}
 use Rattle.ad_needs_rules.specs.declared.outcome.Verdict.{Verdict}
 use Rattle.ad_needs_rules.specs.declared.outcome.Verdict.TheVariants.{Granted, Refused, Hidden, Missing}
-use Rattle.ad_needs_rules.specs.Needs.{Alternative, last_guid}
+use Rattle.ad_needs_rules.specs.Needs.{Alternative}
+use Rattle.ad_types.specs.Path.{last_guid}
 use Rattle.ad_needs_rules.specs.Requests.{number_named}
 use Rattle.ad_needs.specs.Adding.{parent_number, class_number, new_sd, add_needs}
 use Rattle.ad_needs.specs.Deleting.{delete_needs}

@@ -15,10 +15,10 @@ ghost use Rattle.ad_needs.specs.Renaming.{move_needs, to_write, name_needs, rena
 ghost use Rattle.ad_needs_tries.specs.Steps.{Steps};
 
 use crate::trying::{try_either, try_one};
-use ad_dir::Dir;
+use ad_dir::{Dir, class_of, naming_of, parent_of};
 use ad_ids::Token;
 use ad_needs::brings_sacl;
-use ad_needs_rules::{Ask, Right, attr_path, class_of, class_path, parent_of};
+use ad_needs_rules::{Ask, Right, attr_path, class_path};
 use ad_schema::{AttrId, ClassId};
 use ad_sd::SdParts;
 use ad_types::{Path, Tried};
@@ -212,15 +212,6 @@ fn try_naming(
         Some(attr) => try_writing(into, dir, token, number, attr),
         None => Ok(true),
     }
-}
-
-// The naming attribute of a live object.
-fn naming_of(dir: &Dir, number: u32) -> AttrId
-    requires { is_live dir.now.objects number ≡ true }
-    ensures naming { result.0 ≡ naming_of dir.now.schema (class_at dir.now number) }
-    ensures in_range { result.0 < length (attrs_of dir.now.schema) }
-{
-    dir.schema().class_info(class_of(dir, number)).naming
 }
 
 fn try_named(

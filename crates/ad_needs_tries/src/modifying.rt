@@ -1,13 +1,11 @@
 //! What a Modify requires, tried on a live object.
 
-ghost use Rattle.std.specs.Prelude.{◌≡◌, ◌<◌, ◌∷◌, ◌++◌, [], true, length, map, IfOk};
-ghost use Rattle.ad_acl.specs.Mask.{self_write, write_property, write_dac, access_system_security};
+ghost use Rattle.std.specs.Prelude.{◌≡◌, ◌<◌, ◌++◌, true, length, map, IfOk};
+ghost use Rattle.ad_acl.specs.Mask.{write_dac, access_system_security};
 ghost use Rattle.ad_schema.specs.Attributes.{attrs_of};
 ghost use Rattle.ad_dir_model.specs.Objects.{is_live};
 ghost use Rattle.ad_dir_model.specs.Attributes.{attr_place};
-ghost use Rattle.ad_needs_rules.specs.Needs.{needs};
-ghost use Rattle.ad_needs_rules.specs.Requests.{class_at, attr_path};
-ghost use Rattle.ad_needs_rules.specs.Judged.{bit_of, asked};
+ghost use Rattle.ad_needs_rules.specs.Judged.{bit_of};
 ghost use Rattle.ad_needs.specs.Modifying.{items_of, written_sd, need_if, parts_needs, descriptor_needs};
 ghost use Rattle.ad_needs.specs.Modifying.{password_needs};
 ghost use Rattle.ad_needs.specs.Modifying.{attr_needs, ordinary_needs, modify_needs};
@@ -16,13 +14,12 @@ ghost use Rattle.ad_needs_tries.specs.Steps.{Steps};
 
 use crate::trying::{success, try_either, try_one};
 use ad_dir::Dir;
-use ad_ids::{Guid, Token};
+use ad_ids::Token;
 use ad_ldap::Item;
-use ad_needs::{
-    is_first, is_forced, is_password, items_of, none_named, password_right, written_sd,
-};
+use ad_needs::{is_first, is_forced, items_of, none_named, password_right, written_sd};
 use ad_needs_rules::{
-    Ask, Right, attr_path, class_of, has_owner_or_group, is_descriptor, is_granted, validated_write,
+    Ask, Right, has_owner_or_group, is_descriptor, is_granted, is_password, to_do, to_write,
+    validated_write,
 };
 use ad_schema::AttrId;
 use ad_sd::SdParts;
@@ -138,33 +135,6 @@ fn try_password(
 }
 
 // ---- attributes
-
-// The right to write an attribute.
-fn to_write(dir: &Dir, number: u32, attr: AttrId) -> Ask
-    requires live { is_live dir.now.objects number ≡ true }
-    requires attr { attr.0 < length (attrs_of dir.now.schema) }
-    ensures object { result.object ≡ number }
-    ensures asked { asked result ≡ needs number write_property
-        (attr_path dir.now.schema (class_at dir.now number) attr.0) }
-{
-    Ask {
-        object: number,
-        right: Right::WriteProperty,
-        path: attr_path(dir.schema(), class_of(dir, number), attr),
-    }
-}
-
-// The right to do a validated write.
-fn to_do(number: u32, guid: Guid) -> Ask
-    ensures object { result.object ≡ number }
-    ensures asked { asked result ≡ needs number self_write (guid ∷ []) }
-{
-    Ask {
-        object: number,
-        right: Right::SelfWrite,
-        path: Path::one(guid),
-    }
-}
 
 fn try_validated(
     alloc: Global,

@@ -8,11 +8,11 @@ ghost use Rattle.ad_needs_rules.specs.Requests.{is_name, object_named, number_na
 ghost use Rattle.ad_needs.specs.Adding.{has_parts, parent_named, parent_number, new_class, class_number};
 ghost use Rattle.ad_needs.specs.Renaming.{new_parent};
 
-use ad_dir::Dir;
+use ad_dir::{Dir, parent_of};
 use ad_ids::Token;
 use ad_ldap::{Add, Rename};
 use ad_needs::{new_class, parent_named};
-use ad_needs_rules::{parent_of, read_name, visible};
+use ad_needs_rules::{read_name, visible};
 use ad_schema::ClassId;
 use std::alloc::{AllocError, Global};
 

@@ -3,38 +3,16 @@
 ghost use Rattle.std.specs.Prelude.{◌≡◌, ◌^◌, ◌∷◌, [], true, IfOk};
 ghost use Rattle.ad_dir_model.specs.Objects.{is_live};
 ghost use Rattle.ad_tried.specs.Tried.{tried_value, failure_on};
-ghost use Rattle.ad_needs_rules.specs.Judged.{bit_of, asked};
+ghost use Rattle.ad_needs_rules.specs.Judged.{asked};
 ghost use Rattle.ad_needs_tries.specs.Tries.{success_of};
 ghost use Rattle.ad_needs_tries.specs.Steps.{Steps};
 
-use ad_acl::{
-    ACCESS_SYSTEM_SECURITY, CONTROL_ACCESS, CREATE_CHILD, DELETE, DELETE_CHILD, DELETE_TREE,
-    SELF_WRITE, WRITE_DAC, WRITE_OWNER, WRITE_PROPERTY,
-};
 use ad_dir::Dir;
 use ad_ids::Token;
-use ad_needs_rules::{Ask, Right, is_granted};
+use ad_needs_rules::{Ask, is_granted, mask_of};
 use ad_tried::{failed, succeeded};
 use ad_types::Tried;
 use std::alloc::AllocError;
-
-// The right as a mask.
-fn mask_of(right: Right) -> u32
-    ensures { result ≡ 2 ^ bit_of right }
-{
-    match right {
-        Right::CreateChild => CREATE_CHILD,
-        Right::DeleteChild => DELETE_CHILD,
-        Right::SelfWrite => SELF_WRITE,
-        Right::WriteProperty => WRITE_PROPERTY,
-        Right::DeleteTree => DELETE_TREE,
-        Right::ControlAccess => CONTROL_ACCESS,
-        Right::Delete => DELETE,
-        Right::WriteDac => WRITE_DAC,
-        Right::WriteOwner => WRITE_OWNER,
-        Right::SystemSecurity => ACCESS_SYSTEM_SECURITY,
-    }
-}
 
 /// What is told of a right that is granted.
 pub(crate) fn success(ask: &Ask) -> Tried

@@ -1,15 +1,13 @@
 -- What a text names is there.
 use Rattle.std.proofs.Common.{◌≡◌, ℕ, Bool, true, false, List, [], ◌∷◌, Option, Some, None, inl, inr, refl, sym, ap}
 use Rattle.std.proofs.Common.{subst, ◌∙◌}
-use Rattle.std.specs.Prelude.{◌&&◌, nat_eq, filter, find, reverse, length, drop, if◌then◌else◌, Result, Ok, Err, IfOk}
+use Rattle.std.specs.Prelude.{nat_eq, filter, Result, Ok, Err, IfOk}
 use Rattle.std.specs.Prelude.{codes}
 use Rattle.std.specs.Option.{option_map_or}
-use Rattle.std.proofs.lemmas.Bool.{cases_Bool, and_parts, or_cases, or_left, or_right, eq-eqb}
-use Rattle.std.proofs.lemmas.Option.{none-some, same_Some, cond_some, option_and_then_some}
+use Rattle.std.proofs.lemmas.Bool.{cases_Bool, or_cases, or_left, or_right, eq-eqb}
 use Rattle.ad_bytes.specs.Reading.{GivesUnless}
 use Rattle.ad_ids.specs.SidValue.{SidValue}
 use Rattle.ad_ids.specs.SidFront.{sid_of_text}
-use Rattle.ad_dn.specs.declared.rdn.Rdn.{Rdn}
 use Rattle.ad_dn.specs.declared.rdn.Dn.{Dn}
 use Rattle.ad_dn.specs.Reading.{dn_of}
 use Rattle.ad_value.specs.Value.{Value}
@@ -17,54 +15,17 @@ use Rattle.ad_value.specs.ValueOf.{normal_or_fault}
 use Rattle.ad_value.specs.declared.fault.ValueFault.{ValueFault}
 use Rattle.ad_value.specs.declared.syntax.Syntax.TheVariants as syntax
 use Rattle.ad_dir.specs.Standing.{AreStanding}
-use Rattle.ad_dir_model.specs.Object.{Object}
-use Rattle.ad_dir_model.specs.Objects.{Rise, numbers, is_live}
-use Rattle.ad_dir_model.specs.Tree.{root}
+use Rattle.ad_dir_model.specs.Objects.{numbers, is_live}
 use Rattle.ad_dir_model.specs.Attributes.{attr_place}
 use Rattle.ad_dir_model.specs.Identity.{with_sid}
 use Rattle.ad_dir_model.specs.Directory.{Directory}
 use Rattle.ad_dir_model.specs.Protection.{has}
-use Rattle.ad_dir_model.specs.Names.{rdn_of, rdns_of, same_rdn, begins_with, is_child_named, child_named}
-use Rattle.ad_dir_model.specs.Names.{number_if_typed, child_of_rdn, found_below, found}
-use Rattle.ad_dir_model.proofs.Finding.{live-of, found_first}
+use Rattle.ad_dir_model.specs.Names.{found}
+use Rattle.ad_dir_model.proofs.Named.{found_live}
 use Rattle.ad_principals.specs.declared.fault.NameFault.{NameFault}
 use Rattle.ad_principals.specs.declared.fault.NameFault.TheVariants as name_fault
 use Rattle.ad_principals.specs.Named.{has_text, numbers_with, only_one, account_named, or_no_object, named, is_memory}
 use Rattle.ad_principals.proofs.Identified.{has_numbers, with_sid_has, live_by_sid}
-
--- ---- by its name
-
-child_live : (dir : Directory) (parent m : ℕ) (rdn : Rdn) → Rise dir.objects → child_of_rdn dir parent rdn ≡ Some m
-    → is_live dir.objects m ≡ true
-unfolding child_of_rdn child_named
-child_live dir parent m rdn rise is =
-    option_and_then_some (number_if_typed dir.schema rdn) (find (is_child_named parent rdn.value) dir.objects) m is
-    (λ (o : Object) first typed.
-    let number : o.number ≡ m = (cond_some (same_rdn (rdn_of dir.schema o) rdn) o.number m typed).1 in
-    subst (λ (k : ℕ). is_live dir.objects k ≡ true) number
-    (live-of dir.objects o.number o
-    (found_first (is_child_named parent rdn.value) 0 dir.objects o rise first).live))
-
-below_live : (dir : Directory) (n m : ℕ) (rdns : List Rdn) → Rise dir.objects → is_live dir.objects n ≡ true
-    → found_below dir n rdns ≡ Some m → is_live dir.objects m ≡ true
-unfolding found_below
-below_live dir n m [] rise live is = subst (λ (k : ℕ). is_live dir.objects k ≡ true) (same_Some n m is) live
-below_live dir n m (rdn ∷ rdns) rise live is =
-    option_and_then_some (λ (child : ℕ). found_below dir child rdns) (child_of_rdn dir n rdn) m is
-    (λ (child : ℕ) first rest.
-    below_live dir child m rdns rise (child_live dir n child rdn rise first) rest)
-
-found_live : (dir : Directory) (rdns : List Rdn) (m : ℕ) → Rise dir.objects → found dir rdns ≡ Some m
-    → is_live dir.objects m ≡ true
-unfolding found
-found_live dir rdns m rise is = by_test (reverse (rdns_of dir root)) (reverse rdns)
-    (is_live dir.objects root && begins_with (reverse rdns) (reverse (rdns_of dir root))) refl is
-  where
-    by_test : (top parts : List Rdn) (b : Bool) → (is_live dir.objects root && begins_with parts top) ≡ b
-        → (if b then found_below dir root (drop (length top) parts) else None) ≡ Some m → is_live dir.objects m ≡ true
-    by_test top parts true e is' = below_live dir root m (drop (length top) parts) rise
-        (and_parts (is_live dir.objects root) (begins_with parts top) e).0 is'
-    by_test top parts false e is' = absurd (none-some m is')
 
 -- ---- by the name of an account
 

@@ -12,7 +12,8 @@ use Rattle.ad_dir_model.specs.Object.{no_sid}
 use Rattle.ad_dir_model.specs.Identity.{self_sid}
 use Rattle.ad_dir_model.specs.Directory.{Directory}
 use Rattle.ad_dir_model.specs.Protection.{has}
-use Rattle.ad_principals.specs.Groups.{everyone, authenticated_users, is_security_enabled, has_member, IsIn, IsClosed}
+use Rattle.ad_principals.specs.Groups.{is_security_enabled, has_member, IsIn, IsClosed}
+use Rattle.ad_ids.specs.WellKnown.{everyone, authenticated_users}
 use Rattle.ad_principals.specs.Groups.{IsLeast}
 use Rattle.ad_principals.specs.Membership.{is_group, is_group_of}
 use Rattle.ad_principals.specs.Reaching.{first_with, Takes, IsOfOne, IsReaching}

@@ -6,7 +6,8 @@ use Rattle.std.proofs.lemmas.Option.{same_Some}
 use Rattle.ad_ids.specs.declared.token.Token.{Token}
 use Rattle.ad_ids.specs.SidValue.{SidValue, same_sid, contains_sid}
 use Rattle.ad_dir_model.specs.Directory.{Directory}
-use Rattle.ad_principals.specs.Groups.{everyone, authenticated_users, administrators, primary_of, first_groups, IsIn}
+use Rattle.ad_principals.specs.Groups.{primary_of, first_groups, IsIn}
+use Rattle.ad_ids.specs.WellKnown.{everyone, authenticated_users, administrators}
 use Rattle.ad_principals.specs.Groups.{IsClosed, IsLeast}
 use Rattle.ad_principals.specs.Tokens.{IsTokenOf}
 use Rattle.ad_principals.specs.Alike.{HasTheMembersOf, AreTheSame}

@@ -1,9 +1,10 @@
 -- Who is a principal, and the groups that a directory gives one.
 use Rattle.std.specs.Prelude.{◌≡◌, ℕ, pos, negsuc, nat_lt, ◌^◌, Bool, true, false, ◌==◌, if◌then◌else◌}
-use Rattle.std.specs.Prelude.{filter, is_some, unwrap_or, codes, Option, Some, None, List, [], ◌∷◌}
+use Rattle.std.specs.Prelude.{filter, is_some, unwrap_or, codes, Option, Some, None, List, ◌∷◌}
 use Rattle.std.specs.Int.{bit_at}
 use Rattle.std.specs.Option.{option_map_or, option_and_then}
 use Rattle.ad_ids.specs.SidValue.{SidValue, contains_sid}
+use Rattle.ad_ids.specs.WellKnown.{everyone, authenticated_users, users}
 use Rattle.ad_value.specs.declared.value.Key.{Key}
 use Rattle.ad_value.specs.declared.value.Key.TheVariants as key
 use Rattle.ad_dir_model.specs.Objects.{object_at, numbers}
@@ -22,23 +23,7 @@ is_principal dir number = is_some (self_sid dir number)
 abbrev pub principals : Directory → List ℕ
 principals dir = filter (is_principal dir) (numbers dir.objects)
 
--- ---- identifiers that every principal's token has to do with
-
--- S-1-1-0
-abbrev pub everyone : SidValue
-everyone = record { authority = 1; sub_authorities = 0 ∷ [] }
-
--- S-1-5-11
-abbrev pub authenticated_users : SidValue
-authenticated_users = record { authority = 5; sub_authorities = 11 ∷ [] }
-
--- S-1-5-32-544
-abbrev pub administrators : SidValue
-administrators = record { authority = 5; sub_authorities = 32 ∷ 544 ∷ [] }
-
--- S-1-5-32-545
-abbrev pub users : SidValue
-users = record { authority = 5; sub_authorities = 32 ∷ 545 ∷ [] }
+-- ---- the primary group
 
 -- the number of 32 bits that a value is
 abbrev pub rid_if : ℕ → Option ℕ
@@ -59,10 +44,14 @@ primary_of dir number = unwrap_or (option_and_then (domain_child dir) (primary_r
 
 -- ---- groups
 
--- the bit of groups that count for access, 0x80000000, of a number in two's complement
+-- the place of the bit of groupType of groups that count for access
+abbrev pub security_enabled : ℕ
+security_enabled = 31
+
+-- that bit, of a number in two's complement
 abbrev pub has_security_bit : Key → Bool
-has_security_bit (key.Number (pos n)) = bit_at n 31 == 1
-has_security_bit (key.Number (negsuc n)) = bit_at n 31 == 0
+has_security_bit (key.Number (pos n)) = bit_at n security_enabled == 1
+has_security_bit (key.Number (negsuc n)) = bit_at n security_enabled == 0
 has_security_bit (key.Bytes bytes) = false
 
 -- a group counts for access where it has no groupType, or one with that bit

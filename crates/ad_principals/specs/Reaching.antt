@@ -5,7 +5,8 @@ use Rattle.ad_dir_model.specs.Object.{no_sid}
 use Rattle.ad_dir_model.specs.Identity.{self_sid}
 use Rattle.ad_dir_model.specs.Protection.{has}
 use Rattle.ad_dir_model.specs.Directory.{Directory}
-use Rattle.ad_principals.specs.Groups.{everyone, authenticated_users, IsIn, IsReached}
+use Rattle.ad_principals.specs.Groups.{IsIn, IsReached}
+use Rattle.ad_ids.specs.WellKnown.{everyone, authenticated_users}
 
 -- the first groups, with this primary group
 abbrev pub first_with : SidValue → List SidValue → List SidValue

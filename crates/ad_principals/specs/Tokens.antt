@@ -11,7 +11,8 @@ use Rattle.ad_dir_model.specs.Identity.{self_sid}
 use Rattle.ad_dir_model.specs.Directory.{Directory}
 use Rattle.ad_principals.specs.declared.fault.TokenFault.{TokenFault}
 use Rattle.ad_principals.specs.declared.fault.TokenFault.TheVariants as fault
-use Rattle.ad_principals.specs.Groups.{primary_of, administrators, first_groups, IsReached, IsLeast}
+use Rattle.ad_principals.specs.Groups.{primary_of, first_groups, IsReached, IsLeast}
+use Rattle.ad_ids.specs.WellKnown.{administrators}
 
 -- ---- a list in rising order
 
@@ -26,6 +27,17 @@ SidsRise (sid ∷ sids) = AllByRecursion (λ other. is_before sid other ≡ true
 
 -- ---- the token
 
+-- the version of a token that may have marks and restricting identifiers
+abbrev pub token_version : ℕ
+token_version = 2
+
+abbrev pub max_groups : ℕ
+max_groups = 1024
+
+-- the privileges to read and write the SACL (bit 0) and to take ownership (bit 1)
+abbrev pub privileges_of_administrators : ℕ
+privileges_of_administrators = 3
+
 -- Version 2; the user owns what it makes, and has its primary group. The groups are those of the least set but for
 -- the user's own identifier, in rising order of their bytes. Who is in Administrators has the privileges to read and
 -- write the SACL and to take ownership, and no one else has any. No group only denies, and nothing is
@@ -37,11 +49,11 @@ pub record IsTokenOf (dir : Directory) (number : ℕ) (extra : List SidValue) (t
   pub groups : (sid : SidValue)
       → contains_sid token.groups sid ≡ (contains_sid set sid && not (same_sid sid token.user))
   pub rise : SidsRise token.groups
-  pub few : length token.groups ≤ 1024
-  pub version : token.version ≡ 2
+  pub few : length token.groups ≤ max_groups
+  pub version : token.version ≡ token_version
   pub owner : token.owner ≡ token.user
   pub primary : token.primary ≡ primary_of dir number
-  pub privileges : token.privileges ≡ (if contains_sid set administrators then 3 else 0)
+  pub privileges : token.privileges ≡ (if contains_sid set administrators then privileges_of_administrators else 0)
   pub deny_only : token.deny_only ≡ []
   pub restricting : token.restricting ≡ []
 
@@ -56,7 +68,7 @@ pub record HasTooManyGroups (dir : Directory) (number : ℕ) (extra : List SidVa
   pub reached : (sid : SidValue) → contains_sid groups sid ≡ true
       → IsReached dir user (first_groups dir number extra) sid
   pub others : (sid : SidValue) → contains_sid groups sid ≡ true → same_sid sid user ≡ false
-  pub many : 1024 < length groups
+  pub many : max_groups < length groups
 
 -- the fault is this one's
 abbrev pub IsTokenFault : Directory → ℕ → List SidValue → TokenFault → Type 0

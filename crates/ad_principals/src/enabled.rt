@@ -8,13 +8,16 @@ use crate::values::first_value;
 use ad_dir::Dir;
 use ad_value::Value;
 
-// Whether a number has the bit 0x80000000 in two's complement.
+// The place of the bit of groupType of groups that count for access.
+const SECURITY_ENABLED: u32 = 31;
+
+// Whether a number has that bit in two's complement.
 fn has_bit(number: i64) -> bool
     ensures { result ≡ has_security_bit (key.Number number) }
 {
     match u64::try_from(number) {
-        Ok(number) => (number >> 31) % 2 == 1,
-        Err(_) => (((-(number + 1)) as u64) >> 31) % 2 == 0,
+        Ok(number) => (number >> SECURITY_ENABLED) % 2 == 1,
+        Err(_) => (((-(number + 1)) as u64) >> SECURITY_ENABLED) % 2 == 0,
     }
 }
 

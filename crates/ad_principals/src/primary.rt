@@ -3,7 +3,7 @@
 ghost use Rattle.std.specs.Prelude.{◌≡◌};
 ghost use Rattle.std.specs.Option.{option_copied, option_and_then};
 ghost use Rattle.ad_dir_model.specs.Identity.{domain_child};
-ghost use Rattle.ad_principals.specs.Groups.{rid_in, primary_rid, primary_of, users};
+ghost use Rattle.ad_principals.specs.Groups.{rid_in, primary_rid, primary_of};
 
 use crate::values::first_value;
 use ad_dir::Dir;
@@ -49,16 +49,6 @@ fn domain_child(dir: &Dir, rid: u32) -> Option<Sid>
     }
 }
 
-// S-1-5-32-545
-fn users() -> Sid
-    ensures { result ≡ users }
-{
-    match Sid::well_known(5, 32).child(545) {
-        Some(sid) => sid,
-        None => unreachable!(),
-    }
-}
-
 /// The primary group of an object: the domain's identifier with its primaryGroupID, or else Users.
 #[tactic(auto, unfolding(crate::specs::Groups::primary_of))]
 pub(crate) fn primary_of(dir: &Dir, number: u32) -> Sid
@@ -67,8 +57,8 @@ pub(crate) fn primary_of(dir: &Dir, number: u32) -> Sid
     match primary_rid(dir, number) {
         Some(rid) => match domain_child(dir, rid) {
             Some(sid) => sid,
-            None => users(),
+            None => Sid::users(),
         },
-        None => users(),
+        None => Sid::users(),
     }
 }

@@ -1,17 +1,22 @@
 //! The least set of groups, by a work list.
 
-ghost use Rattle.std.specs.Prelude.{◌≡◌, ◌≤◌, [], true, length, IfOk};
+ghost use Rattle.std.specs.Prelude.{◌≡◌, ◌≤◌, ◌+◌, [], true, length, IfOk};
 ghost use Rattle.ad_ids.specs.SidValue.{SidValue, contains_sid};
 ghost use Rattle.ad_principals.specs.Groups.{IsReached, IsLeast};
 ghost use Rattle.ad_principals.specs.Membership.{AreMembersOf};
 ghost use Rattle.ad_principals.specs.Reaching.{Takes, first_with};
+ghost use Rattle.ad_principals.specs.Tokens.{max_groups};
 
 use crate::members::Members;
 use crate::taking::{take, take_all, take_groups_of};
+use crate::token::MAX_GROUPS;
 use ad_dir::Dir;
 use ad_ids::Sid;
 use indexmap::IndexSet;
 use std::alloc::{AllocError, Global};
+
+// The most groups of a token, and the user.
+const MAX_SET: usize = MAX_GROUPS + 1;
 
 // Everyone, Authenticated Users, the primary group, and the identifiers that were given.
 fn first_groups(alloc: Global, primary: &Sid, extra: &[Sid]) -> Result<IndexSet<Sid>, AllocError>
@@ -40,13 +45,13 @@ pub(crate) fn reached(
     requires { AreMembersOf dir.now members.now }
     ensures each { IfOk result (λ set. (sid : SidValue) → contains_sid set.keys sid ≡ true
         → IsReached dir.now user.now (first_with primary.now extra.now) sid) }
-    ensures least { IfOk result (λ set. length set.keys ≤ 1025
+    ensures least { IfOk result (λ set. length set.keys ≤ max_groups + 1
         → IsLeast dir.now user.now (first_with primary.now extra.now) set.keys) }
 {
     let mut set = first_groups(alloc, primary, extra)?;
     take_groups_of(&mut set, dir, members, user)?;
     let mut done = 0;
-    'groups: while done < set.len() && set.len() <= 1025 {
+    'groups: while done < set.len() && set.len() <= MAX_SET {
         let sid = set.as_slice()[done];
         take_groups_of(&mut set, dir, members, &sid)?;
         done += 1;

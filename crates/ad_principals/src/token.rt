@@ -3,8 +3,8 @@
 ghost use Rattle.std.specs.Prelude.{◌≡◌, Some, if◌then◌else◌, IfOk, IfErr};
 ghost use Rattle.ad_ids.specs.SidValue.{contains_sid};
 ghost use Rattle.ad_dir_model.specs.Identity.{self_sid};
-ghost use Rattle.ad_principals.specs.Groups.{administrators};
-ghost use Rattle.ad_principals.specs.Tokens.{IsTokenOf, IsTokenFault};
+ghost use Rattle.ad_ids.specs.WellKnown.{administrators};
+ghost use Rattle.ad_principals.specs.Tokens.{IsTokenOf, IsTokenFault, privileges_of_administrators};
 ghost use Rattle.ad_principals.specs.Membership.{AreMembersOf};
 
 use crate::fault::TokenFault;
@@ -17,26 +17,23 @@ use ad_ids::{SECURITY, Sid, Sids, TAKE_OWNERSHIP, Token};
 use indexmap::IndexSet;
 use std::alloc::Global;
 
-// S-1-5-32-544
-fn administrators() -> Sid
-    ensures { result ≡ administrators }
-{
-    match Sid::well_known(5, 32).child(544) {
-        Some(sid) => sid,
-        None => unreachable!(),
-    }
-}
-
 // The privileges of who has these groups.
 fn privileges(set: &IndexSet<Sid>) -> u8
-    ensures { result ≡ (if contains_sid set.now.keys administrators then 3 else 0) }
+    ensures { result ≡ (if contains_sid set.now.keys administrators
+        then privileges_of_administrators else 0) }
 {
-    if set.contains(&administrators()) {
+    if set.contains(&Sid::administrators()) {
         SECURITY + TAKE_OWNERSHIP
     } else {
         0
     }
 }
+
+// The version of a token that may have marks and restricting identifiers.
+const VERSION: u8 = 2;
+
+/// The most groups of a token.
+pub(crate) const MAX_GROUPS: usize = 1024;
 
 // The token of a user that is the object of the number.
 fn token_by(
@@ -55,11 +52,11 @@ fn token_by(
     let primary = primary_of(dir, number);
     let set = reached(alloc, dir, members, user, &primary, extra)?;
     let groups = rising(others(alloc, set.as_slice(), user)?);
-    if groups.len() > 1024 {
+    if groups.len() > MAX_GROUPS {
         return Err(TokenFault::TooMany);
     }
     Ok(Token {
-        version: 2,
+        version: VERSION,
         privileges: privileges(&set),
         user: *user,
         owner: *user,

@@ -17,7 +17,7 @@ use Rattle.ad_dir_objects.specs.declared.edit.Edit.{Edit as EditIn}
 use Rattle.ad_dir_objects.specs.declared.edit.Edit.TheVariants as edit
 use Rattle.ad_dir_objects.specs.declared.object.Object.{Object as ObjectIn}
 use Rattle.ad_dir.specs.Applying.{MayApplyAll}
-use Rattle.ad_dir.specs.Conditions.{HasNormal, May, MayApply, MayPut, MayPend}
+use Rattle.ad_dir.specs.Conditions.{HasNormal, May, MayApply, MayPut, MayPend, AreEdits}
 use Rattle.ad_dir_objects.specs.Seen.{object_seen, edit_seen}
 use Rattle.ad_dir.proofs.AllMay.{MayAll, may_all}
 use Rattle.ad_dir.proofs.Replacing.{IsAlike, alike_itself, may_put}
@@ -34,7 +34,7 @@ use Rattle.ad_dir_model.proofs.Finding.{of-live, at_number}
 use Rattle.ad_dir_model.proofs.PendingLaws.{AreLive}
 use Rattle.ad_dir_model.proofs.StepSound.{IsNext, next_is, child_below, sid_with_sd, step_sound}
 use Rattle.ad_prop.specs.Step.{MakeStep, MakeStepBeside, TakesTurn}
-use Rattle.ad_prop.specs.Turn.{IsTurn, AreEdits, AreAllEdits, IsGiven}
+use Rattle.ad_prop.specs.Turn.{IsTurn, AreAllEdits, IsGiven}
 use Rattle.ad_prop.specs.declared.turning.Turn.{Turn}
 use Rattle.ad_prop.specs.declared.turning.Turn.TheVariants as turn_is
 

@@ -1,6 +1,5 @@
 -- A child whose turn it is, and what edits are in the directory's model.
-use Rattle.std.specs.Prelude.{◌≡◌, ◌≢◌, ℕ, ◌<◌, true, List, [], ◌∷◌, ◌++◌, length, map}
-use Rattle.std.specs.List.{AllByRecursion}
+use Rattle.std.specs.Prelude.{◌≡◌, ◌≢◌, ℕ, ◌<◌, true, List, [], ◌∷◌, ◌++◌, length}
 use Rattle.ad_schema.specs.Classes.{classes_of}
 use Rattle.prop_queue.specs.declared.pending.Pending.{Pending}
 use Rattle.ad_dir_objects.specs.declared.edit.Edit.{Edit as EditIn}
@@ -8,7 +7,7 @@ use Rattle.ad_dir.specs.Conditions.{HasNormal}
 use Rattle.ad_dir_objects.specs.Seen.{edit_seen}
 use Rattle.ad_dir_model.specs.Objects.{object_at, is_live, parent_at}
 use Rattle.ad_dir_model.specs.Tree.{root}
-use Rattle.ad_dir_model.specs.Directory.{Directory, Edit, put_queue}
+use Rattle.ad_dir_model.specs.Directory.{Directory, put_queue}
 use Rattle.ad_dir_model.specs.Inheritance.{whole_at}
 use Rattle.ad_prop.specs.declared.turning.Turn.{Turn}
 use Rattle.ad_prop.specs.declared.turning.Turn.TheVariants as turn
@@ -19,11 +18,6 @@ pub record IsTurn (dir : Directory) (child : ℕ) : Type 0 where
   pub below : child ≢ root
   pub parent_live : is_live dir.objects (parent_at dir.objects child) ≡ true
   pub class : (object_at dir.objects child).class < length (classes_of dir.schema)
-
--- the edits are these, and the bytes of descriptors are normal
-pub record AreEdits (seen : List Edit) (edits : List EditIn) : Type 0 where
-  pub are : map edit_seen edits ≡ seen
-  pub normal : AllByRecursion HasNormal edits
 
 -- the edits with one more, that of the list
 abbrev pub AreAllEdits : List EditIn → List Pending → List EditIn → Type 0

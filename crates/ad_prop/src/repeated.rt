@@ -30,7 +30,7 @@ fn is_of(bytes: &Vec<u8>, sd: SdView<'_>) -> bool
 }
 
 // The descriptor that was computed, where it was made of these.
-fn made<'a>(
+fn same_as_last<'a>(
     last: &'a Option<WholeSd>,
     above: SdView<'_>,
     own: SdView<'_>,
@@ -58,7 +58,7 @@ fn bytes_of(alloc: Global, sd: SdView<'_>) -> Result<Vec<u8>, AllocError>
 }
 
 // A descriptor with what it was computed of.
-fn kept(
+fn with_its_parts(
     alloc: Global,
     above: SdView<'_>,
     own: SdView<'_>,
@@ -102,7 +102,7 @@ fn make(
     ensures { IfOk result (λ sd. sd ≡ whole (seen above.entry) (seen own.entry) class) }
 {
     let sd = computed(alloc, above, own, class)?;
-    let made = kept(alloc, above, own, class, &sd)?;
+    let made = with_its_parts(alloc, above, own, class, &sd)?;
     *last = Some(made);
     Ok(sd)
 }
@@ -117,7 +117,7 @@ pub(crate) fn whole_again(
 ) -> Result<NormalSd, AllocError>
     ensures { IfOk result (λ sd. sd ≡ whole (seen above.entry) (seen own.entry) class) }
 {
-    if let Some(sd) = made(last, above, own, class) {
+    if let Some(sd) = same_as_last(last, above, own, class) {
         return sd.copy(alloc);
     }
     make(alloc, last, above, own, class)

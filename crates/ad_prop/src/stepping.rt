@@ -8,11 +8,12 @@ ghost use Rattle.ad_dir_model.specs.Directory.{put_object, with_pending};
 ghost use Rattle.ad_dir_model.specs.Inheritance.{settled, marked_if_changed};
 ghost use Rattle.ad_dir_model.specs.Soundness.{IsSound};
 ghost use Rattle.ad_prop.specs.Step.{MakeStep, MakeStepBeside};
-ghost use Rattle.ad_prop.specs.Turn.{IsTurn, AreEdits, AreAllEdits};
+ghost use Rattle.ad_prop.specs.Turn.{IsTurn, AreAllEdits};
+ghost use Rattle.ad_dir.specs.Conditions.{AreEdits};
 
 use crate::child::whole_of;
-use ad_dir::{Dir, Edit};
-use ad_dir_write::{copied, is_another, live_object, mark_if};
+use ad_dir::{Dir, Edit, live_object};
+use ad_dir_write::{copied, is_another, mark_if};
 use prop_queue::{Pending, Queue};
 use std::alloc::{AllocError, Global};
 

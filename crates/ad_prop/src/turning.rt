@@ -11,8 +11,8 @@ ghost use Rattle.ad_prop.specs.Step.{TakesTurn};
 ghost use Rattle.ad_prop.specs.Turn.{IsTurn, IsGiven};
 
 use crate::repeated::{WholeSd, whole_again};
-use ad_dir::Dir;
-use ad_dir_write::{guid_of, is_another, live_object, live_sd, mark_if};
+use ad_dir::{Dir, live_object, live_sd};
+use ad_dir_write::{guid_of, is_another, mark_if};
 use ad_sd::NormalSd;
 use prop_queue::{Pending, Queue};
 use std::alloc::{AllocError, Global};

@@ -27,7 +27,8 @@ use Rattle.ad_dir_model.specs.Soundness.{IsSound}
 use Rattle.ad_dir_model.proofs.Running.{protected_live}
 use Rattle.ad_dir_model.proofs.RunEdits.{run_edited}
 use Rattle.ad_dir_model.proofs.SecondRun.{second_run}
-use Rattle.ad_protect.specs.Putting.{AreEdits, AreRunEdits, puts_of}
+use Rattle.ad_protect.specs.Putting.{AreRunEdits, puts_of}
+use Rattle.ad_dir.specs.Conditions.{AreEdits}
 use Rattle.ad_protect.specs.Run.{MakeRun}
 use Rattle.ad_protect.proofs.Applying.{run_may, none_marked}
 

@@ -12,7 +12,7 @@ use Rattle.prop_queue.specs.declared.pending.Pending.{Pending}
 use Rattle.prop_queue.specs.Pending.{marked}
 use Rattle.ad_dir_objects.specs.declared.object.Stored.{Stored as StoredIn}
 use Rattle.ad_dir_objects.specs.declared.edit.Edit.{Edit as EditIn}
-use Rattle.ad_dir.specs.Conditions.{HasNormal}
+use Rattle.ad_dir.specs.Conditions.{HasNormal, AreEdits}
 use Rattle.ad_dir_objects.specs.Seen.{stored_seen, edit_seen}
 use Rattle.ad_dir_model.specs.Object.{is_link_to, names}
 use Rattle.ad_dir_model.specs.Objects.{is_live, sd_at}
@@ -22,7 +22,7 @@ use Rattle.ad_dir_model.specs.SameSd.{same_sd}
 use Rattle.ad_dir_model.specs.Protection.{has, begins_protection, changes}
 use Rattle.ad_dir_model.specs.Edits.{protecting, all_marked}
 use Rattle.ad_protect.specs.Spreading.{Takes, IsTableOf, Notes, primary_at}
-use Rattle.ad_protect.specs.Putting.{AreEdits, puts_of}
+use Rattle.ad_protect.specs.Putting.{puts_of}
 use Rattle.ad_protect.proofs.Sets.{or_false, has_append, takes_more, takes_same}
 use Rattle.ad_protect.proofs.Tables.{table_more}
 use Rattle.ad_protect.proofs.Applying.{marks_more, marks_done}

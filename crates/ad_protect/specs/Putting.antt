@@ -1,12 +1,10 @@
 -- What a run puts, and what it is told by: the bytes of a descriptor, and an attribute with its value.
 use Rattle.std.specs.Prelude.{◌≡◌, ℕ, List, [], length, map, filter}
-use Rattle.std.specs.List.{AllByRecursion}
 use Rattle.std.specs.Option.{option_map}
 use Rattle.ad_sd.specs.declared.parts.Sd.{Sd}
 use Rattle.ad_sd.specs.SdIn.{sd_in}
 use Rattle.ad_dir_objects.specs.declared.edit.Edit.{Edit as EditIn}
-use Rattle.ad_dir.specs.Conditions.{HasNormal, IsNormal}
-use Rattle.ad_dir_objects.specs.Seen.{edit_seen}
+use Rattle.ad_dir.specs.Conditions.{AreEdits, IsNormal}
 use Rattle.ad_dir_model.specs.Directory.{Directory, Edit, put_object}
 use Rattle.ad_dir_model.specs.Protection.{Mark, admin_count, changes}
 use Rattle.ad_dir_model.specs.Edits.{protecting, protect_edits}
@@ -24,11 +22,6 @@ sd_given given = sd_in given.sd.items
 pub record IsGiven (dir : Directory) (given : Given) : Type 0 where
   pub normal : IsNormal given.sd.items
   pub mark : option_map mark_seen given.mark ≡ admin_count dir.schema
-
--- the edits are these, and the bytes of descriptors are normal
-pub record AreEdits (seen : List Edit) (edits : List EditIn) : Type 0 where
-  pub are : map edit_seen edits ≡ seen
-  pub normal : AllByRecursion HasNormal edits
 
 -- what is put of those of these objects that change
 abbrev pub puts_of : Directory → Sd → List ℕ → List Edit

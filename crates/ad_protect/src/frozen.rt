@@ -7,8 +7,7 @@ ghost use Rattle.ad_dir_model.specs.Objects.{sd_at, is_live};
 ghost use Rattle.ad_dir_model.specs.Protection.{frozen_entry, frozen};
 
 use ad_acl::{Ace, Aces};
-use ad_dir::Dir;
-use ad_dir_write::live_sd;
+use ad_dir::{Dir, live_sd};
 use ad_sd::{AceList, Entries, Sd, normal};
 use std::alloc::{AllocError, Global};
 

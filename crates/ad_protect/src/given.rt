@@ -9,8 +9,8 @@ ghost use Rattle.ad_protect.specs.Putting.{mark_seen, sd_given, IsGiven};
 
 use crate::frozen::frozen;
 use crate::mark::{Mark, admin_count, is_one_value};
-use ad_dir::{Dir, stored_of};
-use ad_dir_write::{is_another, live_object};
+use ad_dir::{Dir, live_object, stored_of};
+use ad_dir_write::is_another;
 use std::alloc::{AllocError, Global};
 
 /// The normal bytes of a descriptor, and adminCount where the schema has it.

@@ -25,6 +25,7 @@
 mod adding;
 mod frozen;
 mod given;
+mod group;
 mod mark;
 mod marks;
 mod primary;

@@ -9,8 +9,7 @@ ghost use Rattle.ad_dir_model.specs.Objects.{is_live};
 ghost use Rattle.ad_dir_model.specs.Protection.{number_in};
 ghost use Rattle.ad_protect.specs.Spreading.{primary_at, listed, IsTableOf, Notes};
 
-use ad_dir::{Dir, first_of};
-use ad_dir_write::live_object;
+use ad_dir::{Dir, first_of, live_object};
 use ad_schema::RuleAttr;
 use ad_value::Value;
 use indexmap::IndexMap;
@@ -94,7 +93,7 @@ pub(crate) fn table_of(alloc: Global, dir: &Dir, numbers: &[u32]) -> Result<Tabl
 }
 
 /// The numbers that the table has at a primaryGroupID.
-pub(crate) fn listed(table: &Table, rid: u64) -> &[u32]
+pub(crate) fn numbers_at(table: &Table, rid: u64) -> &[u32]
     ensures { result.now ≡ listed table.entry.now rid }
 {
     match table.get(&rid) {

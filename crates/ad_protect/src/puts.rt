@@ -4,19 +4,18 @@ ghost use Rattle.std.specs.Prelude.{◌≡◌, true, Some, map, if◌then◌else
 ghost use Rattle.std.specs.List.{AllByRecursion};
 ghost use Rattle.std.specs.Option.{option_map};
 ghost use Rattle.ad_sd.specs.declared.parts.Sd.{Sd as SdValue};
-ghost use Rattle.ad_dir.specs.Conditions.{HasNormal};
+ghost use Rattle.ad_dir.specs.Conditions.{HasNormal, AreEdits};
 ghost use Rattle.ad_dir_objects.specs.Seen.{object_seen, edit_seen};
 ghost use Rattle.ad_dir_model.specs.Objects.{object_at, sd_at, is_live};
 ghost use Rattle.ad_dir_model.specs.Directory.{put_object};
 ghost use Rattle.ad_dir_model.specs.Protection.{has_mark, with_mark};
 ghost use Rattle.ad_dir_model.specs.Edits.{protecting};
-ghost use Rattle.ad_protect.specs.Putting.{mark_seen, sd_given, IsGiven, AreEdits, puts_of};
+ghost use Rattle.ad_protect.specs.Putting.{mark_seen, sd_given, IsGiven, puts_of};
 
 use crate::adding::with_mark;
 use crate::given::{Given, changes, is_marked};
 use crate::mark::Mark;
-use ad_dir::{Dir, Edit, Object};
-use ad_dir_write::live_object;
+use ad_dir::{Dir, Edit, Object, live_object};
 use std::alloc::{AllocError, Global};
 
 // The object with the mark, where there is one and it hasn't got it.

@@ -8,6 +8,7 @@ ghost use Rattle.ad_dir_model.specs.Settings.{taken_out};
 ghost use Rattle.ad_dir_model.specs.Protection.{is_builtin, is_of_domain, begins_protection, is_protected_alone};
 ghost use Rattle.ad_protect.specs.Spreading.{is_below, is_number};
 
+use crate::group;
 use ad_dir::Dir;
 use ad_ids::Sid;
 
@@ -80,14 +81,19 @@ pub(crate) fn begins(dir: &Dir, out: u8, number: u32) -> bool
 {
     let builtin = builtin_number(dir.self_sid(number));
     let domain = domain_number(dir, number);
-    is_number(builtin, 544)
-        || (is_number(builtin, 552)
-            || ((is_number(builtin, 548) && !has_bit(out, 0))
-                || ((is_number(builtin, 549) && !has_bit(out, 1))
-                    || ((is_number(builtin, 550) && !has_bit(out, 2))
-                        || ((is_number(builtin, 551) && !has_bit(out, 3))
-                            || (is_number(domain, 512)
-                                || (is_number(domain, 518) || is_number(domain, 519))))))))
+    is_number(builtin, group::ADMINISTRATORS)
+        || (is_number(builtin, group::REPLICATOR)
+            || ((is_number(builtin, group::ACCOUNT_OPERATORS)
+                && !has_bit(out, group::ACCOUNT_OPERATORS_BIT))
+                || ((is_number(builtin, group::SERVER_OPERATORS)
+                    && !has_bit(out, group::SERVER_OPERATORS_BIT))
+                    || ((is_number(builtin, group::PRINT_OPERATORS)
+                        && !has_bit(out, group::PRINT_OPERATORS_BIT))
+                        || ((is_number(builtin, group::BACKUP_OPERATORS)
+                            && !has_bit(out, group::BACKUP_OPERATORS_BIT))
+                            || (is_number(domain, group::DOMAIN_ADMINS)
+                                || (is_number(domain, group::SCHEMA_ADMINS)
+                                    || is_number(domain, group::ENTERPRISE_ADMINS))))))))
 }
 
 // Whether the object is protected, and spreads nothing.
@@ -96,6 +102,8 @@ pub(crate) fn is_alone(dir: &Dir, number: u32) -> bool
     ensures { result ≡ is_protected_alone dir.now (self_sid dir.now number) }
 {
     let domain = domain_number(dir, number);
-    is_number(domain, 500)
-        || (is_number(domain, 502) || (is_number(domain, 516) || is_number(domain, 521)))
+    is_number(domain, group::ADMINISTRATOR)
+        || (is_number(domain, group::KRBTGT)
+            || (is_number(domain, group::DOMAIN_CONTROLLERS)
+                || is_number(domain, group::READ_ONLY_DOMAIN_CONTROLLERS)))
 }

@@ -10,11 +10,10 @@ ghost use Rattle.ad_dir_model.specs.Soundness.{IsSound};
 ghost use Rattle.ad_dir_model.specs.Protection.{has, has_as_member, has_as_primary, begins_protection};
 ghost use Rattle.ad_protect.specs.Spreading.{is_in_group, listed, IsTableOf, Takes, IsLeast};
 
-use crate::primary::{Table, listed, table_of};
+use crate::primary::{Table, numbers_at, table_of};
 use crate::seeds::{begins, domain_number};
 use crate::taking::{take_all, take_if, take_links};
-use ad_dir::{Dir, stored_of};
-use ad_dir_write::live_object;
+use ad_dir::{Dir, live_object, stored_of};
 use ad_schema::RuleAttr;
 use indexmap::IndexSet;
 use std::alloc::{AllocError, Global};
@@ -62,7 +61,7 @@ fn take_primary(
         taken.old.keys taken.new.keys) }
 {
     match domain_number(dir, group) {
-        Some(rid) => take_all(taken, listed(table, u64::from(rid))),
+        Some(rid) => take_all(taken, numbers_at(table, u64::from(rid))),
         None => Ok(()),
     }
 }

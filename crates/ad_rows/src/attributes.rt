@@ -34,7 +34,7 @@ fn digest(alloc: Global, bytes: &[u8]) -> Result<(Value, bool), AllocError>
 }
 
 // The value with the bytes as they stand, and whether they are its normal form.
-fn kept(
+fn value_as_it_stands(
     alloc: Global,
     syntax: Syntax,
     bytes: &[u8],
@@ -57,7 +57,7 @@ fn normal_value(alloc: Global, syntax: Syntax, bytes: &[u8]) -> Result<(Value, b
     ensures value { IfOk result (λ read. read.0 ≡ value_by false syntax bytes.now) }
 {
     match normal(alloc, syntax, bytes) {
-        Ok(value) => kept(alloc, syntax, bytes, value),
+        Ok(value) => value_as_it_stands(alloc, syntax, bytes, value),
         Err(ValueFault::Memory) => Err(AllocError),
         Err(_) => Ok((Value::as_shown(alloc, bytes)?, false)),
     }
@@ -127,7 +127,7 @@ fn link(bytes: &[u8]) -> Result<u32, BodyFault>
 }
 
 #[tactic(auto, unfolding(crate::specs::Parsing::stored_of))]
-fn stored(
+fn stored_of(
     alloc: Global,
     schema: &Schema,
     attr: AttrId,
@@ -162,7 +162,7 @@ fn any_stored(
     match schema {
         Some(schema) => {
             if (attr.0 as usize) < schema.attrs().len() {
-                return stored(alloc, schema, attr, bytes);
+                return stored_of(alloc, schema, attr, bytes);
             }
             Ok((Stored::Plain(Value::as_shown(alloc, bytes)?), false))
         }

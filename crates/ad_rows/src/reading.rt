@@ -40,7 +40,7 @@ fn built(
 }
 
 // Whether the parts are those of a sound directory.
-fn judged(
+fn check_parts(
     alloc: Global,
     schema: &Schema,
     taken: &Taken,
@@ -81,7 +81,7 @@ fn of_parts(
     ensures told { IfErr result (IsFaultOf
         (dir_of schema (objects_of taken.old.objects.items) pending.items (meta_seen meta))) }
 {
-    judged(alloc, &schema, taken, pending.as_slice(), &meta)?;
+    check_parts(alloc, &schema, taken, pending.as_slice(), &meta)?;
     let objects = mem::replace(&mut taken.objects, Vec::new(alloc));
     let dir = built(alloc, schema, objects, pending, meta)?;
     Ok(dir)

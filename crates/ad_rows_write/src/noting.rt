@@ -84,7 +84,7 @@ impl Batch {
     pub fn rows(self) -> Result<Vec<Row>, AllocError>
         ensures { IfOk result (λ rows. rows.items ≡ self) }
     {
-        listed(self.alloc, self.noted)
+        rows_in_order(self.alloc, self.noted)
     }
 }
 
@@ -107,7 +107,7 @@ fn put(noted: &mut Noted, row: Row) -> Result<(), AllocError>
 }
 
 // The rows in their order.
-fn listed(alloc: Global, noted: Noted) -> Result<Vec<Row>, AllocError>
+fn rows_in_order(alloc: Global, noted: Noted) -> Result<Vec<Row>, AllocError>
     ensures { IfOk result (λ rows. rows.items ≡ rows_noted noted.entries) }
 {
     let mut noted = noted;

@@ -9,7 +9,7 @@ use Rattle.std.proofs.lemmas.Bool.{cases_order, eq-eqb, ne_eqb}
 use Rattle.std.proofs.lemmas.Nat.{pow_pos}
 use Rattle.std.proofs.lemmas.Nat.Bits.{bit_at_and, bit_at_or, bit_at-zero, bit_at-lt, and_pow, same_from_bits}
 use Rattle.ad_acl.specs.Entry.{says}
-use Rattle.ad_sddl.specs.declared.words.Code.{Code}
+use Rattle.ad_acl.specs.declared.codes.Code.{Code}
 use Rattle.ad_sddl.specs.Grammar.{lower_letters, IsIn, with_codes, SpellsCodes}
 use Rattle.ad_sddl.specs.Canonical.{code_text, codes_text}
 use Rattle.ad_sddl.proofs.CanonicalLower.{lower_append}

@@ -10,7 +10,7 @@ use Rattle.ad_ids.specs.SidValue.{SidValue}
 use Rattle.ad_acl.specs.Entry.{Entry}
 use Rattle.ad_acl.specs.Writing.{has_guid, IsGuidIf, IsEntry}
 use Rattle.ad_sd.specs.declared.parts.AceList.{AceList}
-use Rattle.ad_sddl.specs.Words.{flag_codes}
+use Rattle.ad_acl.specs.Codes.{flag_codes}
 use Rattle.ad_sddl.specs.Grammar.{entry_of, type_text, SpellsGuidIf, SpellsEntry, SpellsListFlags, SpellsList}
 use Rattle.ad_sddl.specs.Canonical.{codes_text, rights_text, guid_text_if, entry_text, list_text}
 use Rattle.ad_sddl.proofs.CanonicalLower.{lower_append}

@@ -8,7 +8,7 @@ use Rattle.std.specs.Str.{str_to_ascii_lowercase}
 use Rattle.std.proofs.lemmas.Bool.{eqb-true, cases_order}
 use Rattle.std.proofs.lemmas.Nat.Bits.{bit_at_and, bit_at_or, same_from_bits}
 use Rattle.ad_acl.proofs.KeptFlags.{spelled-kept}
-use Rattle.ad_sddl.specs.Words.{flag_codes, right_codes}
+use Rattle.ad_acl.specs.Codes.{flag_codes, right_codes}
 use Rattle.ad_sddl.specs.Grammar.{IsIn, SpellsCodes, SpellsRights}
 use Rattle.ad_sddl.specs.Canonical.{hex_text, all_rights, is_covered, codes_text, rights_text}
 use Rattle.ad_sddl.proofs.CanonicalCodes.{IsOneBit, bits_of, codes_spelled}

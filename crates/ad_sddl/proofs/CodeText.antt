@@ -9,7 +9,7 @@ use Rattle.std.specs.List.{flat_map, AllByRecursion}
 use Rattle.std.specs.Str.{str_to_ascii_lowercase}
 use Rattle.ad_bytes.specs.Numbers.{byte_at}
 use Rattle.ad_sddl.specs.declared.fault.SddlKind.{SddlKind}
-use Rattle.ad_sddl.specs.declared.words.Code.{Code}
+use Rattle.ad_acl.specs.declared.codes.Code.{Code}
 use Rattle.ad_sddl.specs.Words.{begins, find, are_letters}
 use Rattle.ad_sddl.specs.Grammar.{lower_letters, IsIn, with_codes, SpellsCodes}
 use Rattle.ad_sddl.specs.Reading.{code_at, codes_at, field_at}

@@ -12,8 +12,9 @@ use Rattle.ad_bytes.specs.Numbers.{byte_at}
 use Rattle.ad_bytes.proofs.Steps.{from_bind, from_ok}
 use Rattle.ad_sddl.specs.declared.fault.SddlKind.{SddlKind}
 use Rattle.ad_sddl.specs.declared.fault.Stop.{Stop}
-use Rattle.ad_sddl.specs.declared.words.Code.{Code}
-use Rattle.ad_sddl.specs.Words.{begins, find, are_letters, flag_codes}
+use Rattle.ad_acl.specs.declared.codes.Code.{Code}
+use Rattle.ad_sddl.specs.Words.{begins, find, are_letters}
+use Rattle.ad_acl.specs.Codes.{flag_codes}
 use Rattle.ad_sddl.specs.Reading.{stop, code_at, codes_at, field_at}
 
 -- ---- the loop

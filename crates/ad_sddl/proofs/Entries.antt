@@ -15,7 +15,8 @@ use Rattle.ad_acl.specs.Entry.{Entry}
 use Rattle.ad_sddl.specs.declared.fault.SddlKind.TheVariants as kind
 use Rattle.ad_sddl.specs.declared.fault.Stop.{Stop}
 use Rattle.ad_sddl.specs.declared.entry.Shape.{Shape}
-use Rattle.ad_sddl.specs.Words.{begins, flag_codes}
+use Rattle.ad_sddl.specs.Words.{begins}
+use Rattle.ad_acl.specs.Codes.{flag_codes}
 use Rattle.ad_sddl.specs.Grammar.{SpellsEntry, type_text, entry_of}
 use Rattle.ad_sddl.specs.Reading.{stop, end_at, field_at, rights_at, guid_at, sid_at, shape, type_at, entry_at}
 use Rattle.ad_sddl.specs.Reading.{entries_at}

@@ -14,8 +14,9 @@ use Rattle.ad_ids.specs.GuidText.{SpellsGuidText}
 use Rattle.ad_ids.specs.GuidText.{guid_of_text}
 use Rattle.ad_sddl.specs.declared.fault.SddlKind.TheVariants as kind
 use Rattle.ad_sddl.specs.declared.fault.Stop.{Stop}
-use Rattle.ad_sddl.specs.declared.words.Code.{Code}
-use Rattle.ad_sddl.specs.Words.{begins, find, right_codes, flag_codes}
+use Rattle.ad_acl.specs.declared.codes.Code.{Code}
+use Rattle.ad_sddl.specs.Words.{begins, find}
+use Rattle.ad_acl.specs.Codes.{right_codes, flag_codes}
 use Rattle.ad_sddl.specs.Grammar.{SpellsCodes, SpellsHex, SpellsRights, digits_value, SpellsGuidIf, IsIn, lower_letters}
 use Rattle.ad_sddl.specs.Reading.{stop, or_stop, end_at, digits_at, digit_here, hex_at, rights_at, field_at}
 use Rattle.ad_sddl.specs.Reading.{present_guid_at, guid_at}

@@ -1,5 +1,5 @@
 -- The GUID of a text.
-use Rattle.std.proofs.Common.{Bool, eqb, true, false, if◌then◌else◌, Option, Some, None, unwrap_or, ◌≡◌, ℕ, ◌<◌, List}
+use Rattle.std.proofs.Common.{eqb, false, Option, Some, None, ◌≡◌, ℕ, ◌<◌, List}
 use Rattle.std.proofs.Common.{length, take, refl, sym, ap, ◌∙◌, arith}
 use Rattle.std.specs.Prelude.{option_map}
 use Rattle.std.proofs.lemmas.List.{length-take}
@@ -7,28 +7,15 @@ use Rattle.std.proofs.lemmas.Bool.Decides.{nat_tests}
 use Rattle.uuid.specs.Text.{parsed_hyphenated}
 use Rattle.uuid.specs.Parts.{swap_fields}
 use Rattle.uuid.proofs.RoundTrips.{swap_twice}
-use Rattle.uuid.proofs.TextLemmas.{by_index_length}
 use Rattle.ad_ids.specs.declared.guid.Guid.{Guid}
 use Rattle.ad_ids.specs.GuidText.{guid_of_text, SpellsGuidText}
+use Rattle.ad_ids.proofs.GuidText.{some_one, sixteen_read}
 
 abbrev guid : List ℕ → Guid
 guid bytes = record { bytes = bytes }
 
 abbrev swapped : List ℕ → Guid
 swapped bytes = guid (swap_fields bytes)
-
-some_one : {X : Type 0} (a b : X) → Some a ≡ Some b → a ≡ b
-some_one a b e = ap (λ (o : Option _). unwrap_or o a) e
-
--- what stands after a test that passed
-tested : {X : Type 0} (b : Bool) (o : Option X) (x : X) → Some x ≡ (if b then o else None) → Some x ≡ o
-tested true o x e = e
-tested false o x e = absurd cc
-
-sixteen_read : (s xs : List ℕ) → Some xs ≡ parsed_hyphenated s → length xs ≡ 16
-sixteen_read s xs e =
-    let inner = tested _ _ xs (tested _ _ xs e) in
-    ap length (some_one xs _ inner) ∙ by_index_length 16 _
 
 sixteen_swapped : (xs : List ℕ) → length xs ≡ 16 → length (swap_fields xs) ≡ 16
 sixteen_swapped xs e = refl

@@ -7,8 +7,8 @@ use Rattle.std.specs.Prelude.{bit_or}
 use Rattle.std.proofs.lemmas.Bool.{ne_eqb}
 use Rattle.std.proofs.lemmas.Bool.Decides.{nat_tests}
 use Rattle.ad_ids.specs.SidText.{hex_digit}
-use Rattle.ad_sddl.specs.declared.words.Code.{Code}
-use Rattle.ad_sddl.specs.Words.{flag_codes, right_codes}
+use Rattle.ad_acl.specs.declared.codes.Code.{Code}
+use Rattle.ad_acl.specs.Codes.{flag_codes, right_codes}
 use Rattle.ad_sddl.specs.Grammar.{entry_of}
 use Rattle.ad_sddl.specs.Canonical.{hex_text, AreCapitals, all_rights, is_covered, codes_text, rights_text}
 

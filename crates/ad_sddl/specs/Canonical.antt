@@ -13,8 +13,8 @@ use Rattle.ad_sd.specs.Writing.{IsSidIf}
 use Rattle.ad_sd.specs.declared.parts.AceList.{AceList}
 use Rattle.ad_sd.specs.declared.parts.Sd.{Sd}
 use Rattle.ad_sd.specs.declared.parts.SdParts.{SdParts}
-use Rattle.ad_sddl.specs.declared.words.Code.{Code}
-use Rattle.ad_sddl.specs.Words.{flag_codes, right_codes}
+use Rattle.ad_acl.specs.declared.codes.Code.{Code}
+use Rattle.ad_acl.specs.Codes.{flag_codes, right_codes}
 use Rattle.ad_sddl.specs.Grammar.{with_codes, entry_of, type_text}
 
 -- ---- flags and rights

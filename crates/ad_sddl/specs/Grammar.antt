@@ -16,9 +16,10 @@ use Rattle.ad_acl.specs.declared.kind.AceKind.TheVariants.{Allow, Deny, Audit}
 use Rattle.ad_acl.specs.Entry.{Entry}
 use Rattle.ad_sd.specs.declared.parts.AceList.{AceList}
 use Rattle.ad_sd.specs.declared.parts.SdParts.{SdParts}
-use Rattle.ad_sddl.specs.declared.words.Code.{Code}
+use Rattle.ad_acl.specs.declared.codes.Code.{Code}
 use Rattle.ad_sddl.specs.declared.words.Alias.{Alias}
-use Rattle.ad_sddl.specs.Words.{find, flag_codes, right_codes, find_alias, alias_codes, meant_by}
+use Rattle.ad_sddl.specs.Words.{find, find_alias, alias_codes, meant_by}
+use Rattle.ad_acl.specs.Codes.{flag_codes, right_codes}
 
 -- ---- flags and rights
 

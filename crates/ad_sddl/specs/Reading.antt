@@ -23,9 +23,10 @@ use Rattle.ad_sddl.specs.declared.fault.SddlFault.{SddlFault}
 use Rattle.ad_sddl.specs.declared.fault.SddlFault.TheVariants as fault
 use Rattle.ad_sddl.specs.declared.fault.Stop.{Stop}
 use Rattle.ad_sddl.specs.declared.fault.Stop.TheVariants.{Bad, Memory}
-use Rattle.ad_sddl.specs.declared.words.Code.{Code}
+use Rattle.ad_acl.specs.declared.codes.Code.{Code}
 use Rattle.ad_sddl.specs.declared.entry.Shape.{Shape}
-use Rattle.ad_sddl.specs.Words.{begins, find, flag_codes, right_codes, find_alias, alias_codes, meant_by}
+use Rattle.ad_sddl.specs.Words.{begins, find, find_alias, alias_codes, meant_by}
+use Rattle.ad_acl.specs.Codes.{flag_codes, right_codes}
 use Rattle.ad_sddl.specs.Grammar.{no_parts}
 
 -- a fault at the beginning of these bytes, which are those up to the end

@@ -1,10 +1,10 @@
--- The words of the language: its codes, its aliases, and what begins a text.
+-- The words of the language: what reads its codes, its aliases, and what begins a text.
 use Rattle.std.specs.Prelude.{ℕ, ◌==◌, ◌&&◌, Bool, if◌then◌else◌, Option, Some, None, List, [], ◌∷◌, slice_index, codes}
 use Rattle.std.specs.List.{starts_with}
 use Rattle.std.specs.Char.{to_ascii_lowercase}
 use Rattle.ad_ids.specs.SidValue.{SidValue}
 use Rattle.ad_ids.specs.SidChild.{child_of}
-use Rattle.ad_sddl.specs.declared.words.Code.{Code}
+use Rattle.ad_acl.specs.declared.codes.Code.{Code}
 use Rattle.ad_sddl.specs.declared.words.Base.{Base}
 use Rattle.ad_sddl.specs.declared.words.Base.TheVariants.{World, Creator, Nt, Builtin, Domain}
 use Rattle.ad_sddl.specs.declared.words.Alias.{Alias}
@@ -13,45 +13,7 @@ use Rattle.ad_sddl.specs.declared.words.Alias.{Alias}
 unfoldable pub begins : List ℕ → List ℕ → Bool
 begins word text = starts_with ◌==◌ text word
 
--- ---- flags and rights
-
-abbrev pub a_code : List ℕ → ℕ → Code
-a_code letters bits = record { letters = letters; bits = bits }
-
--- the flags of an entry: object inherit, container inherit, no propagate, inherit only, inherited, successful
--- access and failed access
-unfoldable pub flag_codes : List Code
-flag_codes =
-    a_code (codes "OI") 0x01 ∷
-    a_code (codes "CI") 0x02 ∷
-    a_code (codes "NP") 0x04 ∷
-    a_code (codes "IO") 0x08 ∷
-    a_code (codes "ID") 0x10 ∷
-    a_code (codes "SA") 0x40 ∷
-    a_code (codes "FA") 0x80 ∷
-    []
-
--- the rights of an entry: on objects, on their descriptors, and the generic ones
-unfoldable pub right_codes : List Code
-right_codes =
-    a_code (codes "CC") 0x1 ∷
-    a_code (codes "DC") 0x2 ∷
-    a_code (codes "LC") 0x4 ∷
-    a_code (codes "SW") 0x8 ∷
-    a_code (codes "RP") 0x10 ∷
-    a_code (codes "WP") 0x20 ∷
-    a_code (codes "DT") 0x40 ∷
-    a_code (codes "LO") 0x80 ∷
-    a_code (codes "CR") 0x100 ∷
-    a_code (codes "SD") 0x10000 ∷
-    a_code (codes "RC") 0x20000 ∷
-    a_code (codes "WD") 0x40000 ∷
-    a_code (codes "WO") 0x80000 ∷
-    a_code (codes "GA") 0x10000000 ∷
-    a_code (codes "GX") 0x20000000 ∷
-    a_code (codes "GW") 0x40000000 ∷
-    a_code (codes "GR") 0x80000000 ∷
-    []
+-- ---- codes
 
 -- the letters, which are in lower case, are those of the code
 abbrev pub are_letters : ℕ → ℕ → List ℕ → Bool

@@ -4,7 +4,8 @@ ghost use Rattle.std.specs.Prelude.{◌≡◌, ◌≤◌, ◌<◌, ◌^◌, ◌+
 ghost use Rattle.std.specs.Prelude.{if◌then◌else◌, OnOk, OnSome, IfOk, IfSome, Some, None, Option, IsTrue};
 ghost use Rattle.ad_bytes.specs.Reading.{Reads};
 ghost use Rattle.ad_ids.specs.GuidText.{guid_of_text};
-ghost use Rattle.ad_sddl.specs.Words.{begins, find, flag_codes, right_codes};
+ghost use Rattle.ad_sddl.specs.Words.{begins, find};
+ghost use Rattle.ad_acl.specs.Codes.{flag_codes, right_codes};
 ghost use Rattle.ad_sddl.specs.declared.fault.SddlKind.TheVariants as kind;
 ghost use Rattle.ad_sddl.specs.Reading.{end_at, code_at, field_at, digits_at, digit_here, hex_at, rights_at};
 ghost use Rattle.ad_sddl.specs.Reading.{present_guid_at, guid_at};
@@ -12,7 +13,8 @@ ghost use Rattle.ad_sddl.specs.Calls.{with_rest};
 
 use crate::fault::{SddlKind, Stop};
 use crate::numeric::skip;
-use crate::words::{Code, find, flag_table, right_table};
+use crate::words::find;
+use ad_acl::{Code, flag_codes, right_codes};
 use ad_bytes::{Input, hex_value};
 use ad_ids::Guid;
 
@@ -98,7 +100,7 @@ pub(crate) fn read_flags(input: &mut Input<'_>) -> Result<u8, Stop>
     ensures clear { IfOk result (λ flags. bit_and flags 32 ≡ 0) }
     ensures left { OnOk result (length input.new ≤ length input.old) }
 {
-    let flags = read_codes(input, flag_table(), SddlKind::Flag)?;
+    let flags = read_codes(input, flag_codes(), SddlKind::Flag)?;
     Ok(flags as u8)
 }
 
@@ -154,7 +156,7 @@ pub(crate) fn read_rights(input: &mut Input<'_>) -> Result<u32, Stop>
     if begins(input, b"0x") {
         read_hex(input)
     } else {
-        read_codes(input, right_table(), SddlKind::Rights)
+        read_codes(input, right_codes(), SddlKind::Rights)
     }
 }
 

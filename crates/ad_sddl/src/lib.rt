@@ -16,7 +16,7 @@
 //!
 //! A text is read exactly where the grammar has it, and else the fault is the one that stands first, with its kind
 //! and its place in bytes. What is printed is the one canonical text and reads back, where a part is there at all.
-//! The tables of codes and aliases are those of the definitions.
+//! The table of aliases is that of the definitions.
 //!
 //! # The caller owes
 //!
@@ -40,5 +40,5 @@ mod words;
 
 pub use fault::{SddlFault, SddlKind};
 pub use laws::{parts_are_spelled_by_their_text, what_a_text_spells};
-pub use printing::{print, print_parts};
+pub use printing::{print, print_parts, rights_text};
 pub use reading::read;

@@ -9,15 +9,14 @@ ghost use Rattle.ad_ids.specs.SidValue.{SidValue};
 ghost use Rattle.ad_ids.specs.Sid.{IsSid};
 ghost use Rattle.ad_acl.specs.Writing.{has_guid, IsEntry};
 ghost use Rattle.ad_sd.specs.Writing.{IsSidIf};
-ghost use Rattle.ad_sddl.specs.Words.{flag_codes, right_codes};
+ghost use Rattle.ad_acl.specs.Codes.{flag_codes, right_codes};
 ghost use Rattle.ad_sddl.specs.Grammar.{type_text, SpellsSddl};
 ghost use Rattle.ad_sddl.specs.Canonical.{AreCapitals, codes_text, hex_text, rights_text, guid_text_if};
 ghost use Rattle.ad_sddl.specs.Canonical.{entry_text, sid_part, list_text, list_part, canonical, all_parts};
 ghost use Rattle.ad_sddl.specs.Canonical.{AreEntriesIf, AreParts, IsEmpty};
 
 use crate::ranges::entry_has_its_ranges;
-use crate::words::{Code, flag_table, right_table};
-use ad_acl::{Ace, AceKind};
+use ad_acl::{Ace, AceKind, Code, flag_codes, right_codes};
 use ad_bytes::hex_char;
 use ad_ids::{Guid, Sid};
 use ad_sd::{AceList, Sd, SdParts};
@@ -68,10 +67,23 @@ fn push_rights(text: &mut String, mask: u32) -> Result<(), AllocError>
     ensures { OnOk result (string_bytes text.new ≡ string_bytes text.old ++ rights_text mask) }
 {
     if mask | ALL_RIGHTS == ALL_RIGHTS {
-        return push_codes(text, right_table(), mask);
+        return push_codes(text, right_codes(), mask);
     }
     text.push_str("0x")?;
     push_hex(text, 8, mask)
+}
+
+/// The rights of a mask as a text of a descriptor has them: as codes where these have all its bits, else in hexadecimal.
+///
+/// # Errors
+///
+/// Memory ran out.
+pub fn rights_text(alloc: Global, mask: u32) -> Result<String, AllocError>
+    ensures { IfOk result (λ text. string_bytes text ≡ rights_text mask) }
+{
+    let mut text = String::new(alloc);
+    push_rights(&mut text, mask)?;
+    Ok(text)
 }
 
 fn push_guid(alloc: Global, text: &mut String, guid: &Option<Guid>) -> Result<(), AllocError>
@@ -122,7 +134,7 @@ fn push_entry(alloc: Global, text: &mut String, ace: &Ace) -> Result<(), AllocEr
     text.push_str("(")?;
     text.push_str(type_text(has_guid(ace), ace.kind))?;
     text.push_str(";")?;
-    push_codes(text, flag_table(), u32::from(ace.flags))?;
+    push_codes(text, flag_codes(), u32::from(ace.flags))?;
     text.push_str(";")?;
     push_rights(text, ace.mask)?;
     text.push_str(";")?;

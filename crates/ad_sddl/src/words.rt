@@ -1,14 +1,9 @@
-//! The codes of flags and rights, and the aliases of identifiers ([MS-DTYP] 2.5.1.1).
+//! How the codes of flags and rights are found by their letters, and the aliases of identifiers ([MS-DTYP] 2.5.1.1).
 
 ghost use Rattle.std.specs.Prelude.{◌≡◌};
-ghost use Rattle.ad_sddl.specs.Words.{flag_codes, right_codes, alias_codes, are_letters, find, find_alias};
+ghost use Rattle.ad_sddl.specs.Words.{alias_codes, are_letters, find, find_alias};
 
-/// A code of two capital letters, and its bits.
-#[derive(Clone, Copy)]
-pub(crate) struct Code {
-    pub(crate) letters: [u8; 2],
-    pub(crate) bits: u32,
-}
+use ad_acl::Code;
 
 /// What an alias stands below.
 #[derive(Clone, Copy)]
@@ -32,108 +27,6 @@ pub(crate) struct Alias {
     pub(crate) base: Base,
     pub(crate) number: u32,
 }
-
-static FLAGS: [Code; 7] = [
-    Code {
-        letters: *b"OI",
-        bits: 0x01,
-    },
-    Code {
-        letters: *b"CI",
-        bits: 0x02,
-    },
-    Code {
-        letters: *b"NP",
-        bits: 0x04,
-    },
-    Code {
-        letters: *b"IO",
-        bits: 0x08,
-    },
-    Code {
-        letters: *b"ID",
-        bits: 0x10,
-    },
-    Code {
-        letters: *b"SA",
-        bits: 0x40,
-    },
-    Code {
-        letters: *b"FA",
-        bits: 0x80,
-    },
-];
-
-static RIGHTS: [Code; 17] = [
-    Code {
-        letters: *b"CC",
-        bits: 0x1,
-    },
-    Code {
-        letters: *b"DC",
-        bits: 0x2,
-    },
-    Code {
-        letters: *b"LC",
-        bits: 0x4,
-    },
-    Code {
-        letters: *b"SW",
-        bits: 0x8,
-    },
-    Code {
-        letters: *b"RP",
-        bits: 0x10,
-    },
-    Code {
-        letters: *b"WP",
-        bits: 0x20,
-    },
-    Code {
-        letters: *b"DT",
-        bits: 0x40,
-    },
-    Code {
-        letters: *b"LO",
-        bits: 0x80,
-    },
-    Code {
-        letters: *b"CR",
-        bits: 0x100,
-    },
-    Code {
-        letters: *b"SD",
-        bits: 0x1_0000,
-    },
-    Code {
-        letters: *b"RC",
-        bits: 0x2_0000,
-    },
-    Code {
-        letters: *b"WD",
-        bits: 0x4_0000,
-    },
-    Code {
-        letters: *b"WO",
-        bits: 0x8_0000,
-    },
-    Code {
-        letters: *b"GA",
-        bits: 0x1000_0000,
-    },
-    Code {
-        letters: *b"GX",
-        bits: 0x2000_0000,
-    },
-    Code {
-        letters: *b"GW",
-        bits: 0x4000_0000,
-    },
-    Code {
-        letters: *b"GR",
-        bits: 0x8000_0000,
-    },
-];
 
 static ALIASES: [Alias; 39] = [
     Alias {
@@ -332,22 +225,6 @@ static ALIASES: [Alias; 39] = [
         number: 553,
     },
 ];
-
-/// The flags of an entry, in the order in which they are written.
-#[tactic(auto, unfolding(crate::specs::Words::flag_codes))]
-pub(crate) fn flag_table() -> &'static [Code]
-    ensures { result.now ≡ flag_codes }
-{
-    &FLAGS
-}
-
-/// The rights of an entry, in the order in which they are written.
-#[tactic(auto, unfolding(crate::specs::Words::right_codes))]
-pub(crate) fn right_table() -> &'static [Code]
-    ensures { result.now ≡ right_codes }
-{
-    &RIGHTS
-}
 
 /// The aliases.
 #[tactic(auto, unfolding(crate::specs::Words::alias_codes))]

@@ -4,7 +4,7 @@ use Rattle.std.proofs.Common.{reverse, Option, Some, None, refl, sym, subst, ap,
 use Rattle.std.specs.Prelude.{nat_eq, find, if◌then◌else◌}
 use Rattle.std.specs.Option.{option_and_then}
 use Rattle.std.proofs.lemmas.Bool.{eqb-true, eq-eqb, ne_eqb, both_ways, and_parts, and_from}
-use Rattle.std.proofs.lemmas.Option.{none-some, same_Some}
+use Rattle.std.proofs.lemmas.Option.{same_Some}
 use Rattle.std.proofs.lemmas.List.{append-nil, append_assoc, reverse-append}
 use Rattle.std.proofs.lemmas.Slice.Eq.{bytes_eq-Decides}
 use Rattle.ad_dn.specs.declared.rdn.Rdn.{Rdn}
@@ -16,6 +16,7 @@ use Rattle.ad_dir_model.specs.Tree.{root, IsAtDepth, IsPlaced}
 use Rattle.ad_dir_model.specs.Directory.{Directory, parents}
 use Rattle.ad_dir_model.specs.Names.{rdn_of, rdns_within, rdns_of, same_folded, same_rdn, begins_with, is_child_named}
 use Rattle.ad_dir_model.specs.Names.{child_named, number_if_typed, child_of_rdn, found_below, found_from_end, found}
+use Rattle.ad_dir_model.proofs.Naming.{below_more}
 use Rattle.ad_dir_model.proofs.Finding.{of-live, at_number, found_first, none_found}
 use Rattle.ad_dir.specs.Standing.{AreStanding}
 use Rattle.ad_search.specs.Scope.{same_rdns}
@@ -26,11 +27,11 @@ Stands dir = AreStanding dir.schema dir.objects
 
 -- ---- names from the end
 
-turned : (a b : Rdn) → same_rdn a b ≡ true → same_rdn b a ≡ true
+pub turned : (a b : Rdn) → same_rdn a b ≡ true → same_rdn b a ≡ true
 turned a b is = let same : IsSameRdn a b = from_part a b is
     in to_part b a (record { kind = sym same.kind; value = sym same.value })
 
-same_snoc : (a b : List Rdn) (x y : Rdn) → same_rdns a b ≡ true → same_rdn x y ≡ true → same_rdns (a ++ x ∷ [])
+pub same_snoc : (a b : List Rdn) (x y : Rdn) → same_rdns a b ≡ true → same_rdn x y ≡ true → same_rdns (a ++ x ∷ [])
     (b ++ y ∷ []) ≡ true
 unfolding same_rdns
 same_snoc [] [] x y all one = and_from (same_rdn x y) true one refl
@@ -43,7 +44,7 @@ same_snoc (a ∷ as') (b ∷ bs) x y all one =
 last_first : (x : Rdn) (xs : List Rdn) → reverse (x ∷ xs) ≡ reverse xs ++ x ∷ []
 last_first x xs = reverse-append (x ∷ []) xs
 
-same_reverse : (a b : List Rdn) → same_rdns a b ≡ true → same_rdns (reverse a) (reverse b) ≡ true
+pub same_reverse : (a b : List Rdn) → same_rdns a b ≡ true → same_rdns (reverse a) (reverse b) ≡ true
 unfolding same_rdns
 same_reverse [] [] all = refl
 same_reverse [] (b ∷ bs) all = absurd (both_ways false refl all)
@@ -109,24 +110,6 @@ at_end (a ∷ as') x (c ∷ cs) all =
 path : Directory → ℕ → ℕ → List Rdn
 path dir zero n = []
 path dir (suc d) n = path dir d (parents dir n) ++ rdn_of dir.schema (object_at dir.objects n) ∷ []
-
-below_more : (dir : Directory) (n m : ℕ) (rdns : List Rdn) (rdn : Rdn) → found_below dir n rdns ≡ Some m
-    → found_below dir n (rdns ++ rdn ∷ []) ≡ child_of_rdn dir m rdn
-unfolding found_below
-below_more dir n m [] rdn is = by_child (child_of_rdn dir n rdn) ∙ ap (λ (k : ℕ). child_of_rdn dir k rdn)
-    (same_Some n m is)
-  where
-    by_child : (child : Option ℕ) → option_and_then (λ (k : ℕ). Some k) child ≡ child
-    by_child None = refl
-    by_child (Some k) = refl
-below_more dir n m (first ∷ rest) rdn is = by_child (child_of_rdn dir n first) (λ k. below_more dir k m rest rdn) is
-  where
-    by_child : (child : Option ℕ) → ((k : ℕ) → found_below dir k rest ≡ Some m → found_below dir k (rest ++ rdn ∷ [])
-        ≡ child_of_rdn dir m rdn)
-        → option_and_then (λ (k : ℕ). found_below dir k rest) child ≡ Some m
-        → option_and_then (λ (k : ℕ). found_below dir k (rest ++ rdn ∷ [])) child ≡ child_of_rdn dir m rdn
-    by_child None again is = absurd (none-some m is)
-    by_child (Some k) again is = again k is
 
 -- a child is found below its parent by each spelling of its part of the name
 child_found : (dir : Directory) (n : ℕ) (rdn : Rdn) → Stands dir → is_live dir.objects n ≡ true

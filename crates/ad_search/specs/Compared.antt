@@ -1,7 +1,8 @@
 -- What a compare tried: the right to read its attribute.
-use Rattle.std.specs.Prelude.{ℕ, Bool, false, if◌then◌else◌, codes, Option, slice_get, List, [], ◌∷◌}
+use Rattle.std.specs.Prelude.{ℕ, ◌^◌, Bool, false, if◌then◌else◌, codes, Option, slice_get, List, [], ◌∷◌}
 use Rattle.std.specs.Option.{option_map_or, option_and_then}
 use Rattle.ad_ids.specs.declared.token.Token.{Token}
+use Rattle.ad_acl.specs.Mask.{read_property}
 use Rattle.ad_dn.specs.Reading.{dn_of}
 use Rattle.ad_schema_classes.specs.Names.{same_name}
 use Rattle.ad_schema.specs.declared.info.AttrId.{AttrId}
@@ -26,7 +27,7 @@ may_read dir token number attr = option_map_or (is_readable dir token number att
 abbrev pub compared_on : Directory → Token → ℕ → AttrId → TriedValue
 compared_on dir token number attr = record {
   object = number;
-  right = 0x10;
+  right = 2 ^ read_property;
   path = path_of dir.schema (record { 0 = (object_at dir.objects number).class }) attr;
   success = may_read dir token number attr;
 }

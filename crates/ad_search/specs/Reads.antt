@@ -1,14 +1,16 @@
 -- What a search tried: of each of its entries the rights by which it has what it has.
-use Rattle.std.specs.Prelude.{◌≡◌, ℕ, suc, ◌+◌, Bool, not, ◌&&◌, ◌||◌, ◌==◌, if◌then◌else◌, is_some, Option, Some}
+use Rattle.std.specs.Prelude.{◌≡◌, ℕ, suc, ◌+◌, ◌^◌, Bool, not, ◌&&◌, ◌||◌, ◌==◌, if◌then◌else◌, is_some, Option, Some}
 use Rattle.std.specs.Prelude.{None, List, [], ◌∷◌, ◌++◌, length, filter}
 use Rattle.std.specs.List.{flat_map}
 use Rattle.ad_ids.specs.declared.token.Token.{Token}
+use Rattle.ad_acl.specs.Mask.{read_property, read_control, access_system_security}
 use Rattle.ad_acl.specs.Entry.{says}
 use Rattle.ad_dn.specs.declared.rdn.Dn.{Dn}
 use Rattle.ad_dn.specs.Reading.{dn_of}
 use Rattle.ad_schema.specs.declared.info.AttrInfo.{AttrInfo}
 use Rattle.ad_schema.specs.Attributes.{attrs_of}
 use Rattle.ad_types.specs.TypesOf.{path_of}
+use Rattle.ad_ldap.specs.Choices.{owner_part, group_part, dacl_part, sacl_part}
 use Rattle.ad_ldap.specs.MessageValue.{SearchValue}
 use Rattle.ad_dir_model.specs.Objects.{numbers, object_at}
 use Rattle.ad_dir_model.specs.Shown.{shown}
@@ -25,7 +27,7 @@ use Rattle.ad_search.specs.Search.{done, stop_code, is_found}
 -- the right to read the attribute at a place of an object
 abbrev pub read_on : Directory → ℕ → ℕ → TriedValue
 read_on dir number place =
-    success_on number 0x10 (path_of dir.schema (record { 0 = (object_at dir.objects number).class })
+    success_on number (2 ^ read_property) (path_of dir.schema (record { 0 = (object_at dir.objects number).class })
     (record { 0 = place }))
 
 -- the entry has the attribute: it is asked for, may be read and has a value
@@ -44,8 +46,9 @@ attr_reads dir token number search place (info ∷ infos) =
 -- owner, group and discretionary list are read with read control, the system list with the right for it
 unfoldable pub part_reads : ℕ → ℕ → List TriedValue
 part_reads number flags =
-    (if says flags 1 || (says flags 2 || says flags 4) then success_on number 0x20000 [] ∷ [] else [])
-    ++ (if says flags 8 then success_on number 0x1000000 [] ∷ [] else [])
+    (if says flags (2 ^ owner_part) || (says flags (2 ^ group_part) || says flags (2 ^ dacl_part))
+    then success_on number (2 ^ read_control) [] ∷ [] else [])
+    ++ (if says flags (2 ^ sacl_part) then success_on number (2 ^ access_system_security) [] ∷ [] else [])
 
 -- the entry has the descriptor
 abbrev pub has_descriptor : Directory → Token → ℕ → SearchValue → ℕ → Bool

@@ -3,6 +3,7 @@ use Rattle.std.specs.Prelude.{ℕ, Bool, true, false, ◌&&◌, ◌||◌, ◌==�
 use Rattle.std.specs.List.{list_any}
 use Rattle.ad_dn.specs.declared.rdn.Rdn.{Rdn}
 use Rattle.ad_dn.specs.Text.{rdns_text}
+use Rattle.ad_ldap.specs.Choices.{base_object, single_level}
 use Rattle.ad_dir_model.specs.Names.{same_rdn}
 use Rattle.ad_entries.specs.Seen.{Seen}
 
@@ -23,11 +24,11 @@ abbrev pub is_right_below : List Rdn → List Rdn → Bool
 is_right_below base [] = false
 is_right_below base (rdn ∷ rdns) = same_rdns rdns base
 
--- Scope 0 is the base alone, 1 the objects right below it, 2 the base and all below it.
+-- the base alone, the objects right below it, or the base and all below it
 unfoldable pub in_scope : ℕ → List Rdn → List Rdn → Bool
 in_scope scope base name =
-    if scope == 0 then same_rdns name base
-    else (if scope == 1 then is_right_below base name
+    if scope == base_object then same_rdns name base
+    else (if scope == single_level then is_right_below base name
     else is_at_or_below base name)
 
 -- ---- among the objects that are seen

@@ -8,6 +8,9 @@ use Rattle.ad_dn.specs.Reading.{dn_of}
 use Rattle.ad_schema.specs.declared.line.SchemaRecord.{SchemaRecord}
 use Rattle.ad_ldap.specs.declared.reply.Reply.TheVariants as reply
 use Rattle.ad_ldap.specs.Reply.{reply_bytes}
+use Rattle.ad_ldap.specs.Tags.{search_done}
+use Rattle.ad_ldap.specs.ResultCodes.{success, size_limit_exceeded, admin_limit_exceeded, no_such_object}
+use Rattle.ad_ldap.specs.ResultCodes.{invalid_dn_syntax}
 use Rattle.ad_ldap.specs.MessageValue.{SearchValue}
 use Rattle.ad_filter.specs.ThreeValues.{is_true}
 use Rattle.ad_filter.specs.Filtering.{truth}
@@ -22,21 +25,21 @@ most_joined = 16777216
 
 -- the message at the end: its code and the matched name
 abbrev pub done : ℕ → ℕ → List ℕ → List ℕ
-done id code name = reply_bytes (reply.Done id 101 code name [])
+done id code name = reply_bytes (reply.Done id search_done code name [])
 
 -- ---- the entries
 
--- The code with which a search ends before its next entry: 4 where as many as the size limit were given, and 11 where
--- its message would bring all of them above the limit.
+-- The code with which a search ends before its next entry: where as many as the size limit were given, and where its
+-- message would bring all of them above the limit.
 unfoldable pub stop_code : ℕ → ℕ → ℕ → ℕ → Option ℕ
 stop_code size given joined next =
-    if not (size == 0) && nat_le size given then Some 4
-    else (if nat_lt most_joined (joined + next) then Some 11
+    if not (size == 0) && nat_le size given then Some size_limit_exceeded
+    else (if nat_lt most_joined (joined + next) then Some admin_limit_exceeded
     else None)
 
--- the code at the end: 11 where a descriptor was left out
+-- the code at the end, which tells where a descriptor was left out
 abbrev pub end_code : Bool → ℕ
-end_code is_short = if is_short then 11 else 0
+end_code is_short = if is_short then admin_limit_exceeded else success
 
 -- an entry and those after it, or the end
 abbrev pub entry_or_end : ℕ → Option ℕ → List ℕ → List ℕ → List ℕ
@@ -64,12 +67,12 @@ entries_of schema id search flags base seen = map (entry_of schema id search fla
     (filter (is_found schema search base) seen)
 
 abbrev pub answer_at : List SchemaRecord → List Seen → ℕ → SearchValue → ℕ → Option Dn → List ℕ
-answer_at schema seen id search flags None = done id 34 []
+answer_at schema seen id search flags None = done id invalid_dn_syntax []
 answer_at schema seen id search flags (Some base) =
     if is_there seen base.rdns then entries_from id search.size 0 0 false (entries_of schema id search flags base seen)
-    else done id 32 (matched seen base.rdns)
+    else done id no_such_object (matched seen base.rdns)
 
--- 34 for a base that can't be read, 32 for one that no object has that is seen, and else the entries.
+-- A base that can't be read has a code of its own, and one that no object has that is seen; else there are entries.
 unfoldable pub answer_seen : List SchemaRecord → List Seen → ℕ → SearchValue → ℕ → List ℕ
 answer_seen schema seen id search flags = answer_at schema seen id search flags (dn_of search.base)
 

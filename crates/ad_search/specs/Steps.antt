@@ -2,6 +2,7 @@
 use Rattle.std.specs.Prelude.{◌≡◌, ℕ, ◌==◌, if◌then◌else◌, Option, Some, None, List, [], ◌∷◌, ◌++◌, length}
 use Rattle.ad_ids.specs.declared.token.Token.{Token}
 use Rattle.ad_dn.specs.declared.rdn.Dn.{Dn}
+use Rattle.ad_ldap.specs.Choices.{base_object, single_level}
 use Rattle.ad_ldap.specs.MessageValue.{SearchValue}
 use Rattle.ad_dir_model.specs.Objects.{numbers, children}
 use Rattle.ad_dir_model.specs.Tree.{root}
@@ -21,8 +22,8 @@ entries_among dir token id search flags base numbers = entries_of dir.schema id 
 -- children, and else those of its subtree, which are all of them where it is the root
 unfoldable pub objects_asked : Directory → ℕ → ℕ → List ℕ
 objects_asked dir scope base =
-    if scope == 0 then base ∷ []
-    else (if scope == 1 then children dir.objects base
+    if scope == base_object then base ∷ []
+    else (if scope == single_level then children dir.objects base
     else (if base == root then numbers dir.objects
     else subtree dir base))
 

@@ -14,18 +14,21 @@ use ad_dn::{Dn, DnFault};
 use ad_entries::values_named;
 use ad_filter::has_equal;
 use ad_ids::Token;
+use ad_ldap::result_code::{
+    COMPARE_FALSE, COMPARE_TRUE, INVALID_ATTRIBUTE_SYNTAX, INVALID_DN_SYNTAX, NO_SUCH_ATTRIBUTE,
+    NO_SUCH_OBJECT,
+};
+use ad_ldap::tags::COMPARE_RESPONSE;
 use ad_ldap::{Compare, Reply, write_reply};
 use ad_value::{Syntax, Value, ValueFault, normal};
 use std::alloc::{AllocError, Global};
-
-const COMPARE_DONE: u8 = 111;
 
 fn done(alloc: Global, id: u32, code: u8, matched: Vec<u8>) -> Result<Vec<u8>, AllocError>
     ensures { IfOk result (λ bytes. bytes.items ≡ done id code matched.items) }
 {
     let reply = Reply::Done {
         id,
-        tag: COMPARE_DONE,
+        tag: COMPARE_RESPONSE,
         code,
         matched: Bytes::from_vec(matched),
         text: Bytes::new(alloc),
@@ -33,7 +36,7 @@ fn done(alloc: Global, id: u32, code: u8, matched: Vec<u8>) -> Result<Vec<u8>, A
     write_reply(alloc, &reply)
 }
 
-// 6 where one of the values is equal to the one that was sent.
+// Whether one of the values is equal to the one that was sent, as a code.
 #[tactic(auto, unfolding(crate::specs::Compare::has_key))]
 fn equal_code(
     alloc: Global,
@@ -45,9 +48,9 @@ fn equal_code(
         (Ok sent.now)) }
 {
     if has_equal(alloc, syntax, sent, values)? {
-        return Ok(6);
+        return Ok(COMPARE_TRUE);
     }
-    Ok(5)
+    Ok(COMPARE_FALSE)
 }
 
 // The code for an attribute that may be read.
@@ -58,8 +61,8 @@ fn code_by(alloc: Global, syntax: Syntax, values: &[Value], sent: &[u8]) -> Resu
     match normal(alloc, syntax, sent) {
         Ok(value) => equal_code(alloc, syntax, values, &value),
         Err(ValueFault::Memory) => Err(AllocError),
-        Err(ValueFault::TooLong) => Ok(21),
-        Err(ValueFault::Syntax) => Ok(21),
+        Err(ValueFault::TooLong) => Ok(INVALID_ATTRIBUTE_SYNTAX),
+        Err(ValueFault::Syntax) => Ok(INVALID_ATTRIBUTE_SYNTAX),
     }
 }
 
@@ -73,7 +76,7 @@ fn code_of_values(
         ≡ code_of sent.now (Some (record { syntax = syntax; values = values.now }))) }
 {
     if values.is_empty() {
-        return Ok(16);
+        return Ok(NO_SUCH_ATTRIBUTE);
     }
     code_by(alloc, syntax, values, sent)
 }
@@ -94,7 +97,7 @@ fn code_of(
         Some((syntax, values)) => {
             code_of_values(alloc, syntax, values.as_slice(), request.value.as_slice())
         }
-        None => Ok(16),
+        None => Ok(NO_SUCH_ATTRIBUTE),
     }
 }
 
@@ -117,7 +120,7 @@ fn compare_at(
         }
         None => {
             let above = matched(alloc, dir, token, name)?;
-            done(alloc, id, 32, above)
+            done(alloc, id, NO_SUCH_OBJECT, above)
         }
     }
 }
@@ -135,7 +138,7 @@ fn compare_read(
 {
     let name = match ad_dn::read(alloc, request.dn.as_slice()) {
         Ok(dn) => dn,
-        Err(DnFault::Bad { .. }) => return done(alloc, id, 34, Vec::new(alloc)),
+        Err(DnFault::Bad { .. }) => return done(alloc, id, INVALID_DN_SYNTAX, Vec::new(alloc)),
         Err(DnFault::Memory) => return Err(AllocError),
     };
     compare_at(alloc, dir, token, id, request, &name)

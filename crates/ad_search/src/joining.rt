@@ -7,13 +7,13 @@ ghost use Rattle.ad_search.specs.Steps.{Steps};
 
 use ad_bytes::Bytes;
 use ad_entries::Made;
+use ad_ldap::result_code::{ADMIN_LIMIT_EXCEEDED, SIZE_LIMIT_EXCEEDED, SUCCESS};
+use ad_ldap::tags::SEARCH_DONE;
 use ad_ldap::{Reply, write_reply};
 use std::alloc::{AllocError, Global};
 
 /// The most bytes of all entries of a search together.
 const MAX_JOINED: usize = 16_777_216;
-
-const SEARCH_DONE: u8 = 101;
 
 /// The entries so far: their messages, how many they are, and whether a descriptor of them was left out.
 #[derive(Drop)]
@@ -70,10 +70,10 @@ pub(crate) fn stop_code(size: u32, given: usize, joined: usize, next: usize) -> 
     ensures { result ≡ stop_code size given joined next }
 {
     if size != 0 && size as usize <= given {
-        return Some(4);
+        return Some(SIZE_LIMIT_EXCEEDED);
     }
     if is_too_long(joined, next) {
-        return Some(11);
+        return Some(ADMIN_LIMIT_EXCEEDED);
     }
     None
 }
@@ -131,5 +131,9 @@ pub(crate) fn ended(alloc: Global, joined: Joined, id: u32, code: u8) -> Result<
 pub(crate) fn end_code(is_short: bool) -> u8
     ensures { result ≡ end_code is_short }
 {
-    if is_short { 11 } else { 0 }
+    if is_short {
+        ADMIN_LIMIT_EXCEEDED
+    } else {
+        SUCCESS
+    }
 }

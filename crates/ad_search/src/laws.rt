@@ -3,6 +3,7 @@
 
 ghost use Rattle.std.specs.Prelude.{◌≡◌, ℕ, List, Some, true};
 ghost use Rattle.ad_ids.specs.declared.token.Token.{Token};
+ghost use Rattle.ad_ldap.specs.Choices.{whole_subtree};
 ghost use Rattle.ad_ldap.specs.MessageValue.{SearchValue};
 ghost use Rattle.ad_ldap.specs.declared.requests.Compare.{Compare};
 ghost use Rattle.ad_dn.specs.declared.rdn.Rdn.{Rdn};
@@ -49,7 +50,7 @@ pub fn a_subtree_is_what_is_in_its_scope()
     ensures { (dir : Directory) (number other : ℕ) (base : List Rdn)
         → AreStanding dir.schema dir.objects → is_live dir.objects number ≡ true
         → same_rdns (rdns_of dir number) base ≡ true → is_live dir.objects other ≡ true
-        → in_scope 2 base (rdns_of dir other) ≡ goes_with dir number other }
+        → in_scope whole_subtree base (rdns_of dir other) ≡ goes_with dir number other }
 {}
 
 /// The objects of which a search tried to read something are those whose entries its answer has, in their order.

@@ -6,6 +6,7 @@ ghost use Rattle.ad_dir_model.specs.Names.{same_rdn};
 ghost use Rattle.ad_search.specs.Scope.{same_rdns, is_at_or_below, is_right_below, in_scope};
 
 use ad_dn::Rdn;
+use ad_ldap::{BASE_OBJECT, SINGLE_LEVEL};
 
 fn same_part(a: &Rdn, b: &Rdn) -> bool
     requires a { IsRdn a.now }
@@ -61,10 +62,10 @@ pub(crate) fn in_scope(scope: u8, base: &[Rdn], name: &[Rdn]) -> bool
     requires name { AreRdns name.now }
     ensures { result ≡ in_scope scope base.now name.now }
 {
-    if scope == 0 {
+    if scope == BASE_OBJECT {
         return same_rdns(name, base);
     }
-    if scope == 1 {
+    if scope == SINGLE_LEVEL {
         return is_right_below(base, name);
     }
     is_at_or_below(base, name)

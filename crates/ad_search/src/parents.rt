@@ -1,7 +1,9 @@
 //! Whether objects are seen, judged once for those that stand one after the other below one parent.
 
-ghost use Rattle.std.specs.Prelude.{◌≡◌, ◌≢◌, false, true, IfSome};
-ghost use Rattle.ad_dir_model.specs.Objects.{is_live, parent_at};
+ghost use Rattle.std.specs.Prelude.{◌≡◌, true, IfSome};
+ghost use Rattle.ad_ids.specs.declared.token.Token.{Token as TokenValue};
+ghost use Rattle.ad_dir_model.specs.Directory.{Directory};
+ghost use Rattle.ad_dir_model.specs.Objects.{is_live};
 ghost use Rattle.ad_dir_model.specs.Settings.{list_object_mode};
 ghost use Rattle.ad_access_dir.specs.Sight.{is_visible};
 ghost use Rattle.ad_search.specs.Parents.{IsKept};
@@ -20,11 +22,9 @@ pub(crate) struct Parent {
 }
 
 /// A place where nothing is kept.
-pub(crate) fn no_parent(dir: &Dir, token: &Token) -> Parent
-    ensures { IsKept dir.now token.now result }
+pub(crate) fn no_parent() -> Parent
+    ensures { (dir : Directory) (token : TokenValue) → IsKept dir token result }
 {
-    let _ = dir;
-    let _ = token;
     Parent {
         is_known: false,
         number: 0,
@@ -42,37 +42,6 @@ fn shown_by(kept: &Parent, parent: u32) -> Option<bool>
         return Some(kept.shows);
     }
     None
-}
-
-// What is kept of the parent of an object.
-fn kept_of(last: &Parent, dir: &Dir, token: &Token, number: u32, parent: u32) -> Option<bool>
-    requires kept { IsKept dir.now token.now last.now }
-    requires below { number ≢ 1 }
-    requires parent { parent_at dir.now.objects number ≡ parent }
-    ensures { IfSome result (λ shows. is_visible dir.now token.now number ≡ shows) }
-{
-    let _ = dir;
-    let _ = token;
-    let _ = number;
-    shown_by(last, parent)
-}
-
-// Keeps it.
-fn keep(last: &mut Parent, dir: &Dir, token: &Token, number: u32, parent: u32, shows: bool)
-    requires below { number ≢ 1 }
-    requires mode { list_object_mode dir.now ≡ false }
-    requires parent { parent_at dir.now.objects number ≡ parent }
-    requires shows { is_visible dir.now token.now number ≡ shows }
-    ensures { IsKept dir.now token.now last.new }
-{
-    let _ = dir;
-    let _ = token;
-    let _ = number;
-    *last = Parent {
-        is_known: true,
-        number: parent,
-        shows,
-    };
 }
 
 /// Whether the token sees a live object. `list_mode` is the directory's, and where it is off the parent alone counts.
@@ -93,10 +62,14 @@ pub(crate) fn is_seen(
         return is_visible(dir, token, list_mode, number);
     }
     let parent = live_object(dir, number).parent;
-    if let Some(shows) = kept_of(last, dir, token, number, parent) {
+    if let Some(shows) = shown_by(last, parent) {
         return shows;
     }
     let shows = is_visible(dir, token, list_mode, number);
-    keep(last, dir, token, number, parent, shows);
+    *last = Parent {
+        is_known: true,
+        number: parent,
+        shows,
+    };
     shows
 }

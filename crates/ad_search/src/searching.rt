@@ -30,7 +30,8 @@ use ad_dn::{Dn, DnFault};
 use ad_entries::{Kinds, Sight, entry_judged, no_kinds};
 use ad_filter::{Truth, truth};
 use ad_ids::Token;
-use ad_ldap::Search;
+use ad_ldap::result_code::{INVALID_DN_SYNTAX, NO_SUCH_OBJECT};
+use ad_ldap::{BASE_OBJECT, SINGLE_LEVEL, Search};
 use std::alloc::{AllocError, Global};
 
 // Whether the filter is true of an object.
@@ -138,7 +139,7 @@ fn entries(
         numbers.now)) }
 {
     let list_mode = dir.list_mode();
-    let mut last = no_parent(dir, token);
+    let mut last = no_parent();
     let mut kinds = no_kinds(alloc, dir, token, search)?;
     let mut joined = Joined::new(alloc);
     'each: for number in numbers {
@@ -196,12 +197,12 @@ pub(crate) fn objects_asked(
     ensures live { IfOk result (λ numbers.
         AllByRecursion (λ number. is_live dir.now.objects number ≡ true) numbers.items) }
 {
-    if scope == 0 {
+    if scope == BASE_OBJECT {
         let mut numbers = Vec::new(alloc);
         numbers.push(base)?;
         return Ok(numbers);
     }
-    if scope == 1 {
+    if scope == SINGLE_LEVEL {
         return copied(alloc, dir.children(base));
     }
     whole_asked(alloc, dir, base)
@@ -241,7 +242,7 @@ fn answer_at(
         },
         None => {
             let name = matched(alloc, dir, token, base)?;
-            done(alloc, id, 32, name)
+            done(alloc, id, NO_SUCH_OBJECT, name)
         }
     }
 }
@@ -261,7 +262,7 @@ fn answer_read(
 {
     let base = match ad_dn::read(alloc, search.base.as_slice()) {
         Ok(dn) => dn,
-        Err(DnFault::Bad { .. }) => return done(alloc, id, 34, Vec::new(alloc)),
+        Err(DnFault::Bad { .. }) => return done(alloc, id, INVALID_DN_SYNTAX, Vec::new(alloc)),
         Err(DnFault::Memory) => return Err(AllocError),
     };
     answer_at(alloc, dir, token, id, search, flags, &base)

@@ -6,9 +6,8 @@ ghost use Rattle.ad_dir_model.specs.Objects.{is_live};
 ghost use Rattle.ad_tried.specs.Tried.{tried_value, tried_values};
 ghost use Rattle.ad_search.specs.Compared.{number_compared, may_read, compared_on, compared_of};
 
-use ad_access_dir::class_of;
 use ad_acl::READ_PROPERTY;
-use ad_dir::Dir;
+use ad_dir::{Dir, class_of};
 use ad_entries::is_readable;
 use ad_ids::Token;
 use ad_ldap::Compare;

@@ -20,13 +20,12 @@ use crate::finding::seen_named;
 use crate::joining::{one_more, stop_code};
 use crate::parents::{Parent, no_parent};
 use crate::searching::{found_name, objects_asked};
-use ad_access_dir::class_of;
 use ad_acl::{ACCESS_SYSTEM_SECURITY, READ_CONTROL, READ_PROPERTY};
-use ad_dir::Dir;
+use ad_dir::{Dir, class_of};
 use ad_dn::{Dn, DnFault};
 use ad_entries::{Descriptor, Kinds, descriptor_judged, entry_judged, no_kinds, places_judged};
 use ad_ids::Token;
-use ad_ldap::Search;
+use ad_ldap::{DACL_PART, GROUP_PART, OWNER_PART, SACL_PART, Search};
 use ad_schema::AttrId;
 use ad_tried::succeeded;
 use ad_types::{Path, Tried, path};
@@ -109,8 +108,8 @@ fn push_parts(number: u32, flags: u8, into: &mut Vec<Tried>) -> Result<(), Alloc
     ensures { OnOk result (tried_values into.new.items ≡ tried_values into.old.items
         ++ part_reads number flags) }
 {
-    let control = flags & 1 != 0 || (flags & 2 != 0 || flags & 4 != 0);
-    let security = flags & 8 != 0;
+    let control = flags & OWNER_PART != 0 || (flags & GROUP_PART != 0 || flags & DACL_PART != 0);
+    let security = flags & SACL_PART != 0;
     push_if(
         into,
         control,
@@ -290,7 +289,7 @@ fn reads_among(
         (found_among dir.now token.now (search_seen search.now) base.now numbers.now)) }
 {
     let list_mode = dir.list_mode();
-    let mut last = no_parent(dir, token);
+    let mut last = no_parent();
     let mut kinds = no_kinds(alloc, dir, token, search)?;
     let mut count = Count {
         given: 0,

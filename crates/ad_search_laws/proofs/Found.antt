@@ -20,38 +20,7 @@ use Rattle.ad_dir_model.proofs.ScratchLaws.{root_at}
 use Rattle.ad_dir.specs.Standing.{AreStanding}
 use Rattle.ad_dir.proofs.StandingLaws.{sound_stand}
 use Rattle.ad_search.specs.Scope.{same_rdns}
-use Rattle.ad_search.proofs.NameLaws.{to_part, from_part}
-use Rattle.ad_dn.specs.Fold.{IsSameRdn}
-
--- ---- names from the end
-
-turned : (a b : Rdn) → same_rdn a b ≡ true → same_rdn b a ≡ true
-turned a b is = let same : IsSameRdn a b = from_part a b is
-    in to_part b a (record { kind = sym same.kind; value = sym same.value })
-
-same_snoc : (a b : List Rdn) (x y : Rdn) → same_rdns a b ≡ true → same_rdn x y ≡ true → same_rdns (a ++ x ∷ [])
-    (b ++ y ∷ []) ≡ true
-unfolding same_rdns
-same_snoc [] [] x y all one = and_from (same_rdn x y) true one refl
-same_snoc [] (b ∷ bs) x y all one = absurd (both_ways false refl all)
-same_snoc (a ∷ as') [] x y all one = absurd (both_ways false refl all)
-same_snoc (a ∷ as') (b ∷ bs) x y all one =
-    let parts = and_parts (same_rdn a b) (same_rdns as' bs) all in
-    and_from (same_rdn a b) (same_rdns (as' ++ x ∷ []) (bs ++ y ∷ [])) parts.0 (same_snoc as' bs x y parts.1 one)
-
-last_first : (x : Rdn) (xs : List Rdn) → reverse (x ∷ xs) ≡ reverse xs ++ x ∷ []
-last_first x xs = reverse-append (x ∷ []) xs
-
-same_reverse : (a b : List Rdn) → same_rdns a b ≡ true → same_rdns (reverse a) (reverse b) ≡ true
-unfolding same_rdns
-same_reverse [] [] all = refl
-same_reverse [] (b ∷ bs) all = absurd (both_ways false refl all)
-same_reverse (a ∷ as') [] all = absurd (both_ways false refl all)
-same_reverse (a ∷ as') (b ∷ bs) all =
-    let parts = and_parts (same_rdn a b) (same_rdns as' bs) all in
-    ap (λ (xs : List Rdn). same_rdns xs (reverse (b ∷ bs))) (last_first a as')
-    ∙ ap (λ (ys : List Rdn). same_rdns (reverse as' ++ a ∷ []) ys) (last_first b bs)
-    ∙ same_snoc (reverse as') (reverse bs) a b (same_reverse as' bs parts.1) parts.0
+use Rattle.ad_search.proofs.FoundLaws.{turned, same_snoc, same_reverse}
 
 -- ---- one part down
 

@@ -1,5 +1,4 @@
 mod Alike
-mod Changing
 mod Names
 mod Shown
 mod Views

@@ -15,7 +15,7 @@ use Rattle.ad_dir_model.specs.Names.{rdns_of}
 use Rattle.ad_dir_model.specs.Shown.{shown}
 use Rattle.ad_access_dir.specs.Sight.{is_visible}
 use Rattle.ad_constructed_dir.specs.Changing.{Changing, changing_of}
-use Rattle.ad_search_laws.proofs.Changing.{changing_same}
+use Rattle.ad_constructed_dir.proofs.AlikeLaws.{changing_same}
 use Rattle.ad_entries.specs.Seen.{Seen, is_readable, read_of, reads_from, parts_read, seen_of, seen_among}
 use Rattle.ad_search_laws.proofs.Alike.{AreAlike, same_visible, same_readable}
 use Rattle.ad_search_laws.proofs.Names.{same_name}

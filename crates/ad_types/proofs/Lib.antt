@@ -1,3 +1,4 @@
 pub mod TreeLaws
 pub mod BuildLaws
 pub mod LeafLaws
+mod Paths

@@ -35,5 +35,5 @@ mod type_tree;
 pub use laws::{attributes_are_leaves, nodes_are_placed};
 pub use path_of::path;
 pub use tried::Tried;
-pub use type_path::Path;
+pub use type_path::{Path, last_of};
 pub use type_tree::{Node, TypeTree};

@@ -1,7 +1,7 @@
 //! A path of at most three GUIDs as a value.
 
 ghost use Rattle.std.specs.Prelude.{◌≡◌, [], ◌∷◌};
-ghost use Rattle.ad_types.specs.Path.{guids_of};
+ghost use Rattle.ad_types.specs.Path.{guids_of, last_guid};
 
 use ad_ids::Guid;
 
@@ -69,4 +69,15 @@ impl Path {
             Guids::Three(guids) => guids,
         }
     }
+}
+
+/// The last GUID of a path, where it has one.
+pub fn last_of(guids: &[Guid]) -> Option<Guid>
+    ensures { result ≡ last_guid guids.now }
+{
+    let mut last = None;
+    for guid in guids {
+        last = Some(*guid);
+    }
+    last
 }

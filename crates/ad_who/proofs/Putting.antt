@@ -7,7 +7,8 @@ use Rattle.ad_access_dir.specs.Sight.{is_granted}
 use Rattle.ad_dir_model.specs.Directory.{Directory}
 use Rattle.ad_who.specs.declared.decider.Decider.{Decider}
 use Rattle.ad_who.specs.Decider.{decider_at}
-use Rattle.ad_who.specs.Lines.{spaced, decider_text, granted_line}
+use Rattle.ad_who.specs.Lines.{decider_text, granted_line}
+use Rattle.ad_bytes.specs.Puts.{spaced}
 
 -- what follows where a call succeeds
 pub where_ok : {A E : Type 0} {P Q : Type 0} (r : Result A E) → (P → Q) → OnOk r P → OnOk r Q

@@ -1,12 +1,12 @@
 -- Which right a text asks for, and on which path.
-use Rattle.std.specs.Prelude.{ℕ, ◌<◌, Bool, ◌==◌, ◌&&◌, ◌||◌, if◌then◌else◌, Option, Some, None, codes, List, [], ◌∷◌}
-use Rattle.std.specs.Prelude.{length, slice_get}
+use Rattle.std.specs.Prelude.{ℕ, ◌<◌, Bool, ◌==◌, ◌&&◌, ◌||◌, if◌then◌else◌, Option, Some, None, List, [], ◌∷◌}
+use Rattle.std.specs.Prelude.{nat_lt, length, slice_get}
 use Rattle.std.specs.Option.{option_map, option_and_then}
 use Rattle.std.specs.Str.{bytes_eq}
 use Rattle.ad_ids.specs.declared.guid.Guid.{Guid}
-use Rattle.ad_acl.specs.Mask.{create_child, delete_child, list_children, self_write, read_property, write_property}
-use Rattle.ad_acl.specs.Mask.{delete_tree}
-use Rattle.ad_acl.specs.Mask.{list_object, control_access, delete_object, read_control, write_dac, write_owner}
+use Rattle.ad_acl.specs.declared.codes.Code.{Code}
+use Rattle.ad_acl.specs.Codes.{right_codes}
+use Rattle.ad_acl.specs.Mask.{create_child, delete_child, self_write, read_property, write_property, control_access}
 use Rattle.ad_schema.specs.declared.line.SchemaRecord.{SchemaRecord}
 use Rattle.ad_schema.specs.declared.info.AttrId.{AttrId}
 use Rattle.ad_schema.specs.declared.info.ClassId.{ClassId}
@@ -18,41 +18,23 @@ use Rattle.ad_schema_classes.specs.Names.{same_name}
 use Rattle.ad_types.specs.TypesOf.{path_of}
 use Rattle.ad_dir_model.specs.Directory.{Directory}
 use Rattle.ad_dir_model.specs.Objects.{object_at}
-use Rattle.ad_who.specs.declared.codes.Code.{Code}
 use Rattle.ad_who.specs.declared.asked.On.{On}
 use Rattle.ad_who.specs.declared.asked.On.TheVariants.{Whole, OfAttribute, OfType}
 use Rattle.ad_who.specs.declared.asked.Asked.{Asked}
 
 -- ---- codes
 
-abbrev pub a_code : List ℕ → ℕ → Code
-a_code letters bit = record { letters = letters; bit = bit }
-
--- the letters of each right that may be asked for, with its place in a mask
-abbrev pub single_codes : List Code
-single_codes =
-    a_code (codes "CC") create_child ∷
-    a_code (codes "DC") delete_child ∷
-    a_code (codes "LC") list_children ∷
-    a_code (codes "SW") self_write ∷
-    a_code (codes "RP") read_property ∷
-    a_code (codes "WP") write_property ∷
-    a_code (codes "DT") delete_tree ∷
-    a_code (codes "LO") list_object ∷
-    a_code (codes "CR") control_access ∷
-    a_code (codes "SD") delete_object ∷
-    a_code (codes "RC") read_control ∷
-    a_code (codes "WD") write_dac ∷
-    a_code (codes "WO") write_owner ∷
-    []
-
--- the right of the letters
+-- the place of the right of the letters
 unfoldable pub bit_in : List Code → List ℕ → Option ℕ
 bit_in [] letters = None
-bit_in (code ∷ others) letters = if bytes_eq code.letters letters then Some code.bit else bit_in others letters
+bit_in (code ∷ table) letters = if bytes_eq code.letters letters then Some code.place else bit_in table letters
+
+-- it, where it is no generic right: one of the thirteen of objects and of their descriptors
+abbrev pub asked_for : ℕ → Option ℕ
+asked_for bit = if nat_lt bit 20 then Some bit else None
 
 unfoldable pub bit_of : List ℕ → Option ℕ
-bit_of letters = bit_in single_codes letters
+bit_of letters = option_and_then asked_for (bit_in right_codes letters)
 
 -- ---- names
 

@@ -12,7 +12,7 @@ use Rattle.ad_principals.specs.declared.fault.NameFault.TheVariants as name
 use Rattle.ad_who.specs.declared.fault.AskFault.{AskFault}
 use Rattle.ad_who.specs.declared.fault.AskFault.TheVariants.{NoObject, Several, NoPrincipal, NoIdentifier, NoRight}
 use Rattle.ad_who.specs.declared.fault.AskFault.TheVariants.{TooMany, Memory}
-use Rattle.ad_who.specs.Lines.{ended}
+use Rattle.ad_bytes.specs.Puts.{ended}
 
 -- the line of a fault; want of memory has none
 abbrev pub fault_line : Directory → AskFault → List ℕ

@@ -1,6 +1,7 @@
 -- The lines that tell who can do what.
 use Rattle.std.specs.Prelude.{◌≡◌, ℕ, if◌then◌else◌, List, [], ◌∷◌, ◌++◌, codes, decimal, filter}
 use Rattle.std.specs.List.{flat_map}
+use Rattle.ad_bytes.specs.Puts.{spaced, ended, labelled}
 use Rattle.ad_ids.specs.SidValue.{SidValue}
 use Rattle.ad_ids.specs.SidText.{sid_text}
 use Rattle.ad_ids.specs.declared.guid.Guid.{Guid}
@@ -16,17 +17,6 @@ use Rattle.ad_who.specs.declared.decider.Decider.TheVariants.{Privilege, Owner, 
 use Rattle.ad_who.specs.declared.asked.Asked.{Asked}
 use Rattle.ad_who.specs.Asked.{path_at}
 use Rattle.ad_who.specs.Decider.{decider_at}
-
--- ---- pieces
-
-abbrev pub spaced : List ℕ → List ℕ
-spaced text = text ++ codes " "
-
-abbrev pub ended : List ℕ → List ℕ
-ended text = text ++ codes "\n"
-
-abbrev pub labelled : List ℕ → List ℕ → List ℕ
-labelled label text = label ++ ended text
 
 -- ---- a token
 

@@ -9,8 +9,7 @@ ghost use Rattle.ad_who.specs.Asked.{is_property_right, is_child_right, right_na
 ghost use Rattle.ad_who.specs.Asked.{on_attribute, on_type, asked_behind, asked_of, path_on, path_at, IsOn, IsAsked};
 
 use crate::codes::bit_of;
-use ad_access_dir::class_of;
-use ad_dir::Dir;
+use ad_dir::{Dir, class_of};
 use ad_ids::Guid;
 use ad_schema::{AttrId, ClassId, RightInfo, Schema};
 use ad_schema_classes::same_name;

@@ -7,16 +7,16 @@ ghost use Rattle.ad_acl.specs.EntrySeen.{entry_seen};
 ghost use Rattle.ad_acl.specs.Mask.{has_bit, mapped_has};
 ghost use Rattle.ad_sd.specs.Seen.{seen};
 ghost use Rattle.ad_types.specs.Path.{guids_of};
-ghost use Rattle.ad_access.specs.Holder.{first_holder, holds};
+ghost use Rattle.ad_access.specs.Holder.{first_holder};
 ghost use Rattle.ad_access.specs.Matching.{decides_access, is_inherit_only};
 ghost use Rattle.ad_access.specs.Grant.{decides, sets_owner_rights, is_of_owners, granted_as_owner};
-ghost use Rattle.ad_dir_model.specs.Objects.{is_live, sd_at};
+ghost use Rattle.ad_dir_model.specs.Objects.{is_live};
 ghost use Rattle.ad_access_dir.specs.Sight.{is_granted};
 ghost use Rattle.ad_who.specs.Decider.{by_kind, deciding_from, decider_for, decider, grants, decider_at};
 
 use ad_access::{Rank, is_about, is_inherit_only, matches};
 use ad_acl::{AceIn, AceKind, map_generic};
-use ad_dir::Dir;
+use ad_dir::{Dir, live_sd};
 use ad_ids::{Guid, Sid, TAKE_OWNERSHIP, Token};
 use ad_sd::SdView;
 use ad_types::Path;
@@ -150,13 +150,6 @@ fn has_owner_rights(view: &SdView<'_>) -> bool
     false
 }
 
-// Whether the token holds the identifier.
-fn holds(token: &Token, sid: &Sid) -> bool
-    ensures { result ≡ holds (first_holder token.now) sid.now }
-{
-    token.user == *sid || token.groups.contains(sid)
-}
-
 // Whether the right is one that owners have.
 fn is_of_owners(bit: u32) -> bool
     ensures { result ≡ is_of_owners bit }
@@ -170,7 +163,7 @@ fn granted_as_owner(view: &SdView<'_>, owner: &Sid, token: &Token, bit: u32) -> 
     ensures { result ≡ granted_as_owner owner.now (seen view.now).dacl.entries
         (first_holder token.now) bit }
 {
-    is_of_owners(bit) && holds(token, owner) && !has_owner_rights(view)
+    is_of_owners(bit) && token.holds(owner) && !has_owner_rights(view)
 }
 
 // ---- all
@@ -229,7 +222,7 @@ fn decider_at(dir: &Dir, token: &Token, number: u32, path: &Path, bit: u32) -> D
     ensures { result ≡ decider_at dir.now token.now number (guids_of path.now) bit }
 {
     decider_in(
-        &view_of(dir, number),
+        &live_sd(dir, number),
         dir.self_sid(number),
         token,
         path.guids(),
@@ -249,15 +242,4 @@ pub fn decider_on(dir: &Dir, token: &Token, number: u32, path: &Path, bit: u32) 
         number (guids_of path.now) bit }
 {
     decider_at(dir, token, number, path, bit)
-}
-
-// The descriptor of a live object.
-fn view_of(dir: &Dir, number: u32) -> SdView<'_>
-    requires { is_live dir.now.objects number ≡ true }
-    ensures { seen result ≡ sd_at dir.entry.now.objects number }
-{
-    match dir.sd(number) {
-        Some(view) => view,
-        None => unreachable!(),
-    }
 }

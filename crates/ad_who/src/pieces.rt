@@ -4,7 +4,8 @@ ghost use Rattle.std.specs.Prelude.{◌≡◌, ◌++◌, decimal, true, IfOk, On
 ghost use Rattle.ad_ids.specs.SidText.{sid_text};
 ghost use Rattle.ad_dir_model.specs.Objects.{is_live};
 ghost use Rattle.ad_dir_model.specs.Names.{name_text};
-ghost use Rattle.ad_who.specs.Lines.{spaced, ended, labelled, decider_text};
+ghost use Rattle.ad_who.specs.Lines.{decider_text};
+ghost use Rattle.ad_bytes.specs.Puts.{spaced, ended, labelled};
 
 use crate::decider::Decider;
 use ad_dir::Dir;

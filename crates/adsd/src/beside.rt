@@ -5,6 +5,7 @@ ghost use Rattle.std.specs.Option.{option_map};
 ghost use Rattle.std.specs.String.{string_bytes};
 ghost use Rattle.site_io.specs.Counts.{HasRisen};
 ghost use Rattle.cmd_call.specs.declared.outcome.Outcome.{Outcome};
+ghost use Rattle.cmd_call.specs.declared.outcome.Outcome.TheVariants.{NoCommand, SourceFailed, SiteFailed};
 ghost use Rattle.cmd_call.specs.Outcome.{status_of};
 ghost use Rattle.cmd_call.specs.Store.{HasFailed};
 ghost use Rattle.adsd.specs.Words.{is_store_form};
@@ -65,22 +66,25 @@ pub fn run_beside<I: Source, S: Site, T: Site>(
     other: &mut T,
 ) -> u8
     // Exactly where the words are no form, and then nothing is done.
-    ensures words { (result ≡ 2) ↔ (is_form_beside (map string_bytes words.now) ≡ false) }
-    ensures untouched { result ≡ 2 → (source.new ≡ source.old) × (site.new ≡ site.old)
-        × (other.new ≡ other.old) }
+    ensures words { (result ≡ status_of NoCommand)
+        ↔ (is_form_beside (map string_bytes words.now) ≡ false) }
+    ensures untouched { result ≡ status_of NoCommand → (source.new ≡ source.old)
+        × (site.new ≡ site.old) × (other.new ≡ other.old) }
     // The status is that of an outcome, with which the command does what its rules say.
     ensures does { (outcome : Outcome) × (result ≡ status_of outcome)
         × DoesBeside I.Source S.Site T.Site (is_diff_form (map string_bytes words.now))
         (map string_bytes words.now) source.old source.new site.old site.new other.old other.new
         outcome }
     // A failure has its cause outside. A slot is touched only where the words name a store.
-    ensures source_failed { result ≡ 4 → HasRisen (I.faults source.old) (I.faults source.new) }
-    ensures site_failed { result ≡ 5 → HasFailed S.Site site.old site.new
+    ensures source_failed { result ≡ status_of SourceFailed → HasRisen (I.faults source.old)
+        (I.faults source.new) }
+    ensures site_failed { result ≡ status_of SiteFailed → HasFailed S.Site site.old site.new
         ⊎ HasRisen (T.slot_faults other.old) (T.slot_faults other.new) }
     ensures slots { is_store_form (map string_bytes words.now) ≡ false
         → is_diff_form (map string_bytes words.now) ≡ false
         → (S.slot_faults site.new ≡ S.slot_faults site.old)
-        × (result ≡ 5 → HasRisen (S.out_faults site.old) (S.out_faults site.new)) }
+        × (result ≡ status_of SiteFailed → HasRisen (S.out_faults site.old)
+        (S.out_faults site.new)) }
 {
     if is_diff_form(words) {
         diff(alloc, site, other).status()

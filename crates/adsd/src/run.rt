@@ -6,6 +6,7 @@ ghost use Rattle.std.specs.Option.{option_map};
 ghost use Rattle.std.specs.String.{string_bytes};
 ghost use Rattle.site_io.specs.Counts.{HasRisen};
 ghost use Rattle.cmd_call.specs.declared.outcome.Outcome.{Outcome};
+ghost use Rattle.cmd_call.specs.declared.outcome.Outcome.TheVariants.{NoCommand, SourceFailed, SiteFailed};
 ghost use Rattle.cmd_call.specs.Outcome.{status_of};
 ghost use Rattle.adsd.specs.Commands.{Does};
 ghost use Rattle.adsd.specs.Words.{is_form, is_store_form, command_of, command_with_store, command_with_frames};
@@ -370,20 +371,25 @@ fn second_more(words: &[String]) -> &str
 /// or `audit` took 1,000,000 frames and more bytes were there.
 pub fn run<I: Source, S: Site>(alloc: Global, words: &[String], source: &mut I, site: &mut S) -> u8
     // Exactly where the words are no form, and then nothing is done.
-    ensures words { (result ≡ 2) ↔ (is_form (map string_bytes words.now) ≡ false) }
-    ensures untouched { result ≡ 2 → (source.new ≡ source.old) × (site.new ≡ site.old) }
+    ensures words { (result ≡ status_of NoCommand)
+        ↔ (is_form (map string_bytes words.now) ≡ false) }
+    ensures untouched { result ≡ status_of NoCommand → (source.new ≡ source.old)
+        × (site.new ≡ site.old) }
     // The status is that of an outcome, with which the command does what its rules say.
     ensures does { (outcome : Outcome) × (result ≡ status_of outcome)
         × Does I.Source S.Site (command_of (map string_bytes words.now))
         (name_given (map string_bytes words.now))
         (more_given (map string_bytes words.now)) source.old source.new site.old site.new outcome }
     // A failure has its cause outside. A slot is touched only where the words name a store.
-    ensures source_failed { result ≡ 4 → HasRisen (I.faults source.old) (I.faults source.new) }
-    ensures site_failed { result ≡ 5 → HasRisen (S.slot_faults site.old) (S.slot_faults site.new)
+    ensures source_failed { result ≡ status_of SourceFailed → HasRisen (I.faults source.old)
+        (I.faults source.new) }
+    ensures site_failed { result ≡ status_of SiteFailed
+        → HasRisen (S.slot_faults site.old) (S.slot_faults site.new)
         ⊎ HasRisen (S.out_faults site.old) (S.out_faults site.new) }
     ensures slots { is_store_form (map string_bytes words.now) ≡ false
         → (S.slot_faults site.new ≡ S.slot_faults site.old)
-        × (result ≡ 5 → HasRisen (S.out_faults site.old) (S.out_faults site.new)) }
+        × (result ≡ status_of SiteFailed → HasRisen (S.out_faults site.old)
+        (S.out_faults site.new)) }
 {
     match command_of(words) {
         Some(Command::Access) => access(alloc, source, site).status(),

@@ -15,7 +15,7 @@ use Rattle.ad_access.specs.Rights.{right_at}
 use Rattle.adsd_c.specs.declared.refusal.Refusal.{Refusal}
 use Rattle.adsd_c.specs.declared.refusal.Refusal.TheVariants as refusal
 use Rattle.adsd_c.specs.declared.tree.TypeNode.{TypeNode}
-use Rattle.adsd_c.specs.Refusal.{is_memory, code_of}
+use Rattle.adsd_c.specs.Refusal.{answered, no_memory, no_room, is_memory, code_of}
 use Rattle.adsd_c.specs.Reading.{sid_if, path_of}
 use Rattle.adsd_c.specs.Descriptors.{normal_sd}
 use Rattle.adsd_c.specs.Tree.{nodes_of}
@@ -94,19 +94,21 @@ JudgesEach view want (Err fault) question = is_memory fault ≡ false → questi
 abbrev pub AreNone : List ℕ → Type 0
 AreNone masks = (place : ℕ) → slice_index_or masks place 0 ≡ 0
 
--- Masks are put at the start, with code 0; or none where there is too little room, with code 2.
+-- Masks are put at the start, or none where there is too little room.
 abbrev pub PutsEach : List ℕ → ℕ → List ℕ → Type 0
 PutsEach found code masks =
-    ((code ≡ 0) × (length found ≤ length masks)
+    ((code ≡ answered) × (length found ≤ length masks)
     × ((place : ℕ) → place < length found → slice_index_or masks place 0 ≡ slice_index_or found place 0))
-    ⊎ ((code ≡ 2) × (length masks < length found) × AreNone masks)
+    ⊎ ((code ≡ no_room) × (length masks < length found) × AreNone masks)
 
--- The masks with code 0; with any other no right is given: with 2 where there is room for fewer than there are nodes.
+-- The masks; with any code but that of an answer no right is given, as where there is room for fewer masks than there
+-- are nodes.
 abbrev pub TellsEach : ℕ → Result TreeQuestion Refusal → ℕ → List ℕ → Type 0
 TellsEach want (Ok q) code masks =
-    ((code ≡ 0) × AreMasks want q masks) ⊎ ((code ≡ 2) × (length masks < length q.nodes) × AreNone masks)
+    ((code ≡ answered) × AreMasks want q masks)
+    ⊎ ((code ≡ no_room) × (length masks < length q.nodes) × AreNone masks)
 TellsEach want (Err fault) code masks = (code ≡ code_of fault) × AreNone masks
 
 -- the answer, or that memory ran out
 abbrev pub TellsEachUnless : ℕ → Result TreeQuestion Refusal → ℕ → List ℕ → Type 0
-TellsEachUnless want question code masks = TellsEach want question code masks ⊎ ((code ≡ 1) × AreNone masks)
+TellsEachUnless want question code masks = TellsEach want question code masks ⊎ ((code ≡ no_memory) × AreNone masks)

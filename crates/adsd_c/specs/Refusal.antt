@@ -14,6 +14,16 @@ abbrev pub is_memory : Refusal → Bool
 is_memory refusal.Memory = true
 is_memory _ = false
 
+-- the codes of an answer, of want of memory, and of an answer for which there is too little room
+abbrev pub answered : ℕ
+answered = 0
+
+abbrev pub no_memory : ℕ
+no_memory = 1
+
+abbrev pub no_room : ℕ
+no_room = 2
+
 -- the code of what goes wrong in a text of a descriptor
 abbrev pub code_of_kind : SddlKind → ℕ
 code_of_kind kind.Part = 32
@@ -26,9 +36,9 @@ code_of_kind kind.Rights = 38
 code_of_kind kind.Guid = 39
 code_of_kind kind.Shape = 40
 
--- The code of a refusal. Code 0 is that of an answer, and 2 that of an answer for which there is too little room.
+-- the code of a refusal
 abbrev pub code_of : Refusal → ℕ
-code_of refusal.Memory = 1
+code_of refusal.Memory = no_memory
 code_of refusal.Sd = 3
 code_of refusal.Parent = 4
 code_of refusal.Token = 5

@@ -1,12 +1,10 @@
 -- The descriptor by which something is judged is that of the object.
-use Rattle.std.proofs.Common.{◌≡◌, ◌∙◌, ℕ, suc, ◌+◌, ◌<◌, ◌≤◌, Bool, true, false, Option, Some, None, List, [], ◌∷◌}
-use Rattle.std.proofs.Common.{◌++◌, get_or, length, take, drop, drop-cons, append_assoc, refl, sym, ap, arith}
+use Rattle.std.proofs.Common.{◌≡◌, ◌∙◌, ℕ, suc, ◌+◌, ◌<◌, ◌≤◌, Bool, true, false, Option, Some, None, List}
+use Rattle.std.proofs.Common.{◌++◌, get_or, length, drop, drop-cons, append_assoc, refl, sym, ap, arith}
 use Rattle.std.specs.List.{flat_map}
-use Rattle.std.proofs.lemmas.List.{take_more, append-nil, drop_all}
-use Rattle.ad_ids.specs.declared.guid.Guid.{Guid}
+use Rattle.std.proofs.lemmas.List.{append-nil, drop_all}
 use Rattle.ad_types.specs.declared.tried.Tried.{Tried}
 use Rattle.ad_tried.specs.Tried.{TriedValue, tried_value, tried_values}
-use Rattle.cmd_audit.specs.Log.{last_guid}
 use Rattle.std.specs.Prelude.{option_map, is_some}
 use Rattle.std.specs.Option.{option_map_or}
 use Rattle.std.proofs.lemmas.Option.{none-some, same_Some}
@@ -26,17 +24,6 @@ by_none f (Some o) e = absurd (none-some o.sd e)
 pub there : (r : Option Object) (sd : Sd) → Some sd ≡ option_map (λ (o : Object). o.sd) r → is_some r ≡ true
 there None sd e = absurd (none-some sd (sym e))
 there (Some o) sd e = refl
-
--- ---- the last GUID of a path
-
-last_push : (guids : List Guid) (guid : Guid) → last_guid (guids ++ guid ∷ []) ≡ Some guid
-last_push [] guid = refl
-last_push (first ∷ []) guid = refl
-last_push (first ∷ second ∷ others) guid = last_push (second ∷ others) guid
-
-pub last_more : (guids : List Guid) (i : ℕ) (d : Guid) → i < length guids → Some (get_or guids i d)
-    ≡ last_guid (take (i + 1) guids)
-last_more guids i d lt = sym (last_push (take i guids) (get_or guids i d)) ∙ ap last_guid (sym (take_more guids i d lt))
 
 -- ---- one line more
 

@@ -1,8 +1,7 @@
 -- What frames leave in the security log.
-use Rattle.std.specs.Prelude.{ℕ, suc, Bool, false, if◌then◌else◌, is_some, Option, Some, None, List, [], ◌∷◌, ◌++◌}
+use Rattle.std.specs.Prelude.{ℕ, suc, Bool, false, if◌then◌else◌, is_some, Option, List, [], ◌∷◌, ◌++◌}
 use Rattle.std.specs.List.{flat_map}
 use Rattle.std.specs.Option.{option_map_or}
-use Rattle.ad_ids.specs.declared.guid.Guid.{Guid}
 use Rattle.ad_ids.specs.declared.token.Token.{Token}
 use Rattle.ad_dir_model.specs.Object.{Object}
 use Rattle.ad_dir_model.specs.Objects.{object_of}
@@ -15,6 +14,7 @@ use Rattle.ad_frames.specs.declared.frame.FrameBody.TheVariants as body
 use Rattle.ad_engine.specs.Tokens.{token_of}
 use Rattle.ad_engine.specs.Answer.{answer}
 use Rattle.ad_engine.specs.Runs.{no_tokens}
+use Rattle.ad_types.specs.Path.{last_guid}
 use Rattle.ad_tried.specs.Tried.{TriedValue}
 use Rattle.ad_audit.specs.declared.event.Event.{Event}
 use Rattle.ad_audit.specs.Audited.{audited}
@@ -29,11 +29,6 @@ unfoldable pub is_audited : Directory → Token → TriedValue → Bool
 is_audited dir token t =
     option_map_or (λ (o : Object). is_some (audited o.sd token (self_sid dir t.object) t.path t.right t.success))
     (object_of dir.objects t.object) false
-
-abbrev pub last_guid : List Guid → Option Guid
-last_guid [] = None
-last_guid (guid ∷ []) = Some guid
-last_guid (guid ∷ other ∷ others) = last_guid (other ∷ others)
 
 -- the event, with the name that the object has in this directory
 abbrev pub event_of : Directory → Token → Stamp → TriedValue → Event

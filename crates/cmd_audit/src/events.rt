@@ -5,13 +5,13 @@ ghost use Rattle.ad_dir_model.specs.Objects.{is_live};
 ghost use Rattle.ad_dir_model.specs.Names.{name_text};
 ghost use Rattle.ad_audit.specs.Line.{event_line};
 ghost use Rattle.ad_tried.specs.Tried.{tried_value, tried_values};
-ghost use Rattle.cmd_audit.specs.Log.{is_audited, last_guid, event_of, lines_of_one, lines_of};
+ghost use Rattle.cmd_audit.specs.Log.{is_audited, event_of, lines_of_one, lines_of};
 
 use ad_audit::{Event, audited, line};
 use ad_bytes::Bytes;
 use ad_dir::Dir;
-use ad_ids::{Guid, Token};
-use ad_types::Tried;
+use ad_ids::Token;
+use ad_types::{Tried, last_of};
 use std::alloc::{AllocError, Global};
 
 /// The frame in which something is tried.
@@ -20,17 +20,6 @@ pub(crate) struct Stamp {
     /// Its number, from 1.
     pub frame: u32,
     pub connection: u16,
-}
-
-// The last GUID of a path, where it has one.
-fn last_of(guids: &[Guid]) -> Option<Guid>
-    ensures { result ≡ last_guid guids.now }
-{
-    let mut last = None;
-    for guid in guids {
-        last = Some(*guid);
-    }
-    last
 }
 
 // Whether the object is there, and its descriptor as it is stored asks for the event.

@@ -1,44 +1,31 @@
 -- A comparison, from what the slots of two stores are opened as and from what was emitted.
-use Rattle.std.proofs.Common.{◌≡◌, ◌⊎◌, inl, inr, ℕ, Bool, true, false, List, ◌++◌, Option, Err, refl}
+use Rattle.std.proofs.Common.{◌≡◌, ◌⊎◌, inl, inr, ℕ, Bool, true, false, List, Err, refl}
 use Rattle.std.proofs.Common.{sym, subst, arith}
 use Rattle.std.specs.Option.{IfSome}
 use Rattle.site_io.specs.Counts.{HasRisen}
-use Rattle.site_io.specs.Disk.{Images}
 use Rattle.site_io.specs.Told.{StaysTold}
 use Rattle.site_io.specs.Outside.{OnlyLooks}
 use Rattle.site_io.specs.declared.site.Site.{Ghosts as SiteGhosts}
 use Rattle.ad_dir_model.specs.Directory.{Directory}
 use Rattle.ad_rows_write.specs.Rows.{IsStoreOf}
-use Rattle.ad_rows.proofs.Once.{one_store}
 use Rattle.ad_engine.specs.Opening.{is_outside}
 use Rattle.cmd_call.specs.Call.{IsTold}
-use Rattle.cmd_call.specs.Store.{HasFailed, KeepsSlots, Emits, SaysUnless}
+use Rattle.cmd_call.specs.Store.{HasFailed, KeepsSlots, Emits}
 use Rattle.cmd_call.specs.declared.outcome.Outcome.{Outcome}
 use Rattle.cmd_call.specs.declared.outcome.Outcome.TheVariants.{NoStore, SiteFailed, NoMemory}
-use Rattle.cmd_call.proofs.Moments.{told_meets, told_clash, stays_same, looks_keep, goes_not, IsLawful}
+use Rattle.cmd_call.proofs.Moments.{stays_same, looks_keep, goes_not, IsLawful}
 use Rattle.cmd_call.proofs.Telling.{Tells, whole, part, nothing, telling_by, unhealthy}
 use Rattle.cmd_store.specs.EngineWords.{Refuses, IsOpenedAs, OpenFault}
 use Rattle.cmd_store.specs.OpenFaults as slots
 use Rattle.cmd_store.specs.Opened.{IsDirStore, NoDirStore}
-use Rattle.cmd_store.proofs.Refusing.{inside, never_refused}
-use Rattle.cmd_store.specs.Lines.{store_line}
+use Rattle.cmd_store.proofs.Refusing.{inside, never_refused, stands_clash, same_dir}
+use Rattle.cmd_store.proofs.Refusing.{LineEnds, line_said, site_lost, short, line_refusal}
+use Rattle.cmd_store.specs.Answered.{outcome_of}
+use Rattle.cmd_store.specs.Refused.{RefusedAs}
 use Rattle.cmd_diff.specs.Lines.{first_word, second_word, first_line, second_line}
 use Rattle.cmd_diff.specs.Compares.{Question, IsFirst, IsSecond, IsNoFirst, IsNoSecond, IsPartlyCompared}
 use Rattle.cmd_diff.specs.Compares.{AreHealthy, ComparesDoes}
-use Rattle.cmd_diff.specs.Steps.{outcome_of, TellsOf, RefusedAs, ComparesBeside}
-
--- ---- stores
-
--- slots that represent a directory are no others
-stands_clash : (dir : Directory) (r : Option Images) → IfSome r (λ held. IsStoreOf held dir) → IsTold NoDirStore r → ⊥
-stands_clash dir r stands none = told_clash NoDirStore (λ held. IsStoreOf held dir) r (λ held no is. no (dir, is))
-    none stands
-
--- the one directory
-same_dir : (r : Option Images) (a b : Directory) → IsTold (λ held. IsStoreOf held a) r
-    → IfSome r (λ held. IsStoreOf held b) → a ≡ b
-same_dir r a b told stands = told_meets (λ held. IsStoreOf held a) (λ held. IsStoreOf held b) r
-    (λ held of_a of_b. one_store held a b of_a of_b) told stands
+use Rattle.cmd_diff.specs.Steps.{TellsOf, ComparesBeside}
 
 -- a site that isn't called
 pub looks_not : {S : Type 0} (site : SiteGhosts S) → IsLawful site → (x : S) → OnlyLooks site x x
@@ -51,50 +38,6 @@ looks_not site law x = record {
   never_falls = omega arith;
   out_faults = refl;
 }
-
--- ---- how a store is refused
-
--- The line was emitted, or a part of it, or nothing where the site failed before or memory ran out.
-data Ends {S : Type 0} (site : SiteGhosts S) (x y z : S) (line : List ℕ) (fault : OpenFault)
-    (outcome : Outcome) : Type 0 where
-  line_said : is_outside fault ≡ false → Tells site x z line NoStore outcome → Ends site x y z line fault outcome
-  site_lost : fault ≡ slots.Site → outcome ≡ SiteFailed → z ≡ y → StaysTold (site.emitted x) (site.emitted z)
-      → Ends site x y z line fault outcome
-  short : outcome ≡ NoMemory → StaysTold (site.emitted x) (site.emitted z) → Ends site x y z line fault outcome
-
-record Refusal {S : Type 0} (site : SiteGhosts S) (x y z : S) (line : List ℕ) (fault : OpenFault)
-    (outcome : Outcome) : Type 0 where
-  pub ends : Ends site x y z line fault outcome
-  pub keeps : KeepsSlots site x z
-
-module _ {S : Type 0} (site : SiteGhosts S) (which : List ℕ) where
-  line_by : (x y z : S) (fault : OpenFault) (outcome : Outcome) → OnlyLooks site x y → is_outside fault ≡ false
-      → SaysUnless site y z (which ++ store_line fault) NoStore outcome
-      → Refusal site x y z (which ++ store_line fault) fault outcome
-  line_by x y z fault outcome looks within says =
-      let telling = telling_by site x y z (which ++ store_line fault) NoStore outcome looks says in
-      record { ends = line_said within telling.ends; keeps = telling.slots }
-
-  -- for whatever reason
-  refusal_by : (x y z : S) (fault : OpenFault) (outcome : Outcome) → OnlyLooks site x y
-      → RefusedAs site which y z fault outcome → Refusal site x y z (which ++ store_line fault) fault outcome
-  refusal_by x y z slots.Taken outcome looks refused = line_by x y z slots.Taken outcome looks refl refused
-  refusal_by x y z slots.Empty outcome looks refused = line_by x y z slots.Empty outcome looks refl refused
-  refusal_by x y z slots.Broken outcome looks refused = line_by x y z slots.Broken outcome looks refl refused
-  refusal_by x y z (slots.Row kind number) outcome looks refused = line_by x y z (slots.Row kind number) outcome looks
-      refl refused
-  refusal_by x y z (slots.Unsound number) outcome looks refused = line_by x y z (slots.Unsound number) outcome looks refl
-      refused
-  refusal_by x y z slots.Site outcome looks refused = record {
-    ends = site_lost refl refused.0 refused.1
-        (subst (λ (s : S). StaysTold (site.emitted x) (site.emitted s)) (sym refused.1) looks.output);
-    keeps = subst (KeepsSlots site x) (sym refused.1) (looks_keep site x y looks);
-  }
-  refusal_by x y z slots.Memory outcome looks refused = record {
-    ends = short refused.0
-        (subst (λ (s : S). StaysTold (site.emitted x) (site.emitted s)) (sym refused.1) looks.output);
-    keeps = subst (KeepsSlots site x) (sym refused.1) (looks_keep site x y looks);
-  }
 
 -- no two directories are both answered and refused
 abbrev pub Excludes : Question → Type 0
@@ -297,7 +240,7 @@ module _ {S T : Type 0} (site : SiteGhosts S) (other : SiteGhosts T) (asks : Que
   first_ends : (x y z : S) (u w : T) (fault : OpenFault) (outcome : Outcome) → KeepsSlots site x z
       → OnlyLooks other u w → IfSome (site.reads x) (λ held. IsOpenedAs held (Err fault))
       → (fault ≡ slots.Site → HasRisen (site.slot_faults x) (site.slot_faults y))
-      → Ends site x y z (first_line fault) fault outcome → Compares x z u w outcome
+      → LineEnds site x y z (first_line fault) fault outcome → Compares x z u w outcome
   first_ends x y z u w fault outcome keeps apart opened risen (line_said within line) = first_said x z u w fault outcome
       keeps apart within (inside (site.reads x) fault within opened) line
   first_ends x y z u w fault outcome keeps apart opened risen (site_lost is over same quiet) =
@@ -313,7 +256,7 @@ module _ {S T : Type 0} (site : SiteGhosts S) (other : SiteGhosts T) (asks : Que
       → (fault ≡ slots.Site → HasRisen (site.slot_faults x) (site.slot_faults y))
       → RefusedAs site first_word y z fault outcome → Compares x z u u outcome
   by_first x y z u fault outcome law looks opened risen refused =
-      let refusal = refusal_by site first_word x y z fault outcome looks refused in
+      let refusal = line_refusal site first_word x y z fault outcome looks refused in
       first_ends x y z u u fault outcome refusal.keeps (looks_not other law u) opened risen refusal.ends
 
   -- the second one
@@ -340,7 +283,7 @@ module _ {S T : Type 0} (site : SiteGhosts S) (other : SiteGhosts T) (asks : Que
       → KeepsSlots site x z → OnlyLooks other u w → IsFirst site other x first
       → (is_outside fault ≡ false → IfSome (other.reads u) (λ held. Refuses held fault))
       → (fault ≡ slots.Site → HasRisen (other.slot_faults u) (other.slot_faults w))
-      → Ends site x y z (second_line fault) fault outcome → Compares x z u w outcome
+      → LineEnds site x y z (second_line fault) fault outcome → Compares x z u w outcome
   second_ends x y z u w first fault outcome keeps apart is_first none risen (line_said within line) =
       second_said x z u w first fault outcome keeps apart is_first within (none within) line
   second_ends x y z u w first fault outcome keeps apart is_first none risen (site_lost is over same quiet) =
@@ -354,6 +297,6 @@ module _ {S T : Type 0} (site : SiteGhosts S) (other : SiteGhosts T) (asks : Que
   by_second x y z u w first outcome looks is_first (inl tells) = of_told x y z u w first tells.second outcome looks
       is_first tells.store tells.looks tells.tells
   by_second x y z u w first outcome looks is_first (inr none) =
-      let refusal = refusal_by site second_word x y z none.fault outcome looks none.refused in
+      let refusal = line_refusal site second_word x y z none.fault outcome looks none.refused in
       second_ends x y z u w first none.fault outcome refusal.keeps none.looks is_first none.store none.cause
       refusal.ends

@@ -1,19 +1,16 @@
 //! The whole command.
 
-ghost use Rattle.std.specs.Prelude.{◌≡◌, ◌⊎◌, ◌++◌};
+ghost use Rattle.std.specs.Prelude.{◌≡◌, ◌⊎◌};
 ghost use Rattle.site_io.specs.Counts.{HasRisen};
 ghost use Rattle.ad_diff.specs.Answers.{DiffTold};
-ghost use Rattle.cmd_call.specs.Store.{HasFailed, SaysUnless};
-ghost use Rattle.cmd_call.specs.declared.outcome.Outcome.TheVariants.{SiteFailed, NoStore};
-ghost use Rattle.cmd_store.specs.Lines.{store_line};
+ghost use Rattle.cmd_call.specs.Store.{HasFailed};
+ghost use Rattle.cmd_call.specs.declared.outcome.Outcome.TheVariants.{SiteFailed};
 ghost use Rattle.cmd_diff.specs.Compares.{DiffDoes};
-ghost use Rattle.cmd_diff.specs.Steps.{outcome_of, TellsOf, RefusedAs, ComparesBeside};
+ghost use Rattle.cmd_diff.specs.Steps.{TellsOf, ComparesBeside};
 
-use crate::lines::line_of;
 use ad_dir::Dir;
-use ad_engine::OpenFault;
 use cmd_call::{Outcome, say};
-use cmd_store::Engine;
+use cmd_store::{Engine, outcome_of, refuse_as};
 use site_io::Site;
 use std::alloc::{AllocError, Global};
 
@@ -23,17 +20,6 @@ const FIRST: &str = "first ";
 /// And the second one.
 const SECOND: &str = "second ";
 
-// How the command ends with an answer, and without one.
-fn outcome_of(answered: bool) -> Outcome
-    ensures { result ≡ outcome_of answered }
-{
-    if answered {
-        Outcome::Done
-    } else {
-        Outcome::NoObject
-    }
-}
-
 // Emits how two directories differ.
 fn tell<S: Site>(alloc: Global, site: &mut S, first: &Dir, second: &Dir) -> Outcome
     ensures { TellsOf S.Site DiffTold first.now second.now site.old site.new result }
@@ -41,33 +27,6 @@ fn tell<S: Site>(alloc: Global, site: &mut S, first: &Dir, second: &Dir) -> Outc
     match ad_diff::diff(alloc, first, second) {
         Ok(told) => say(site, &told.text, outcome_of(told.answered)),
         Err(AllocError) => Outcome::NoMemory,
-    }
-}
-
-// Emits the line of a store that was not opened.
-fn say_fault<S: Site>(alloc: Global, site: &mut S, which: &str, fault: OpenFault) -> Outcome
-    ensures { SaysUnless S.Site site.old site.new (which.now ++ store_line fault) NoStore result }
-{
-    match line_of(alloc, which, fault) {
-        Ok(line) => say(site, &line, Outcome::NoStore),
-        Err(AllocError) => Outcome::NoMemory,
-    }
-}
-
-// Ends where a store was not opened: with a line, where its slots represent no directory.
-fn refuse_as<S: Site>(alloc: Global, site: &mut S, which: &str, fault: OpenFault) -> Outcome
-    ensures { RefusedAs S.Site which.now site.old site.new fault result }
-{
-    match fault {
-        OpenFault::Site => Outcome::SiteFailed,
-        OpenFault::Memory => Outcome::NoMemory,
-        OpenFault::Taken => say_fault(alloc, site, which, OpenFault::Taken),
-        OpenFault::Empty => say_fault(alloc, site, which, OpenFault::Empty),
-        OpenFault::Broken => say_fault(alloc, site, which, OpenFault::Broken),
-        OpenFault::Row(kind, number) => {
-            say_fault(alloc, site, which, OpenFault::Row(kind, number))
-        }
-        OpenFault::Unsound(number) => say_fault(alloc, site, which, OpenFault::Unsound(number)),
     }
 }
 

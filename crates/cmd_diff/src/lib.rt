@@ -22,6 +22,5 @@
 #![tactic(auto)]
 
 mod comparing;
-mod lines;
 
 pub use comparing::diff;

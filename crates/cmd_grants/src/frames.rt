@@ -5,12 +5,13 @@ ghost use Rattle.ad_bytes.specs.Numbers.{be_bytes};
 ghost use Rattle.ad_ldifmod.specs.Grants.{IsOfFrame, AreFrames};
 ghost use Rattle.cmd_grants.specs.Frames.{frame_with, frame_of, frames_of};
 
+use ad_frames::kind_byte;
 use ad_ldap::Message;
 use ad_ldifmod_message::write_message;
 use std::alloc::{AllocError, Global};
 
 /// The frame of a message begins with its kind and with connection 0.
-const MESSAGE: &[u8] = &[2, 0, 0];
+const MESSAGE: &[u8] = &[kind_byte::MESSAGE, 0, 0];
 
 // Puts a number at the end, in four bytes, the most significant first.
 #[tactic(auto, unfolding(ad_bytes::specs::Numbers::be_bytes))]

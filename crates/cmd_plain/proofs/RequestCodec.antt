@@ -25,7 +25,7 @@ use Rattle.cmd_call.proofs.Lengths.{sid_length}
 use Rattle.cmd_plain.specs.declared.request.Request.{Request}
 use Rattle.cmd_plain.specs.declared.request.RequestFault.{RequestFault}
 use Rattle.cmd_plain.specs.declared.request.RequestFault.TheVariants.{Form}
-use Rattle.cmd_plain.specs.Request.{Question, SpellsQuestion}
+use Rattle.cmd_plain.specs.Request.{Question, SpellsQuestion, max_token}
 use Rattle.cmd_plain.specs.RequestReading.{is_memory, question_of}
 use Rattle.cmd_plain.specs.RequestView.{question_seen}
 
@@ -33,7 +33,7 @@ pub question_found : (bytes : List ℕ) (q : Question) → IsBytes bytes → que
 unfolding question_of
 question_found bytes q fits e =
     from_bind (or_fault Form (be_at 4 bytes)) _ q e (λ (n : ℕ × List ℕ) (e1 : or_fault Form (be_at 4 bytes) ≡ Ok n) e2.
-    from_need (leb n.0 262144) Form _ q e2 (λ (few : leb n.0 262144 ≡ true) e3.
+    from_need (leb n.0 max_token) Form _ q e2 (λ (few : leb n.0 max_token ≡ true) e3.
     from_bind (or_fault Form (part_at n.0 n.1)) _ q e3
     (λ (p : List ℕ × List ℕ) (e4 : or_fault Form (part_at n.0 n.1) ≡ Ok p) e5.
     from_bind (or_fault Form (token_of p.0)) _ q e5
@@ -83,7 +83,7 @@ question_again bytes q s =
     let w = s.others_are in
     let v = w.follows in
     let small : n < 256 ^ 4 = omega (arith, s.token_fits) in
-    let few : leb n 262144 ≡ true = le-leb n 262144 s.token_fits in
+    let few : leb n max_token ≡ true = le-leb n max_token s.token_fits in
     let size : be_at 4 bytes ≡ Ok (n, s.token ++ s.others) = ap (be_at 4) s.parts
     ∙ (be_reader 4).again n (be_bytes 4 n) (s.token ++ s.others) (small, refl) in
     let part : part_at n (s.token ++ s.others) ≡ Ok (s.token, s.others) = (part_reader n).again s.token s.token

@@ -1,6 +1,6 @@
 -- What a text is answered with.
-use Rattle.std.proofs.Common.{◌≡◌, inl, inr, ℕ, ◌-◌, ◌<◌, ◌≤◌, ◌++◌, Bool, true, false, if◌then◌else◌, List, length}
-use Rattle.std.proofs.Common.{take, Option, None, Some, Ok, Err, Result, sym, ap, ◌∙◌, arith}
+use Rattle.std.proofs.Common.{◌≡◌, inl, inr, ℕ, ◌+◌, ◌-◌, ◌<◌, ◌≤◌, ◌++◌, Bool, true, false, if◌then◌else◌, List}
+use Rattle.std.proofs.Common.{length, take, Option, None, Some, Ok, Err, Result, sym, ap, ◌∙◌, arith}
 use Rattle.std.specs.Prelude.{codes}
 use Rattle.std.proofs.lemmas.List.{length-take-le}
 use Rattle.site_io.specs.Told.{BothTold}
@@ -12,21 +12,21 @@ use Rattle.ad_sddl.specs.declared.fault.SddlFault.{SddlFault}
 use Rattle.ad_sddl.specs.declared.fault.SddlFault.TheVariants.{Bad}
 use Rattle.ad_sddl.specs.Grammar.{SpellsSddl}
 use Rattle.ad_sddl.specs.Reading.{read_of}
-use Rattle.cmd_plain.specs.Sddl.{ends_a_line, text_of, NoDescriptorText, RefusesText, NoText, Refuses, word_of}
+use Rattle.cmd_plain.specs.Sddl.{limit, ends_a_line, text_of, NoDescriptorText, RefusesText, NoText, Refuses, word_of}
 use Rattle.cmd_plain.specs.Sddl.{refusal, IsRefusedSo, IsPartlyEmitted}
 
-length_without : (ends : Bool) (input : List ℕ) → 1048577 < length input → 1048576
+length_without : (ends : Bool) (input : List ℕ) → limit + 1 < length input → limit
     < length (if ends then take (length input - 1) input else input)
 length_without true input above =
     let shorter = length-take-le (length input - 1) input (omega arith) in
     omega (arith, shorter)
 length_without false input above = omega (arith, above)
 
-pub is_long : (input : List ℕ) → 1048577 < length input → 1048576 < length (text_of input)
+pub is_long : (input : List ℕ) → limit + 1 < length input → limit < length (text_of input)
 unfolding text_of
 is_long input above = length_without (ends_a_line input) input above
 
-pub long_refused : (text line : List ℕ) → 1048576 < length text → line ≡ refusal (codes "long") 1048576
+pub long_refused : (text line : List ℕ) → limit < length text → line ≡ refusal (codes "long") limit
     → NoDescriptorText text × RefusesText text line
 long_refused text line above line_is = (
   (λ d. omega (arith, above, d.2.within)),
@@ -34,7 +34,7 @@ long_refused text line above line_is = (
       (record { above = above; line_is = line_is }),
 )
 
-pub bad_refused : (text line word : List ℕ) (fault : SddlKind) (place : ℕ) → length text ≤ 1048576
+pub bad_refused : (text line word : List ℕ) (fault : SddlKind) (place : ℕ) → length text ≤ limit
     → ((parts : SdParts) → SpellsSddl None parts text → ◌≡◌ {A = Result SdParts SddlFault} (Ok parts)
     (Err (Bad place fault))) → read_of None text ≡ Err (Bad place fault) → word ≡ word_of fault → line
     ≡ refusal word place → NoDescriptorText text × RefusesText text line
@@ -51,7 +51,7 @@ bad_refused text line word fault place within only first word_is line_is = (
       })),
 )
 
-pub list_refused : (text line : List ℕ) (parts : SdParts) → length text ≤ 1048576 → SpellsSddl None parts text
+pub list_refused : (text line : List ℕ) (parts : SdParts) → length text ≤ limit → SpellsSddl None parts text
     → ((others : SdParts) → SpellsSddl None others text → ◌≡◌ {A = Result SdParts SddlFault} (Ok others) (Ok parts))
     → written parts ≡ Err TooLong → line ≡ refusal (codes "long") (length text) → NoDescriptorText text
     × RefusesText text line

@@ -16,12 +16,16 @@ pub record Question : Type 0 where
   pub dacl : List Entry
   pub want : ℕ
 
--- The length of the token in four bytes, the most significant first, and at most 262,144; the token; the owner's
+-- the most bytes of a token
+abbrev pub max_token : ℕ
+max_token = 262144
+
+-- The length of the token in four bytes, the most significant first, and at most that; the token; the owner's
 -- identifier; the list; the wanted rights in four bytes, the most significant first; and nothing after them.
 pub record SpellsQuestion (q : Question) (text : List ℕ) : Type 0 where
   pub token : List ℕ
   pub others : List ℕ
-  pub token_fits : length token ≤ 262144
+  pub token_fits : length token ≤ max_token
   pub token_is : SpellsToken q.token token
   pub others_are : StartsWith SpellsSid q.owner (StartsWith SpellsList q.dacl (SpellsBe 4 q.want)) others
   pub parts : text ≡ be_bytes 4 (length token) ++ (token ++ others)

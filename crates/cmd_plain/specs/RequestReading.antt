@@ -11,7 +11,7 @@ use Rattle.ad_acl.specs.declared.fault.AclFault.{AclFault}
 use Rattle.ad_acl.specs.declared.fault.AclFault.TheVariants.{Memory as ListMemory}
 use Rattle.cmd_plain.specs.declared.request.RequestFault.{RequestFault}
 use Rattle.cmd_plain.specs.declared.request.RequestFault.TheVariants.{Form, Memory}
-use Rattle.cmd_plain.specs.Request.{Question}
+use Rattle.cmd_plain.specs.Request.{Question, max_token}
 
 abbrev pub is_memory : RequestFault → Bool
 is_memory Form = false
@@ -21,7 +21,7 @@ is_memory Memory = true
 unfoldable pub question_of : List ℕ → Result Question RequestFault
 question_of bytes = do
   size ← or_fault Form (be_at 4 bytes)
-  _ ← need (nat_le size.0 262144) Form
+  _ ← need (nat_le size.0 max_token) Form
   text ← or_fault Form (part_at size.0 size.1)
   token ← or_fault Form (token_of text.0)
   owner ← or_fault Form (sid_at text.1)

@@ -9,15 +9,22 @@ ghost use Rattle.cmd_plain.specs.declared.request.RequestFault.TheVariants.{Form
 
 use ad_acl::{Ace, AclFault, read_list};
 use ad_bytes::{Input, Short};
-use ad_ids::{Sid, SidFault, Token, TokenFault};
+use ad_ids::{MAX_SID_BYTES, Sid, SidFault, Token, TokenFault};
 use std::alloc::{AllocError, Global};
 use thiserror::Error;
 
 /// The largest length of a token, in bytes.
 const MAX_TOKEN_BYTES: u32 = 262_144;
 
+/// The largest length of a list, in bytes, whose size stands in sixteen bits.
+const MAX_LIST_BYTES: usize = 65_535;
+
 /// The largest length of a question, in bytes: of the token's length, the token, an identifier, a list and a mask.
-pub const MAX_REQUEST_BYTES: usize = 4 + 262_144 + 68 + 65_535 + 4;
+pub const MAX_REQUEST_BYTES: usize = 4
+    + MAX_TOKEN_BYTES as usize
+    + MAX_SID_BYTES
+    + MAX_LIST_BYTES
+    + 4;
 
 /// Why bytes are no question.
 #[derive(Clone, Copy, Debug, PartialEq, Eq, Error)]

@@ -1,11 +1,11 @@
 //! The command `sddl`: the bytes of a descriptor that stands as a text, and its canonical text.
 
-ghost use Rattle.std.specs.Prelude.{◌≡◌, ◌<◌, ℕ, List, length, IfOk, IfErr, IsErrOf};
+ghost use Rattle.std.specs.Prelude.{◌≡◌, ◌<◌, ◌+◌, ℕ, List, length, IfOk, IfErr, IsErrOf};
 ghost use Rattle.std.specs.String.{string_bytes};
 ghost use Rattle.site_io.specs.Counts.{HasRisen};
 ghost use Rattle.cmd_call.specs.Outcome.{IsStopped};
 ghost use Rattle.cmd_call.specs.declared.outcome.Outcome.TheVariants.{NoCommand, SourceFailed, SiteFailed};
-ghost use Rattle.cmd_plain.specs.Sddl.{SddlDoes, text_of, word_of, refusal, lines_of};
+ghost use Rattle.cmd_plain.specs.Sddl.{SddlDoes, limit, text_of, word_of, refusal, lines_of};
 ghost use Rattle.cmd_plain.specs.SddlReply.{IsReply, IsReplyFor, ReadToEnd};
 
 use ad_acl::AclWriteFault;
@@ -98,7 +98,7 @@ fn reply_to(alloc: Global, input: &[u8]) -> Result<Reply, AllocError>
 
 // The reply to more than the longest text and a line end.
 fn long(alloc: Global) -> Result<Reply, AllocError>
-    ensures { IfOk result (λ reply. (input : List ℕ) → 1048577 < length input → IsReply input reply
+    ensures { IfOk result (λ reply. (input : List ℕ) → limit + 1 < length input → IsReply input reply
         × ((behind : List ℕ) → ReadToEnd reply behind)) }
 {
     Ok(Reply::Refusal(refusal(alloc, "long", MAX_TEXT_BYTES)?))

@@ -13,11 +13,10 @@ use Rattle.ad_engine.specs.declared.fault.OpenFault.TheVariants as fault
 use Rattle.cmd_call.specs.declared.outcome.Outcome.{Outcome}
 use Rattle.cmd_call.specs.declared.outcome.Outcome.TheVariants.{Done, SiteFailed, NoMemory}
 use Rattle.cmd_call.specs.Store.{HasFailed, KeepsSlots, SaysUnless}
-use Rattle.cmd_call.proofs.Moments.{told_clash, told_map}
+use Rattle.cmd_call.proofs.Moments.{told_map}
 use Rattle.cmd_call.proofs.Telling.{Tells, whole, part, nothing, telling_by, unhealthy}
-use Rattle.cmd_store.specs.Opened.{NoDirStore}
 use Rattle.cmd_store.specs.Refused.{Refused}
-use Rattle.cmd_store.proofs.Refusing.{never_refused, Ends, refused, failed, stopped, refusal_by, partly_said}
+use Rattle.cmd_store.proofs.Refusing.{stands_clash, never_refused, Ends, refused, failed, stopped, refusal_by, partly_said}
 use Rattle.cmd_store.specs.Check.{check_text, IsCheckText, IsPartlyChecked, CheckDoes}
 
 module _ {S : Type 0} (site : SiteGhosts S) where
@@ -68,8 +67,7 @@ module _ {S : Type 0} (site : SiteGhosts S) where
       done = λ _. record { dir = dir; store = stands; text = text };
       no_store = λ no. absurd cc;
       complete = λ _ _. inl refl;
-      refuses = λ none _. absurd (told_clash NoDirStore (λ held. IsStoreOf held dir) (site.reads x)
-          (λ held no is. no (dir, is)) none stands);
+      refuses = λ none _. absurd (stands_clash dir (site.reads x) stands none);
       partly = λ no. absurd cc;
       quiet = λ no. absurd cc;
       slots = keeps;

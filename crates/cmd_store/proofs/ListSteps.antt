@@ -1,22 +1,14 @@
 -- `adsd list`, from what the slots are opened as and from what was emitted.
-use Rattle.std.proofs.Common.{◌≡◌, ◌∙◌, inl, inr, ℕ, Bool, true, false, List, [], ◌∷◌, Option, Some, None, Err, refl}
-use Rattle.std.proofs.Common.{sym, ap, subst}
-use Rattle.std.specs.Prelude.{◌&&◌, reverse, length, drop, if◌then◌else◌}
+use Rattle.std.proofs.Common.{◌≡◌, ◌∙◌, inl, inr, ℕ, List, Option, Some, None, Err, refl, sym, ap, subst}
 use Rattle.std.specs.Option.{IfSome}
-use Rattle.std.proofs.lemmas.Bool.{and_parts}
-use Rattle.std.proofs.lemmas.Option.{none-some, same_Some, option_and_then_some}
+use Rattle.std.proofs.lemmas.Option.{none-some}
 use Rattle.site_io.specs.Counts.{HasRisen}
 use Rattle.site_io.specs.Disk.{Images}
 use Rattle.site_io.specs.Told.{StaysTold}
 use Rattle.site_io.specs.Outside.{OnlyLooks}
 use Rattle.site_io.specs.declared.site.Site.{Ghosts as SiteGhosts}
 use Rattle.ad_dn.specs.Value.{AreRdns}
-use Rattle.ad_dn.specs.declared.rdn.Rdn.{Rdn}
 use Rattle.ad_dir_model.specs.Directory.{Directory}
-use Rattle.ad_dir_model.specs.Names.{rdns_of, begins_with, child_of_rdn, found_below, found_from_end, found}
-use Rattle.ad_dir_model.specs.Objects.{Rise, is_live}
-use Rattle.ad_dir_model.specs.Tree.{root}
-use Rattle.ad_dir.proofs.NameLaws.{child_lives}
 use Rattle.ad_rows_write.specs.Rows.{IsStoreOf}
 use Rattle.ad_rows.proofs.Once.{one_store}
 use Rattle.ad_engine.specs.Opening.{IsOpenedAs}
@@ -33,37 +25,6 @@ use Rattle.cmd_store.specs.Refused.{Refused}
 use Rattle.cmd_store.proofs.Refusing.{never_with, Ends, refused, failed, stopped, refusal_by, partly_said}
 use Rattle.cmd_store.specs.List.{ListDoes, IsStoreNamed, HasObject, HasNoObject, IsListText, IsPartlyListed}
 use Rattle.cmd_store.specs.List.{number_named, text_for, list_text, outcome_for, list_outcome}
-
--- ---- the object of a name is live
-
-below_lives : (dir : Directory) (n m : ℕ) (rdns : List Rdn) → Rise dir.objects → is_live dir.objects n ≡ true
-    → found_below dir n rdns ≡ Some m → is_live dir.objects m ≡ true
-unfolding found_below
-below_lives dir n m [] rise live is = subst (λ (k : ℕ). is_live dir.objects k ≡ true) (same_Some n m is) live
-below_lives dir n m (rdn ∷ rdns) rise live is =
-    option_and_then_some (λ (child : ℕ). found_below dir child rdns) (child_of_rdn dir n rdn) m is
-    (λ (child : ℕ) first rest.
-    below_lives dir child m rdns rise (child_lives dir n child rdn rise first) rest)
-
-found_lives : (dir : Directory) (rdns : List Rdn) (m : ℕ) → Rise dir.objects → found dir rdns ≡ Some m
-    → is_live dir.objects m ≡ true
-unfolding found
-found_lives dir rdns m rise is = by_end (reverse (rdns_of dir root)) (reverse rdns) is
-  where
-    by_end : (top parts : List Rdn) → found_from_end dir top parts ≡ Some m → is_live dir.objects m ≡ true
-    by_end top parts is' = by_test (is_live dir.objects root && begins_with parts top) refl is'
-      where
-        by_test : (b : Bool) → (is_live dir.objects root && begins_with parts top) ≡ b
-            → (if b then found_below dir root (drop (length top) parts) else None) ≡ Some m
-            → is_live dir.objects m ≡ true
-        by_test true e is'' = below_lives dir root m (drop (length top) parts) rise
-            (and_parts (is_live dir.objects root) (begins_with parts top) e).0 is''
-        by_test false e is'' = absurd (none-some m is'')
-
-pub found_live : (dir : Directory) (rdns : List Rdn) (r : Option ℕ) → Rise dir.objects → r ≡ found dir rdns
-    → IfSome r (λ n. is_live dir.objects n ≡ true)
-found_live dir rdns None rise is = tt
-found_live dir rdns (Some n) rise is = found_lives dir rdns n rise (sym is)
 
 -- ---- one directory
 

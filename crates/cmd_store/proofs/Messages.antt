@@ -21,7 +21,8 @@ use Rattle.ad_sddl.specs.Grammar.{no_parts}
 use Rattle.ad_sddl.specs.Reading.{end_at, code_at, codes_at, hex_at, guid_at, alias_at, sid_at, type_at, entry_at}
 use Rattle.ad_sddl.specs.Reading.{entries_at, list_flag_at, list_flags_at, list_at, once_at, part_at, rest_at}
 use Rattle.ad_sddl.specs.Reading.{located, read_of}
-use Rattle.ad_sddl.specs.Words.{begins, flag_codes, right_codes, alias_codes}
+use Rattle.ad_sddl.specs.Words.{begins, alias_codes}
+use Rattle.ad_acl.specs.Codes.{flag_codes, right_codes}
 use Rattle.ad_ber.specs.Writing.{width, length_bytes, header, element_bytes, number_bytes, number_element}
 use Rattle.ad_ber.proofs.Shortest.{width_within}
 use Rattle.ad_frames.specs.Limits.{max_body}

@@ -1,5 +1,5 @@
 -- Slots that were not opened: from why, and from what was emitted.
-use Rattle.std.proofs.Common.{◌≡◌, ◌⊎◌, inl, inr, ℕ, List, Option, Some, None, Err, false, refl, sym, subst}
+use Rattle.std.proofs.Common.{◌≡◌, ◌⊎◌, inl, inr, ℕ, List, [], ◌++◌, Option, Some, None, Err, false, refl, sym, subst}
 use Rattle.std.specs.Option.{IfSome}
 use Rattle.site_io.specs.Counts.{HasRisen}
 use Rattle.site_io.specs.Told.{StaysTold}
@@ -10,8 +10,9 @@ use Rattle.gate_log.proofs.Single.{none_empty}
 use Rattle.row_store.specs.Rows.{HasTable}
 use Rattle.row_store.specs.Table.{Table}
 use Rattle.ad_rows.specs.Refusal.{StandsForNone}
-use Rattle.ad_rows_write.specs.Rows.{AreRowsOf}
-use Rattle.ad_rows.proofs.Once.{one_table}
+use Rattle.ad_dir_model.specs.Directory.{Directory}
+use Rattle.ad_rows_write.specs.Rows.{AreRowsOf, IsStoreOf}
+use Rattle.ad_rows.proofs.Once.{one_table, one_store}
 use Rattle.ad_engine.specs.Opening.{Refuses, is_outside, IsOpenedAs}
 use Rattle.ad_engine.specs.declared.fault.OpenFault.{OpenFault}
 use Rattle.ad_engine.specs.declared.fault.OpenFault.TheVariants as fault
@@ -19,10 +20,10 @@ use Rattle.cmd_call.specs.declared.outcome.Outcome.{Outcome}
 use Rattle.cmd_call.specs.declared.outcome.Outcome.TheVariants.{NoStore, SiteFailed, NoMemory}
 use Rattle.cmd_call.specs.Call.{IsTold}
 use Rattle.cmd_call.specs.Store.{HasFailed, SaysUnless, EmitsPart, KeepsSlots}
-use Rattle.cmd_call.proofs.Moments.{told_map, looks_keep}
+use Rattle.cmd_call.proofs.Moments.{told_clash, told_map, told_meets, looks_keep}
 use Rattle.cmd_call.proofs.Telling.{Tells, whole, part, nothing, telling_by}
-use Rattle.cmd_store.specs.Opened.{IsDirStore, IsNoStore}
-use Rattle.cmd_store.specs.Refused.{Refused}
+use Rattle.cmd_store.specs.Opened.{IsDirStore, NoDirStore, IsNoStore}
+use Rattle.cmd_store.specs.Refused.{Refused, RefusedAs}
 use Rattle.cmd_store.specs.Lines.{store_line}
 
 -- why slots were not opened, where it isn't for a reason outside
@@ -57,6 +58,66 @@ pub never_with : (Holds : Images → Type 0) → ((held : Images) → Holds held
 never_with Holds is why None told refuses = absurd told
 never_with Holds is why (Some held) told refuses = stored_not held why refuses (is held told)
 
+-- ---- one directory
+
+-- slots that represent a directory are no others
+pub stands_clash : (dir : Directory) (r : Option Images) → IfSome r (λ held. IsStoreOf held dir)
+    → IsTold NoDirStore r → ⊥
+stands_clash dir r stands none = told_clash NoDirStore (λ held. IsStoreOf held dir) r (λ held no is. no (dir, is))
+    none stands
+
+-- the one directory
+pub same_dir : (r : Option Images) (a b : Directory) → IsTold (λ held. IsStoreOf held a) r
+    → IfSome r (λ held. IsStoreOf held b) → a ≡ b
+same_dir r a b told stands = told_meets (λ held. IsStoreOf held a) (λ held. IsStoreOf held b) r
+    (λ held of_a of_b. one_store held a b of_a of_b) told stands
+
+-- ---- the line of a fault, after a word
+
+-- The line was emitted, or a part of it, or nothing where the site failed before or memory ran out.
+pub data LineEnds {S : Type 0} (site : SiteGhosts S) (x y z : S) (line : List ℕ) (why : OpenFault)
+    (outcome : Outcome) : Type 0 where
+  line_said : is_outside why ≡ false → Tells site x z line NoStore outcome → LineEnds site x y z line why outcome
+  site_lost : why ≡ fault.Site → outcome ≡ SiteFailed → z ≡ y → StaysTold (site.emitted x) (site.emitted z)
+      → LineEnds site x y z line why outcome
+  short : outcome ≡ NoMemory → StaysTold (site.emitted x) (site.emitted z) → LineEnds site x y z line why outcome
+
+pub record LineRefusal {S : Type 0} (site : SiteGhosts S) (x y z : S) (line : List ℕ) (why : OpenFault)
+    (outcome : Outcome) : Type 0 where
+  pub ends : LineEnds site x y z line why outcome
+  pub keeps : KeepsSlots site x z
+
+module _ {S : Type 0} (site : SiteGhosts S) (which : List ℕ) where
+  line_by : (x y z : S) (why : OpenFault) (outcome : Outcome) → OnlyLooks site x y → is_outside why ≡ false
+      → SaysUnless site y z (which ++ store_line why) NoStore outcome
+      → LineRefusal site x y z (which ++ store_line why) why outcome
+  line_by x y z why outcome looks within says =
+      let telling = telling_by site x y z (which ++ store_line why) NoStore outcome looks says in
+      record { ends = line_said within telling.ends; keeps = telling.slots }
+
+  -- for whatever reason
+  pub line_refusal : (x y z : S) (why : OpenFault) (outcome : Outcome) → OnlyLooks site x y
+      → RefusedAs site which y z why outcome → LineRefusal site x y z (which ++ store_line why) why outcome
+  line_refusal x y z fault.Taken outcome looks refused = line_by x y z fault.Taken outcome looks refl refused
+  line_refusal x y z fault.Empty outcome looks refused = line_by x y z fault.Empty outcome looks refl refused
+  line_refusal x y z fault.Broken outcome looks refused = line_by x y z fault.Broken outcome looks refl refused
+  line_refusal x y z (fault.Row kind number) outcome looks refused = line_by x y z (fault.Row kind number) outcome looks
+      refl refused
+  line_refusal x y z (fault.Unsound number) outcome looks refused = line_by x y z (fault.Unsound number) outcome looks
+      refl refused
+  line_refusal x y z fault.Site outcome looks refused = record {
+    ends = site_lost refl refused.0 refused.1
+        (subst (λ (s : S). StaysTold (site.emitted x) (site.emitted s)) (sym refused.1) looks.output);
+    keeps = subst (KeepsSlots site x) (sym refused.1) (looks_keep site x y looks);
+  }
+  line_refusal x y z fault.Memory outcome looks refused = record {
+    ends = short refused.0
+        (subst (λ (s : S). StaysTold (site.emitted x) (site.emitted s)) (sym refused.1) looks.output);
+    keeps = subst (KeepsSlots site x) (sym refused.1) (looks_keep site x y looks);
+  }
+
+-- ---- a command over one store
+
 -- a prefix of the line for slots that represent no directory was emitted
 abbrev pub SaysPart : {S : Type 0} → SiteGhosts S → S → S → Type 0
 SaysPart site x z = (why : OpenFault) × IfSome (site.reads x) (λ held. Refuses held why) × EmitsPart (site.emitted x)
@@ -82,40 +143,26 @@ module _ {S : Type 0} (site : SiteGhosts S) where
   refusal_ends x z why outcome within none (part is risen line) = failed is (inr risen) (inr (why, none, line))
   refusal_ends x z why outcome within none (nothing is quiet) = stopped is quiet
 
-  refusal_said : (x y z : S) (why : OpenFault) (outcome : Outcome) → OnlyLooks site x y → is_outside why ≡ false
-      → IfSome (site.reads x) (λ held. Refuses held why) → SaysUnless site y z (store_line why) NoStore outcome
-      → Refusal x z outcome
-  refusal_said x y z why outcome looks within none said =
-      let telling = telling_by site x y z (store_line why) NoStore outcome looks said in
-      record { ends = refusal_ends x z why outcome within none telling.ends; slots = telling.slots }
+  refusal_as : (x y z : S) (why : OpenFault) (outcome : Outcome)
+      → (is_outside why ≡ false → IfSome (site.reads x) (λ held. Refuses held why))
+      → (why ≡ fault.Site → HasRisen (site.slot_faults x) (site.slot_faults y))
+      → LineEnds site x y z (store_line why) why outcome → Ends site x z outcome
+  refusal_as x y z why outcome none risen (line_said within tells) =
+      refusal_ends x z why outcome within (none within) tells
+  refusal_as x y z why outcome none risen (site_lost is over same quiet) = failed over
+      (inl (subst (λ (s : S). HasRisen (site.slot_faults x) (site.slot_faults s)) (sym same) (risen is))) (inl quiet)
+  refusal_as x y z why outcome none risen (short is quiet) = stopped is quiet
 
-  -- for whatever reason
   pub refusal_by : (x y z : S) (why : OpenFault) (outcome : Outcome) → OnlyLooks site x y
       → IfSome (site.reads x) (λ held. IsOpenedAs held (Err why))
       → (why ≡ fault.Site → HasRisen (site.slot_faults x) (site.slot_faults y)) → Refused site y z why outcome
       → Refusal x z outcome
-  refusal_by x y z fault.Taken outcome looks opened risen said = refusal_said x y z fault.Taken outcome looks refl
-      (inside (site.reads x) fault.Taken refl opened) said
-  refusal_by x y z fault.Empty outcome looks opened risen said = refusal_said x y z fault.Empty outcome looks refl
-      (inside (site.reads x) fault.Empty refl opened) said
-  refusal_by x y z fault.Broken outcome looks opened risen said = refusal_said x y z fault.Broken outcome looks refl
-      (inside (site.reads x) fault.Broken refl opened) said
-  refusal_by x y z (fault.Row kind number) outcome looks opened risen said =
-      refusal_said x y z (fault.Row kind number) outcome looks refl
-      (inside (site.reads x) (fault.Row kind number) refl opened) said
-  refusal_by x y z (fault.Unsound number) outcome looks opened risen said =
-      refusal_said x y z (fault.Unsound number) outcome looks refl
-      (inside (site.reads x) (fault.Unsound number) refl opened) said
-  refusal_by x y z fault.Site outcome looks opened risen said = record {
-    ends = failed said.0 (inl (subst (λ (s : S). HasRisen (site.slot_faults x) (site.slot_faults s)) (sym said.1)
-        (risen refl)))
-        (inl (subst (λ (s : S). StaysTold (site.emitted x) (site.emitted s)) (sym said.1) looks.output));
-    slots = subst (KeepsSlots site x) (sym said.1) (looks_keep site x y looks);
-  }
-  refusal_by x y z fault.Memory outcome looks opened risen said = record {
-    ends = stopped said.0 (subst (λ (s : S). StaysTold (site.emitted x) (site.emitted s)) (sym said.1) looks.output);
-    slots = subst (KeepsSlots site x) (sym said.1) (looks_keep site x y looks);
-  }
+  refusal_by x y z why outcome looks opened risen said =
+      let line = line_refusal site [] x y z why outcome looks said in
+      record {
+        ends = refusal_as x y z why outcome (λ within. inside (site.reads x) why within opened) risen line.ends;
+        slots = line.keeps;
+      }
 
   -- What was emitted of the line is a part of a text that may be emitted for the slots.
   pub partly_said : (IsText : Images → List ℕ → Type 0) (x z : S)

@@ -7,6 +7,7 @@ use Rattle.ad_bytes.specs.declared.input.Short.{Short}
 use Rattle.ad_ber.specs.Reading.{element_at}
 use Rattle.ad_ber.specs.declared.finding.Tagged.{Tagged}
 use Rattle.ad_ber.specs.declared.fault.BerFault.{BerFault}
+use Rattle.ad_ldap.specs.Tags.{search_entry}
 use Rattle.ad_ids.specs.declared.token.Token.{Token}
 use Rattle.ad_frames.specs.declared.frame.Frame.{Frame}
 use Rattle.ad_dir_model.specs.Directory.{Directory}
@@ -41,12 +42,16 @@ number_behind places bytes = do
   n ← be_at 4 head.1
   Ok n.0
 
--- the first number of a body, which stands after seven bytes, and the second
+-- what stands before a body: its kind, its connection and its length
+abbrev pub header_length : ℕ
+header_length = 7
+
+-- the first number of a body, and the second
 abbrev pub first_number : List ℕ → ℕ
-first_number output = or_zero (number_behind 7 output)
+first_number output = or_zero (number_behind header_length output)
 
 abbrev pub second_number : List ℕ → ℕ
-second_number output = or_zero (number_behind 11 output)
+second_number output = or_zero (number_behind (header_length + 4) output)
 
 -- ---- the entries of a search
 
@@ -57,9 +62,9 @@ operation_of message = do
   operation ← element_at id.1
   Ok operation.0.tag
 
--- an entry that was found (application 4 of RFC 4511)
+-- an entry that was found
 abbrev pub is_entry : Result ℕ BerFault → Bool
-is_entry (Ok tag) = tag == 0x64
+is_entry (Ok tag) = tag == search_entry
 is_entry (Err e) = false
 
 abbrev pub one_if : Bool → ℕ
@@ -85,4 +90,4 @@ entries_behind (Err e) = 0
 
 -- in the body of an answer
 unfoldable pub found_in : List ℕ → ℕ
-found_in output = entries_behind (part_at 7 output)
+found_in output = entries_behind (part_at header_length output)

@@ -4,7 +4,7 @@ use Rattle.site_io.specs.Told.{BothTold}
 use Rattle.ad_load_records.specs.declared.fault.LoadFault.{LoadFault}
 use Rattle.ad_load_records.specs.declared.fault.LoadFault.TheVariants.{Bad}
 use Rattle.ad_load_records.specs.Pieces.{Came, gives}
-use Rattle.ad_load_records.specs.Records.{Record, records_in}
+use Rattle.ad_load_records.specs.Records.{Record, records_in, most_lines}
 use Rattle.ad_load_records.specs.Seen.{seen}
 use Rattle.cmd_store.specs.declared.input.Read.{Read}
 use Rattle.cmd_store.specs.declared.input.Read.TheVariants as read
@@ -22,7 +22,7 @@ IsReadOf rest left (read.Records records) = (text : List ℕ) × (records_in tex
 IsReadOf rest left (read.Refusal at cause) = BothTold rest left (λ input behind. records_in input ≡ Err (Bad at cause))
 
 abbrev pub AreFew : Read → Type 0
-AreFew (read.Records records) = length records.items ≤ 67108864
+AreFew (read.Records records) = length records.items ≤ most_lines
 AreFew (read.Refusal at cause) = Unit {0}
 
 -- This text came: it stands before what is left of the input, and with what is still to come it gives what the

@@ -1,6 +1,7 @@
 pub mod EngineWords
 pub mod OpenFaults
 pub mod Lines
+pub mod Answered
 pub mod Opened
 pub mod Refused
 pub mod Causes

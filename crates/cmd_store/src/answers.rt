@@ -10,14 +10,12 @@ use crate::count_stale;
 use ad_ber::{BerFault, Tagged};
 use ad_bytes::{Bytes, Input, Short};
 use ad_dir::Dir;
+use ad_ldap::tags;
 use cmd_call::put_counted;
 use std::alloc::{AllocError, Global};
 
 /// What stands before a body: its kind, its connection and its length.
 const HEADER: usize = 7;
-
-/// The tag of an entry that a search found.
-const ENTRY: u8 = 0x64;
 
 // The answer of a place.
 fn output_at(answers: &[Bytes], place: usize) -> &[u8]
@@ -73,7 +71,7 @@ fn is_entry(message: &[u8]) -> bool
     ensures { result ≡ is_entry (operation_of message.now) }
 {
     match operation_of(message) {
-        Ok(tag) => tag == ENTRY,
+        Ok(tag) => tag == tags::SEARCH_ENTRY,
         Err(_) => false,
     }
 }

@@ -23,6 +23,7 @@
 //! the directory.
 #![tactic(auto)]
 
+mod answered;
 mod answers;
 mod causes;
 mod checking;
@@ -43,6 +44,7 @@ mod storing;
 mod unopened;
 
 pub use ad_engine::Engine;
+pub use answered::outcome_of;
 pub use checking::check;
 pub use effect::effective;
 pub use frames::{MAX_FRAMES, at_last, of_frame, of_open, serve};
@@ -53,5 +55,4 @@ pub use sampling::sample;
 pub use settling::settle;
 pub use size::size_of;
 pub use stale::count_stale;
-pub use store_lines::TAKEN;
-pub use unopened::refuse;
+pub use unopened::{refuse, refuse_as};

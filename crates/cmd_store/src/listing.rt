@@ -35,7 +35,6 @@ pub fn number_named(alloc: Global, dir: &Dir, name: &[u8]) -> Result<Option<u32>
     ensures named { IfOk result (λ number. number ≡ number_named dir.now name.now) }
     ensures live { IfOk result (λ number. IfSome number (λ n. is_live dir.now.objects n ≡ true)) }
 {
-    dir.stands();
     match ad_dn::read(alloc, name) {
         Ok(dn) => dir.find(alloc, &dn),
         Err(DnFault::Bad { place: _ }) => Ok(None),

@@ -12,11 +12,12 @@ ghost use Rattle.cmd_store.specs.Lines.{objects_line};
 ghost use Rattle.cmd_store.specs.Causes.{load_line};
 ghost use Rattle.cmd_store.specs.Load.{LoadDoes};
 ghost use Rattle.cmd_store.specs.Loading.{IsGiven, IsGivenFor, HasSound, Keeps, LoadsEmpty};
+ghost use Rattle.ad_load_records.specs.Records.{most_lines};
 
-use crate::TAKEN;
 use crate::causes::line_of_cause;
 use crate::input::{Read, read_input};
-use crate::storing::stored;
+use crate::store_lines::TAKEN;
+use crate::storing::create_store;
 use ad_engine::OpenFault;
 use ad_load::{LoadCause, LoadFault, Parts, parts_of};
 use ad_load_records::Record;
@@ -34,7 +35,7 @@ pub enum Given {
 // What a text with these records gives.
 fn given_by(alloc: Global, records: Vec<Record>) -> Result<Given, AllocError>
     requires read { (text : List ℕ) × (records_in text ≡ Ok (map seen records.items)) }
-    requires few { length records.items ≤ 67108864 }
+    requires few { length records.items ≤ most_lines }
     ensures given { IfOk result (λ given. (text : List ℕ) → records_in text
         ≡ Ok (map seen records.items) → IsGiven given text) }
     ensures sound { IfOk result HasSound }
@@ -89,7 +90,7 @@ fn keep<S: Site>(alloc: Global, site: &mut S, dir: Parts) -> Outcome
         Ok(line) => line,
         Err(AllocError) => return Outcome::NoMemory,
     };
-    match stored(alloc, site, dir) {
+    match create_store(alloc, site, dir) {
         Ok(()) => say(site, &line, Outcome::Done),
         Err(OpenFault::Taken) => say(site, TAKEN.as_bytes(), Outcome::NoStore),
         Err(OpenFault::Memory) => Outcome::NoMemory,

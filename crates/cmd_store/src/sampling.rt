@@ -10,10 +10,11 @@ ghost use Rattle.cmd_call.specs.declared.outcome.Outcome.TheVariants.{SiteFailed
 ghost use Rattle.cmd_store.specs.Sample.{sent, SampleDoes};
 ghost use Rattle.cmd_store.specs.SampleServing.{IsGiven, IsCutOff, IsServed, AreServed, TellsServed, Samples};
 ghost use Rattle.cmd_store.specs.SampleServing.{SamplesEmpty};
+ghost use Rattle.cmd_store.specs.Size.{max_size};
 
-use crate::TAKEN;
 use crate::answers::text_of;
 use crate::sent::sent_frames;
+use crate::store_lines::TAKEN;
 use ad_bytes::Bytes;
 use ad_dir::Dir;
 use ad_engine::{Engine, EngineFault, OpenFault};
@@ -116,7 +117,7 @@ fn keep<S: Site>(alloc: Global, site: &mut S, dir: Dir, frames: &[Frame]) -> Out
 
 // The directory of the sample's text, where that is the text of one.
 fn loaded(alloc: Global, n: u32) -> Result<Option<Dir>, AllocError>
-    requires { n ≤ 1000 }
+    requires { n ≤ max_size }
     ensures given { IfOk result (IsGiven n) }
     ensures sound { IfOk result (λ dir. IfSome dir IsSound) }
 {
@@ -141,7 +142,7 @@ fn sample_loaded<S: Site>(alloc: Global, site: &mut S, n: u32, dir: Dir) -> Outc
 
 // Samples into slots that were empty.
 fn sample_empty<S: Site>(alloc: Global, site: &mut S, n: u32) -> Outcome
-    requires { n ≤ 1000 }
+    requires { n ≤ max_size }
     ensures { SamplesEmpty S.Site n site.old site.new result }
 {
     match loaded(alloc, n) {
@@ -157,7 +158,7 @@ fn sample_empty<S: Site>(alloc: Global, site: &mut S, n: u32) -> Outcome
 /// have another descriptor than the one that is recomputed from the root, and how many are pending. Where a slot
 /// isn't empty the line `store taken` is emitted, and no slot is written.
 pub fn sample<S: Site>(alloc: Global, site: &mut S, n: u32) -> Outcome
-    requires { n ≤ 1000 }
+    requires { n ≤ max_size }
     ensures does { SampleDoes S.Site n site.old site.new result }
     ensures site_failed { result ≡ SiteFailed → HasFailed S.Site site.old site.new }
 {

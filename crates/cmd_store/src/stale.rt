@@ -10,8 +10,8 @@ ghost use Rattle.ad_dir_model.specs.Soundness.{IsSound};
 ghost use Rattle.ad_dir_model.specs.Tree.{IsAtDepth};
 ghost use Rattle.cmd_store.specs.Stale.{stale, is_stale};
 
-use ad_dir::Dir;
-use ad_dir_write::{guid_of, is_another, live_object, live_sd};
+use ad_dir::{Dir, live_object, live_sd};
+use ad_dir_write::{guid_of, is_another};
 use ad_inherit::{explicit, whole};
 use ad_schema::ClassId;
 use ad_sd::NormalSd;
@@ -75,7 +75,7 @@ fn is_stale(alloc: Global, dir: &Dir, number: u32) -> Result<bool, AllocError>
 }
 
 // One that is stale counts.
-fn counted(stale: bool) -> usize
+fn one_if(stale: bool) -> usize
     ensures { result ≡ (if stale then 1 else 0) }
 {
     if stale { 1 } else { 0 }
@@ -97,7 +97,7 @@ pub fn count_stale(alloc: Global, dir: &Dir) -> Result<usize, AllocError>
     let numbers = dir.numbers(alloc)?;
     let mut n = 0;
     for number in &numbers {
-        n += counted(is_stale(alloc, dir, *number)?);
+        n += one_if(is_stale(alloc, dir, *number)?);
     }
     Ok(n)
 }

@@ -1,6 +1,6 @@
 //! The lines for slots that represent no directory.
 
-ghost use Rattle.std.specs.Prelude.{◌≡◌, IfOk};
+ghost use Rattle.std.specs.Prelude.{◌≡◌, ◌++◌, IfOk, OnOk};
 ghost use Rattle.ad_engine.specs.declared.fault.OpenFault.TheVariants as Fault;
 ghost use Rattle.cmd_store.specs.Lines.{store_line};
 
@@ -8,53 +8,53 @@ use ad_engine::OpenFault;
 use cmd_call::{put, put_number};
 use std::alloc::{AllocError, Global};
 
-fn row_line(alloc: Global, kind: u8, number: u64) -> Result<Vec<u8>, AllocError>
-    ensures { IfOk result (λ text. text.items ≡ store_line (Fault.Row kind number)) }
-{
-    let mut text = Vec::new(alloc);
-    put(&mut text, "store row ")?;
-    put_number(&mut text, u64::from(kind))?;
-    put(&mut text, " ")?;
-    put_number(&mut text, number)?;
-    put(&mut text, "\n")?;
-    Ok(text)
-}
-
-fn unsound_line(alloc: Global, number: u32) -> Result<Vec<u8>, AllocError>
-    ensures { IfOk result (λ text. text.items ≡ store_line (Fault.Unsound number)) }
-{
-    let mut text = Vec::new(alloc);
-    put(&mut text, "store unsound ")?;
-    put_number(&mut text, u64::from(number))?;
-    put(&mut text, "\n")?;
-    Ok(text)
-}
-
-fn whole_line(alloc: Global, line: &str) -> Result<Vec<u8>, AllocError>
-    ensures { IfOk result (λ text. text.items ≡ line.now) }
-{
-    let mut text = Vec::new(alloc);
-    put(&mut text, line)?;
-    Ok(text)
-}
-
 /// The line of a store that is taken.
-pub const TAKEN: &str = "store taken\n";
+pub(crate) const TAKEN: &str = "store taken\n";
 
-/// The line for slots that represent no directory; of a fault from outside it is empty.
+// A row that isn't of its form.
+fn put_row(into: &mut Vec<u8>, kind: u8, number: u64) -> Result<(), AllocError>
+    ensures { OnOk result (into.new.items ≡ into.old.items ++ store_line (Fault.Row kind number)) }
+{
+    put(into, "store row ")?;
+    put_number(into, u64::from(kind))?;
+    put(into, " ")?;
+    put_number(into, number)?;
+    put(into, "\n")
+}
+
+// Rows that make no sound directory.
+fn put_unsound(into: &mut Vec<u8>, number: u32) -> Result<(), AllocError>
+    ensures { OnOk result (into.new.items ≡ into.old.items ++ store_line (Fault.Unsound number)) }
+{
+    put(into, "store unsound ")?;
+    put_number(into, u64::from(number))?;
+    put(into, "\n")
+}
+
+// Why slots represent no directory; of a fault from outside nothing.
+fn put_why(into: &mut Vec<u8>, fault: OpenFault) -> Result<(), AllocError>
+    ensures { OnOk result (into.new.items ≡ into.old.items ++ store_line fault) }
+{
+    match fault {
+        OpenFault::Taken => put(into, TAKEN),
+        OpenFault::Empty => put(into, "store empty\n"),
+        OpenFault::Broken => put(into, "store broken\n"),
+        OpenFault::Row(kind, number) => put_row(into, kind, number),
+        OpenFault::Unsound(number) => put_unsound(into, number),
+        OpenFault::Site | OpenFault::Memory => put(into, ""),
+    }
+}
+
+/// A word that says which store it is, and why its slots represent no directory.
 ///
 /// # Errors
 ///
 /// Memory ran out.
-pub fn line_of_store(alloc: Global, fault: OpenFault) -> Result<Vec<u8>, AllocError>
-    ensures { IfOk result (λ text. text.items ≡ store_line fault) }
+pub(crate) fn line_of(alloc: Global, which: &str, fault: OpenFault) -> Result<Vec<u8>, AllocError>
+    ensures { IfOk result (λ text. text.items ≡ which.now ++ store_line fault) }
 {
-    match fault {
-        OpenFault::Taken => whole_line(alloc, TAKEN),
-        OpenFault::Empty => whole_line(alloc, "store empty\n"),
-        OpenFault::Broken => whole_line(alloc, "store broken\n"),
-        OpenFault::Row(kind, number) => row_line(alloc, kind, number),
-        OpenFault::Unsound(number) => unsound_line(alloc, number),
-        OpenFault::Site | OpenFault::Memory => Ok(Vec::new(alloc)),
-    }
+    let mut text = Vec::new(alloc);
+    put(&mut text, which)?;
+    put_why(&mut text, fault)?;
+    Ok(text)
 }

@@ -24,7 +24,11 @@ fn rows_of(alloc: Global, dir: Parts) -> Result<WrittenRows, AllocError>
 }
 
 /// Makes the store of a directory in two empty slots.
-pub(crate) fn stored<S: Site>(alloc: Global, site: &mut S, dir: Parts) -> Result<(), OpenFault>
+pub(crate) fn create_store<S: Site>(
+    alloc: Global,
+    site: &mut S,
+    dir: Parts,
+) -> Result<(), OpenFault>
     requires { IsSound dir }
     ensures held { OnOk result (IfSome (S.reads site.new) (λ held. IsStoreOf held dir)) }
     ensures every_crash { OnOk result (IfSome (S.reads site.new) (λ held.

@@ -1,39 +1,26 @@
 -- A question, from what the slots are opened as and from what was emitted.
-use Rattle.std.proofs.Common.{◌≡◌, inl, inr, ℕ, Bool, true, false, List, Option, Some, None, Err, refl, sym, subst}
+use Rattle.std.proofs.Common.{◌≡◌, inl, inr, ℕ, Bool, true, false, List, Err, refl, sym, subst}
 use Rattle.std.specs.Option.{IfSome}
 use Rattle.site_io.specs.Counts.{HasRisen}
-use Rattle.site_io.specs.Disk.{Images}
 use Rattle.site_io.specs.Told.{StaysTold}
 use Rattle.site_io.specs.Outside.{OnlyLooks}
 use Rattle.site_io.specs.declared.site.Site.{Ghosts as SiteGhosts}
 use Rattle.ad_dir_model.specs.Directory.{Directory}
 use Rattle.ad_rows_write.specs.Rows.{IsStoreOf}
-use Rattle.ad_rows.proofs.Once.{one_store}
 use Rattle.cmd_store.specs.EngineWords.{IsOpenedAs}
 use Rattle.cmd_store.specs.EngineWords.{OpenFault}
 use Rattle.cmd_store.specs.OpenFaults as slots
-use Rattle.cmd_call.specs.Call.{IsTold}
 use Rattle.cmd_call.specs.Store.{HasFailed, KeepsSlots, Emits}
 use Rattle.cmd_call.specs.declared.outcome.Outcome.{Outcome}
 use Rattle.cmd_call.specs.declared.outcome.Outcome.TheVariants.{Done, NoStore, NoObject, SiteFailed, NoMemory}
-use Rattle.cmd_call.proofs.Moments.{told_map, told_meets, told_clash, looks_keep}
+use Rattle.cmd_call.proofs.Moments.{told_map, looks_keep}
 use Rattle.cmd_call.proofs.Telling.{Tells, whole, part, nothing, telling_by, unhealthy}
-use Rattle.cmd_store.specs.Opened.{IsDirStore, NoDirStore}
 use Rattle.cmd_store.specs.Refused.{Refused}
-use Rattle.cmd_store.proofs.Refusing.{never_refused, Ends, refused, failed, stopped, refusal_by, partly_said}
+use Rattle.cmd_store.proofs.Refusing.{stands_clash, same_dir, never_refused}
+use Rattle.cmd_store.proofs.Refusing.{Ends, refused, failed, stopped, refusal_by, partly_said}
 use Rattle.cmd_who.specs.Asks.{Question, IsTextFor, IsPartlyAsked, AsksDoes}
-use Rattle.cmd_who.specs.Asking.{outcome_of, TellsIn}
-
--- slots that represent a directory are no others
-stands_clash : (dir : Directory) (r : Option Images) → IfSome r (λ held. IsStoreOf held dir) → IsTold NoDirStore r → ⊥
-stands_clash dir r stands none = told_clash NoDirStore (λ held. IsStoreOf held dir) r (λ held no is. no (dir, is))
-    none stands
-
--- the one directory
-same_dir : (r : Option Images) (a b : Directory) → IsTold (λ held. IsStoreOf held a) r
-    → IfSome r (λ held. IsStoreOf held b) → a ≡ b
-same_dir r a b told stands = told_meets (λ held. IsStoreOf held a) (λ held. IsStoreOf held b) r
-    (λ held of_a of_b. one_store held a b of_a of_b) told stands
+use Rattle.cmd_store.specs.Answered.{outcome_of}
+use Rattle.cmd_who.specs.Asking.{TellsIn}
 
 -- no question is both answered and refused
 abbrev pub Excludes : Question → Type 0

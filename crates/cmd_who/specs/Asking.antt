@@ -1,16 +1,12 @@
 -- Only for private contracts and proofs: the steps of the commands.
-use Rattle.std.specs.Prelude.{◌≡◌, ◌⊎◌, ℕ, Bool, true, false, List}
+use Rattle.std.specs.Prelude.{◌≡◌, ◌⊎◌, ℕ, Bool, List}
 use Rattle.site_io.specs.declared.site.Site.{Ghosts as SiteGhosts}
 use Rattle.ad_dir_model.specs.Directory.{Directory}
 use Rattle.cmd_call.specs.declared.outcome.Outcome.{Outcome}
-use Rattle.cmd_call.specs.declared.outcome.Outcome.TheVariants.{Done, NoObject, NoMemory}
+use Rattle.cmd_call.specs.declared.outcome.Outcome.TheVariants.{NoMemory}
 use Rattle.cmd_call.specs.Store.{SaysUnless}
+use Rattle.cmd_store.specs.Answered.{outcome_of}
 use Rattle.cmd_who.specs.Asks.{Question}
-
--- how a command ends with an answer, and without one
-abbrev pub outcome_of : Bool → Outcome
-outcome_of true = Done
-outcome_of false = NoObject
 
 module _ {S : Type 0} (site : SiteGhosts S) where
   -- Of a directory: what it tells is emitted, or nothing for want of memory.

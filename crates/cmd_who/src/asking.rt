@@ -7,24 +7,13 @@ ghost use Rattle.ad_who.specs.Answers.{TokenTold, WhoTold, CanTold};
 ghost use Rattle.cmd_call.specs.Store.{HasFailed};
 ghost use Rattle.cmd_call.specs.declared.outcome.Outcome.TheVariants.{SiteFailed};
 ghost use Rattle.cmd_who.specs.Asks.{TokenDoes, WhoDoes, CanDoes};
-ghost use Rattle.cmd_who.specs.Asking.{outcome_of, TellsIn};
+ghost use Rattle.cmd_who.specs.Asking.{TellsIn};
 
 use ad_dir::Dir;
 use cmd_call::{Outcome, say};
-use cmd_store::{Engine, refuse};
+use cmd_store::{Engine, outcome_of, refuse};
 use site_io::Site;
 use std::alloc::{AllocError, Global};
-
-// How a command ends with an answer, and without one.
-fn outcome_of(answered: bool) -> Outcome
-    ensures { result ≡ outcome_of answered }
-{
-    if answered {
-        Outcome::Done
-    } else {
-        Outcome::NoObject
-    }
-}
 
 // Emits the token of the object of a name.
 fn tell_token<S: Site>(

@@ -203,7 +203,7 @@ impl Log {
         let length = body.len() as u64;
         self.settled = true;
         self.end += RECORD as u64 + length;
-        let (first, behind) = counted(self.first, self.behind, length);
+        let (first, behind) = counts_with(self.first, self.behind, length);
         self.first = first;
         self.behind = behind;
         Ok(())
@@ -365,7 +365,7 @@ impl Log {
 }
 
 // One body more: the length of the first, and that of those after it.
-pub(crate) fn counted(first: Option<u64>, behind: u64, more: u64) -> (Option<u64>, u64)
+pub(crate) fn counts_with(first: Option<u64>, behind: u64, more: u64) -> (Option<u64>, u64)
     requires { behind + more < 2 ^ 64 }
     ensures counts { (bodies : List (List ℕ)) (body : List ℕ) → more ≡ length body
         → Counts first behind bodies

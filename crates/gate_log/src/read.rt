@@ -13,7 +13,7 @@ ghost use Rattle.gate_log.specs.Reading.{bodies_of, BeginRecords, BeginsRecord, 
 
 use crate::LogFault;
 use crate::layout::{RECORD, RECORDS};
-use crate::log::counted;
+use crate::log::counts_with;
 use site_io::{Site, Slot, read_full};
 use std::alloc::Global;
 
@@ -127,7 +127,7 @@ pub(crate) fn records_of(alloc: Global, bytes: &[u8]) -> Result<Records, LogFaul
     while let Some(body) = record_at(alloc, &bytes[end..])? {
         let length = body.len();
         end += RECORD + length;
-        (first, behind) = counted(first, behind, length as u64);
+        (first, behind) = counts_with(first, behind, length as u64);
         bodies.push(body)?;
     }
     Ok(Records {

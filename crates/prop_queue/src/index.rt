@@ -87,7 +87,7 @@ impl Index {
         }
         self.next = entries.len() as u64;
         self.in_order.clear();
-        self.numbers = numbered(entries, &mut self.in_order).ok();
+        self.numbers = numbers_of(entries, &mut self.in_order).ok();
     }
 }
 
@@ -120,7 +120,7 @@ fn without_number(mut numbers: HashMap<u32, u64>, parent: u32) -> HashMap<u32, u
 }
 
 // The numbers of all parents, from 0 on, also in their order.
-fn numbered(
+fn numbers_of(
     entries: &VecDeque<Pending>,
     in_order: &mut VecDeque<u64>,
 ) -> Result<HashMap<u32, u64>, AllocError>

@@ -16,7 +16,7 @@ ghost use Rattle.row_store.specs.Table.{Table, SameTable, table_of, with_rows, A
 
 use crate::fault::StoreFault;
 use crate::row::Row;
-use crate::table::{left_by, listed};
+use crate::table::{left_by, rows_in_order};
 use crate::writing::write_batch;
 use crate::written::{WrittenRows, batch_with_room, written};
 use gate_log::Log;
@@ -156,7 +156,7 @@ impl Store {
     {
         let (log, bodies) = Log::resume(alloc, site)?;
         let left = left_by(alloc, &bodies)?;
-        let rows = listed(alloc, left)?;
+        let rows = rows_in_order(alloc, left)?;
         Ok((Store { alloc, log }, rows))
     }
 

@@ -83,7 +83,7 @@ pub(crate) fn left_by(alloc: Global, bodies: &[Vec<u8>]) -> Result<Left, StoreFa
 }
 
 /// The rows that are left, by rising kind and number.
-pub(crate) fn listed(alloc: Global, left: Left) -> Result<Vec<Row>, AllocError>
+pub(crate) fn rows_in_order(alloc: Global, left: Left) -> Result<Vec<Row>, AllocError>
     ensures rows { IfOk result (λ rows. rows.items ≡ rows_of left.entries) }
     ensures listed { IfOk result (λ rows. AreListed rows.items) }
     ensures table { IfOk result (λ rows. SameTable (table_in left) (table_of rows.items)) }

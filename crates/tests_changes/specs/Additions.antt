@@ -15,7 +15,8 @@ use Rattle.ad_bytes.specs.Reading.{many_at}
 use Rattle.ad_change.specs.Adding.{add_later, all_held, fits_in, new_object}
 use Rattle.ad_change.specs.Effects.{effect, later_checks, made}
 use Rattle.ad_change.specs.Tree.{depth_of, depth_within, is_light_with}
-use Rattle.ad_change_values.specs.Values.{all_stored, are_repeated, is_single, stored_of, target_of}
+use Rattle.ad_change_values.specs.Values.{all_stored, are_repeated, stored_of, target_of}
+use Rattle.ad_dir_model.specs.Attributes.{is_single, attr_name, rule_place, syntax_at}
 use Rattle.ad_change_values.specs.Values.{value_in as value_in_of_values}
 use Rattle.ad_schema_classes.specs.Chains.{chain, chain_within, first_along, grown, list_at as list_at_of_chains}
 use Rattle.ad_schema_classes.specs.Chains.{listed, naming_by, option_at, set_of, set_within}
@@ -34,7 +35,8 @@ use Rattle.ad_needs.specs.Adding.{add_checks, all_naming_checks, all_ordinary, n
 use Rattle.ad_needs.specs.Adding.{sent}
 use Rattle.ad_needs_rules.specs.Checks.{first_failing}
 use Rattle.ad_needs_rules.specs.Descriptors.{asked_parts}
-use Rattle.ad_needs_rules.specs.Needs.{code_of, is_met, need_text, want_text, wants_text}
+use Rattle.ad_needs_rules.specs.Needs.{is_met, need_text, want_text, wants_text}
+use Rattle.ad_acl.specs.Codes.{letters_of, right_codes}
 use Rattle.ad_schema_defaults.specs.NewClass.{class_by_names, classes_named, if_structural, is_structural, lowest_of}
 use Rattle.ad_needs.specs.Verdicts.{verdict_of}
 use Rattle.ad_schema.specs.Attributes.{attr_info, attr_named, attrs_of, is_confidential, lines_of, names_of}
@@ -50,7 +52,6 @@ use Rattle.ad_value.specs.ValueOf.{normal_of, number_of, sid_of}
 use Rattle.caseless.specs.Caseless.{default_case_fold}
 use Rattle.std.specs.Str.{chars}
 use Rattle.ad_access_dir.specs.Sight.{is_granted, is_visible, matched, visible_of}
-use Rattle.ad_dir_model.specs.Attributes.{attr_name, rule_place, syntax_at}
 use Rattle.ad_dir_model.specs.Changes.{new_sid, with_values}
 use Rattle.ad_dir_model.specs.Identity.{domain_child, domain_sid, first_of_attr, sid_in}
 use Rattle.ad_dir_model.specs.Inheritance.{guid_at as guid_at_of_inheritance}
@@ -91,7 +92,8 @@ unfolding granted_as_owner granted_by_entries matches speaks has_bit entry_at fi
     rdns_text value_text
     guid_at_of_guid guid_of_text sid_bytes longest header_at_of_sidreading sid_at add_checks all_naming_checks
     all_ordinary new_class new_values
-    parent_named sent first_failing asked_parts code_of is_met need_text want_text wants_text class_by_names
+    parent_named sent first_failing asked_parts letters_of right_codes is_met need_text want_text wants_text
+    class_by_names
     classes_named if_structural is_structural
     lowest_of verdict_of attr_info attr_named attrs_of is_confidential lines_of names_of all_mays all_musts
     all_neighbours all_superiors chain_of
@@ -122,7 +124,8 @@ unfolding granted_as_owner granted_by_entries matches speaks has_bit entry_at fi
     rdns_text value_text
     guid_at_of_guid guid_of_text sid_bytes longest header_at_of_sidreading sid_at add_checks all_naming_checks
     all_ordinary new_class new_values
-    parent_named sent first_failing asked_parts code_of is_met need_text want_text wants_text class_by_names
+    parent_named sent first_failing asked_parts letters_of right_codes is_met need_text want_text wants_text
+    class_by_names
     classes_named if_structural is_structural
     lowest_of verdict_of attr_info attr_named attrs_of is_confidential lines_of names_of all_mays all_musts
     all_neighbours all_superiors chain_of
@@ -152,7 +155,8 @@ unfolding granted_as_owner granted_by_entries matches speaks has_bit entry_at fi
     rdns_text value_text
     guid_at_of_guid guid_of_text sid_bytes longest header_at_of_sidreading sid_at add_checks all_naming_checks
     all_ordinary new_class new_values
-    parent_named sent first_failing asked_parts code_of is_met need_text want_text wants_text class_by_names
+    parent_named sent first_failing asked_parts letters_of right_codes is_met need_text want_text wants_text
+    class_by_names
     classes_named if_structural is_structural
     lowest_of verdict_of attr_info attr_named attrs_of is_confidential lines_of names_of all_mays all_musts
     all_neighbours all_superiors chain_of
@@ -182,7 +186,8 @@ unfolding granted_as_owner granted_by_entries matches speaks has_bit entry_at fi
     rdns_text value_text
     guid_at_of_guid guid_of_text sid_bytes longest header_at_of_sidreading sid_at add_checks all_naming_checks
     all_ordinary new_class new_values
-    parent_named sent first_failing asked_parts code_of is_met need_text want_text wants_text class_by_names
+    parent_named sent first_failing asked_parts letters_of right_codes is_met need_text want_text wants_text
+    class_by_names
     classes_named if_structural is_structural
     lowest_of verdict_of attr_info attr_named attrs_of is_confidential lines_of names_of all_mays all_musts
     all_neighbours all_superiors chain_of
@@ -213,7 +218,8 @@ unfolding granted_as_owner granted_by_entries matches speaks has_bit entry_at fi
     rdns_text value_text
     guid_at_of_guid guid_of_text sid_bytes longest header_at_of_sidreading sid_at add_checks all_naming_checks
     all_ordinary new_class new_values
-    parent_named sent first_failing asked_parts code_of is_met need_text want_text wants_text class_by_names
+    parent_named sent first_failing asked_parts letters_of right_codes is_met need_text want_text wants_text
+    class_by_names
     classes_named if_structural is_structural
     lowest_of verdict_of attr_info attr_named attrs_of is_confidential lines_of names_of all_mays all_musts
     all_neighbours all_superiors chain_of
@@ -244,7 +250,8 @@ unfolding granted_as_owner granted_by_entries matches speaks has_bit entry_at fi
     rdns_text value_text
     guid_at_of_guid guid_of_text sid_bytes longest header_at_of_sidreading sid_at add_checks all_naming_checks
     all_ordinary new_class new_values
-    parent_named sent first_failing asked_parts code_of is_met need_text want_text wants_text class_by_names
+    parent_named sent first_failing asked_parts letters_of right_codes is_met need_text want_text wants_text
+    class_by_names
     classes_named if_structural is_structural
     lowest_of verdict_of attr_info attr_named attrs_of is_confidential lines_of names_of all_mays all_musts
     all_neighbours all_superiors chain_of
@@ -275,7 +282,8 @@ unfolding granted_as_owner granted_by_entries matches speaks has_bit entry_at fi
     rdns_text value_text
     guid_at_of_guid guid_of_text sid_bytes longest header_at_of_sidreading sid_at add_checks all_naming_checks
     all_ordinary new_class new_values
-    parent_named sent first_failing asked_parts code_of is_met need_text want_text wants_text class_by_names
+    parent_named sent first_failing asked_parts letters_of right_codes is_met need_text want_text wants_text
+    class_by_names
     classes_named if_structural is_structural
     lowest_of verdict_of attr_info attr_named attrs_of is_confidential lines_of names_of all_mays all_musts
     all_neighbours all_superiors chain_of
@@ -305,7 +313,8 @@ unfolding granted_as_owner granted_by_entries matches speaks has_bit entry_at fi
     rdns_text value_text
     guid_at_of_guid guid_of_text sid_bytes longest header_at_of_sidreading sid_at add_checks all_naming_checks
     all_ordinary new_class new_values
-    parent_named sent first_failing asked_parts code_of is_met need_text want_text wants_text class_by_names
+    parent_named sent first_failing asked_parts letters_of right_codes is_met need_text want_text wants_text
+    class_by_names
     classes_named if_structural is_structural
     lowest_of verdict_of attr_info attr_named attrs_of is_confidential lines_of names_of all_mays all_musts
     all_neighbours all_superiors chain_of
@@ -336,7 +345,8 @@ unfolding granted_as_owner granted_by_entries matches speaks has_bit entry_at fi
     rdns_text value_text
     guid_at_of_guid guid_of_text sid_bytes longest header_at_of_sidreading sid_at add_checks all_naming_checks
     all_ordinary new_class new_values
-    parent_named sent first_failing asked_parts code_of is_met need_text want_text wants_text class_by_names
+    parent_named sent first_failing asked_parts letters_of right_codes is_met need_text want_text wants_text
+    class_by_names
     classes_named if_structural is_structural
     lowest_of verdict_of attr_info attr_named attrs_of is_confidential lines_of names_of all_mays all_musts
     all_neighbours all_superiors chain_of
@@ -366,7 +376,8 @@ unfolding granted_as_owner granted_by_entries matches speaks has_bit entry_at fi
     rdns_text value_text
     guid_at_of_guid guid_of_text sid_bytes longest header_at_of_sidreading sid_at add_checks all_naming_checks
     all_ordinary new_class new_values
-    parent_named sent first_failing asked_parts code_of is_met need_text want_text wants_text class_by_names
+    parent_named sent first_failing asked_parts letters_of right_codes is_met need_text want_text wants_text
+    class_by_names
     classes_named if_structural is_structural
     lowest_of verdict_of attr_info attr_named attrs_of is_confidential lines_of names_of all_mays all_musts
     all_neighbours all_superiors chain_of
@@ -396,7 +407,8 @@ unfolding granted_as_owner granted_by_entries matches speaks has_bit entry_at fi
     rdns_text value_text
     guid_at_of_guid guid_of_text sid_bytes longest header_at_of_sidreading sid_at add_checks all_naming_checks
     all_ordinary new_class new_values
-    parent_named sent first_failing asked_parts code_of is_met need_text want_text wants_text class_by_names
+    parent_named sent first_failing asked_parts letters_of right_codes is_met need_text want_text wants_text
+    class_by_names
     classes_named if_structural is_structural
     lowest_of verdict_of attr_info attr_named attrs_of is_confidential lines_of names_of all_mays all_musts
     all_neighbours all_superiors chain_of

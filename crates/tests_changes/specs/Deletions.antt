@@ -25,7 +25,8 @@ use Rattle.ad_dn.specs.Text.{rdns_text, value_text}
 use Rattle.ad_ids.specs.SidReading.{header_at, sid_at}
 use Rattle.ad_needs_rules.specs.Checks.{first_failing}
 use Rattle.ad_needs.specs.Deleting.{delete_checks}
-use Rattle.ad_needs_rules.specs.Needs.{code_of, is_met, need_text, want_text, wants_text}
+use Rattle.ad_needs_rules.specs.Needs.{is_met, need_text, want_text, wants_text}
+use Rattle.ad_acl.specs.Codes.{letters_of, right_codes}
 use Rattle.ad_needs_rules.specs.Requests.{object_named}
 use Rattle.ad_needs.specs.Verdicts.{verdict_of}
 use Rattle.ad_schema.specs.Attributes.{attr_info, attr_named, attrs_of, is_confidential, lines_of, names_of}
@@ -76,7 +77,8 @@ unfolding granted_as_owner granted_by_entries matches speaks has_bit be_at byte_
     later_checks made chain
     chain_within first_along naming_by option_at place_of same_name folded dn_of step_from rdns_text value_text
     header_at sid_at first_failing
-    delete_checks code_of is_met need_text want_text wants_text object_named verdict_of attr_info attr_named attrs_of
+    delete_checks letters_of right_codes is_met need_text want_text wants_text object_named verdict_of attr_info
+    attr_named attrs_of
     is_confidential lines_of
     names_of class_guid class_guids cn_of naming_of own_naming own_namings superclass superclasses value_of
     attr_of_rule counts if_counts is_link
@@ -96,7 +98,8 @@ unfolding granted_as_owner granted_by_entries matches speaks has_bit be_at byte_
     later_checks made chain
     chain_within first_along naming_by option_at place_of same_name folded dn_of step_from rdns_text value_text
     header_at sid_at first_failing
-    delete_checks code_of is_met need_text want_text wants_text object_named verdict_of attr_info attr_named attrs_of
+    delete_checks letters_of right_codes is_met need_text want_text wants_text object_named verdict_of attr_info
+    attr_named attrs_of
     is_confidential lines_of
     names_of class_guid class_guids cn_of naming_of own_naming own_namings superclass superclasses value_of
     attr_of_rule counts if_counts is_link
@@ -115,7 +118,8 @@ unfolding granted_as_owner granted_by_entries matches speaks has_bit be_at byte_
     later_checks made chain
     chain_within first_along naming_by option_at place_of same_name folded dn_of step_from rdns_text value_text
     header_at sid_at first_failing
-    delete_checks code_of is_met need_text want_text wants_text object_named verdict_of attr_info attr_named attrs_of
+    delete_checks letters_of right_codes is_met need_text want_text wants_text object_named verdict_of attr_info
+    attr_named attrs_of
     is_confidential lines_of
     names_of class_guid class_guids cn_of naming_of own_naming own_namings superclass superclasses value_of
     attr_of_rule counts if_counts is_link
@@ -136,7 +140,8 @@ unfolding granted_as_owner granted_by_entries matches speaks has_bit be_at byte_
     later_checks made chain
     chain_within first_along naming_by option_at place_of same_name folded dn_of step_from rdns_text value_text
     header_at sid_at first_failing
-    delete_checks code_of is_met need_text want_text wants_text object_named verdict_of attr_info attr_named attrs_of
+    delete_checks letters_of right_codes is_met need_text want_text wants_text object_named verdict_of attr_info
+    attr_named attrs_of
     is_confidential lines_of
     names_of class_guid class_guids cn_of naming_of own_naming own_namings superclass superclasses value_of
     attr_of_rule counts if_counts is_link
@@ -155,7 +160,8 @@ unfolding granted_as_owner granted_by_entries matches speaks has_bit be_at byte_
     later_checks made chain
     chain_within first_along naming_by option_at place_of same_name folded dn_of step_from rdns_text value_text
     header_at sid_at first_failing
-    delete_checks code_of is_met need_text want_text wants_text object_named verdict_of attr_info attr_named attrs_of
+    delete_checks letters_of right_codes is_met need_text want_text wants_text object_named verdict_of attr_info
+    attr_named attrs_of
     is_confidential lines_of
     names_of class_guid class_guids cn_of naming_of own_naming own_namings superclass superclasses value_of
     attr_of_rule counts if_counts is_link
@@ -175,7 +181,8 @@ unfolding granted_as_owner granted_by_entries matches speaks has_bit be_at byte_
     later_checks made chain
     chain_within first_along naming_by option_at place_of same_name folded dn_of step_from rdns_text value_text
     header_at sid_at first_failing
-    delete_checks code_of is_met need_text want_text wants_text object_named verdict_of attr_info attr_named attrs_of
+    delete_checks letters_of right_codes is_met need_text want_text wants_text object_named verdict_of attr_info
+    attr_named attrs_of
     is_confidential lines_of
     names_of class_guid class_guids cn_of naming_of own_naming own_namings superclass superclasses value_of
     attr_of_rule counts if_counts is_link
@@ -195,7 +202,8 @@ unfolding granted_as_owner granted_by_entries matches speaks has_bit be_at byte_
     later_checks made chain
     chain_within first_along naming_by option_at place_of same_name folded dn_of step_from rdns_text value_text
     header_at sid_at first_failing
-    delete_checks code_of is_met need_text want_text wants_text object_named verdict_of attr_info attr_named attrs_of
+    delete_checks letters_of right_codes is_met need_text want_text wants_text object_named verdict_of attr_info
+    attr_named attrs_of
     is_confidential lines_of
     names_of class_guid class_guids cn_of naming_of own_naming own_namings superclass superclasses value_of
     attr_of_rule counts if_counts is_link

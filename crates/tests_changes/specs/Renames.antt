@@ -21,7 +21,8 @@ use Rattle.ad_dn.specs.Steps.{step_from}
 use Rattle.ad_dn.specs.Text.{rdns_text, value_text}
 use Rattle.ad_ids.specs.SidReading.{header_at, sid_at}
 use Rattle.ad_needs_rules.specs.Checks.{first_failing}
-use Rattle.ad_needs_rules.specs.Needs.{code_of, is_met, need_text, want_text, wants_text}
+use Rattle.ad_needs_rules.specs.Needs.{is_met, need_text, want_text, wants_text}
+use Rattle.ad_acl.specs.Codes.{letters_of, right_codes}
 use Rattle.ad_needs.specs.Renaming.{new_parent, rename_checks}
 use Rattle.ad_needs_rules.specs.Requests.{object_named}
 use Rattle.ad_needs.specs.Verdicts.{verdict_of}
@@ -65,7 +66,8 @@ unfolding granted_as_owner granted_by_entries matches speaks has_bit be_at byte_
     made rename_later depth_of
     depth_within is_light_with is_shallow_with chain chain_within first_along list_at naming_by option_at place_of
     same_name folded dn_of step_from
-    rdns_text value_text header_at sid_at first_failing code_of is_met need_text want_text wants_text new_parent
+    rdns_text value_text header_at sid_at first_failing letters_of right_codes is_met need_text want_text wants_text
+    new_parent
     rename_checks object_named verdict_of
     attr_info attr_named attrs_of is_confidential lines_of names_of all_superiors chain_of class_guid class_guids
     class_info class_infos classes_of
@@ -89,7 +91,8 @@ unfolding granted_as_owner granted_by_entries matches speaks has_bit be_at byte_
     made rename_later depth_of
     depth_within is_light_with is_shallow_with chain chain_within first_along list_at naming_by option_at place_of
     same_name folded dn_of step_from
-    rdns_text value_text header_at sid_at first_failing code_of is_met need_text want_text wants_text new_parent
+    rdns_text value_text header_at sid_at first_failing letters_of right_codes is_met need_text want_text wants_text
+    new_parent
     rename_checks object_named verdict_of
     attr_info attr_named attrs_of is_confidential lines_of names_of all_superiors chain_of class_guid class_guids
     class_info class_infos classes_of
@@ -111,7 +114,8 @@ unfolding granted_as_owner granted_by_entries matches speaks has_bit be_at byte_
     made rename_later depth_of
     depth_within is_light_with is_shallow_with chain chain_within first_along list_at naming_by option_at place_of
     same_name folded dn_of step_from
-    rdns_text value_text header_at sid_at first_failing code_of is_met need_text want_text wants_text new_parent
+    rdns_text value_text header_at sid_at first_failing letters_of right_codes is_met need_text want_text wants_text
+    new_parent
     rename_checks object_named verdict_of
     attr_info attr_named attrs_of is_confidential lines_of names_of all_superiors chain_of class_guid class_guids
     class_info class_infos classes_of
@@ -134,7 +138,8 @@ unfolding granted_as_owner granted_by_entries matches speaks has_bit be_at byte_
     made rename_later depth_of
     depth_within is_light_with is_shallow_with chain chain_within first_along list_at naming_by option_at place_of
     same_name folded dn_of step_from
-    rdns_text value_text header_at sid_at first_failing code_of is_met need_text want_text wants_text new_parent
+    rdns_text value_text header_at sid_at first_failing letters_of right_codes is_met need_text want_text wants_text
+    new_parent
     rename_checks object_named verdict_of
     attr_info attr_named attrs_of is_confidential lines_of names_of all_superiors chain_of class_guid class_guids
     class_info class_infos classes_of
@@ -157,7 +162,8 @@ unfolding granted_as_owner granted_by_entries matches speaks has_bit be_at byte_
     made rename_later depth_of
     depth_within is_light_with is_shallow_with chain chain_within first_along list_at naming_by option_at place_of
     same_name folded dn_of step_from
-    rdns_text value_text header_at sid_at first_failing code_of is_met need_text want_text wants_text new_parent
+    rdns_text value_text header_at sid_at first_failing letters_of right_codes is_met need_text want_text wants_text
+    new_parent
     rename_checks object_named verdict_of
     attr_info attr_named attrs_of is_confidential lines_of names_of all_superiors chain_of class_guid class_guids
     class_info class_infos classes_of
@@ -180,7 +186,8 @@ unfolding granted_as_owner granted_by_entries matches speaks has_bit be_at byte_
     made rename_later depth_of
     depth_within is_light_with is_shallow_with chain chain_within first_along list_at naming_by option_at place_of
     same_name folded dn_of step_from
-    rdns_text value_text header_at sid_at first_failing code_of is_met need_text want_text wants_text new_parent
+    rdns_text value_text header_at sid_at first_failing letters_of right_codes is_met need_text want_text wants_text
+    new_parent
     rename_checks object_named verdict_of
     attr_info attr_named attrs_of is_confidential lines_of names_of all_superiors chain_of class_guid class_guids
     class_info class_infos classes_of
@@ -203,7 +210,8 @@ unfolding granted_as_owner granted_by_entries matches speaks has_bit be_at byte_
     made rename_later depth_of
     depth_within is_light_with is_shallow_with chain chain_within first_along list_at naming_by option_at place_of
     same_name folded dn_of step_from
-    rdns_text value_text header_at sid_at first_failing code_of is_met need_text want_text wants_text new_parent
+    rdns_text value_text header_at sid_at first_failing letters_of right_codes is_met need_text want_text wants_text
+    new_parent
     rename_checks object_named verdict_of
     attr_info attr_named attrs_of is_confidential lines_of names_of all_superiors chain_of class_guid class_guids
     class_info class_infos classes_of
@@ -225,7 +233,8 @@ unfolding granted_as_owner granted_by_entries matches speaks has_bit be_at byte_
     made rename_later depth_of
     depth_within is_light_with is_shallow_with chain chain_within first_along list_at naming_by option_at place_of
     same_name folded dn_of step_from
-    rdns_text value_text header_at sid_at first_failing code_of is_met need_text want_text wants_text new_parent
+    rdns_text value_text header_at sid_at first_failing letters_of right_codes is_met need_text want_text wants_text
+    new_parent
     rename_checks object_named verdict_of
     attr_info attr_named attrs_of is_confidential lines_of names_of all_superiors chain_of class_guid class_guids
     class_info class_infos classes_of
@@ -248,7 +257,8 @@ unfolding granted_as_owner granted_by_entries matches speaks has_bit be_at byte_
     made rename_later depth_of
     depth_within is_light_with is_shallow_with chain chain_within first_along list_at naming_by option_at place_of
     same_name folded dn_of step_from
-    rdns_text value_text header_at sid_at first_failing code_of is_met need_text want_text wants_text new_parent
+    rdns_text value_text header_at sid_at first_failing letters_of right_codes is_met need_text want_text wants_text
+    new_parent
     rename_checks object_named verdict_of
     attr_info attr_named attrs_of is_confidential lines_of names_of all_superiors chain_of class_guid class_guids
     class_info class_infos classes_of

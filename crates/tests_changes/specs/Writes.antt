@@ -17,7 +17,8 @@ use Rattle.ad_change.specs.Effects.{effect, later_checks, made}
 use Rattle.ad_change_values.specs.Items.{after_item, after_items, all_item_checks, values_after, without}
 use Rattle.ad_change.specs.Modifying.{modify_later, modify_made}
 use Rattle.ad_change.specs.Tree.{is_light_with}
-use Rattle.ad_change_values.specs.Values.{all_stored, are_repeated, is_single, stored_of, target_of}
+use Rattle.ad_change_values.specs.Values.{all_stored, are_repeated, stored_of, target_of}
+use Rattle.ad_dir_model.specs.Attributes.{is_single, attr_name, rule_place, syntax_at}
 use Rattle.ad_change_values.specs.Values.{value_in as value_in_of_values}
 use Rattle.ad_schema_classes.specs.Chains.{chain, chain_within, first_along, grown, has_guid}
 use Rattle.ad_schema_classes.specs.Chains.{list_at as list_at_of_chains, listed, naming_by, option_at, set_of}
@@ -34,7 +35,8 @@ use Rattle.ad_ids.specs.SidReading.{header_at as header_at_of_sidreading, sid_at
 use Rattle.ad_needs_rules.specs.Checks.{first_failing}
 use Rattle.ad_needs_rules.specs.Descriptors.{asked_parts}
 use Rattle.ad_needs.specs.Modifying.{act_items, is_changed, is_forced, modify_checks, needs_behind}
-use Rattle.ad_needs_rules.specs.Needs.{code_of, is_met, need_text, want_text, wants_text}
+use Rattle.ad_needs_rules.specs.Needs.{is_met, need_text, want_text, wants_text}
+use Rattle.ad_acl.specs.Codes.{letters_of, right_codes}
 use Rattle.ad_needs_rules.specs.Requests.{object_named}
 use Rattle.ad_needs_rules.specs.Validated.{domain_name, host_in, is_own_host_name, is_own_membership, is_own_service}
 use Rattle.ad_needs_rules.specs.Validated.{validated_write}
@@ -52,7 +54,6 @@ use Rattle.ad_value.specs.ValueOf.{normal_of, number_of, sid_of}
 use Rattle.caseless.specs.Caseless.{default_case_fold}
 use Rattle.std.specs.Str.{chars}
 use Rattle.ad_access_dir.specs.Sight.{is_granted, is_visible, matched, visible_of}
-use Rattle.ad_dir_model.specs.Attributes.{attr_name, rule_place, syntax_at}
 use Rattle.ad_dir_model.specs.Changes.{changed, with_values}
 use Rattle.ad_dir_model.specs.Identity.{first_of_attr, sid_in}
 use Rattle.ad_dir_model.specs.Inheritance.{guid_at as guid_at_of_inheritance}
@@ -86,7 +87,8 @@ unfolding granted_as_owner granted_by_entries matches speaks has_bit entry_at fi
     folded closed dn_of step_from
     rdns_text value_text guid_at_of_guid sid_bytes header_at_of_sidreading sid_at first_failing asked_parts act_items
     is_changed is_forced
-    modify_checks needs_behind code_of is_met need_text want_text wants_text object_named domain_name host_in
+    modify_checks needs_behind letters_of right_codes is_met need_text want_text wants_text object_named domain_name
+    host_in
     is_own_host_name is_own_membership
     is_own_service validated_write verdict_of attr_info attr_named attrs_of is_confidential lines_of names_of all_mays
     all_musts all_neighbours
@@ -117,7 +119,8 @@ unfolding granted_as_owner granted_by_entries matches speaks has_bit entry_at fi
     folded closed dn_of step_from
     rdns_text value_text guid_at_of_guid sid_bytes header_at_of_sidreading sid_at first_failing asked_parts act_items
     is_changed is_forced
-    modify_checks needs_behind code_of is_met need_text want_text wants_text object_named domain_name host_in
+    modify_checks needs_behind letters_of right_codes is_met need_text want_text wants_text object_named domain_name
+    host_in
     is_own_host_name is_own_membership
     is_own_service validated_write verdict_of attr_info attr_named attrs_of is_confidential lines_of names_of all_mays
     all_musts all_neighbours
@@ -148,7 +151,8 @@ unfolding granted_as_owner granted_by_entries matches speaks has_bit entry_at fi
     folded closed dn_of step_from
     rdns_text value_text guid_at_of_guid sid_bytes header_at_of_sidreading sid_at first_failing asked_parts act_items
     is_changed is_forced
-    modify_checks needs_behind code_of is_met need_text want_text wants_text object_named domain_name host_in
+    modify_checks needs_behind letters_of right_codes is_met need_text want_text wants_text object_named domain_name
+    host_in
     is_own_host_name is_own_membership
     is_own_service validated_write verdict_of attr_info attr_named attrs_of is_confidential lines_of names_of all_mays
     all_musts all_neighbours
@@ -178,7 +182,8 @@ unfolding granted_as_owner granted_by_entries matches speaks has_bit entry_at fi
     folded closed dn_of step_from
     rdns_text value_text guid_at_of_guid sid_bytes header_at_of_sidreading sid_at first_failing asked_parts act_items
     is_changed is_forced
-    modify_checks needs_behind code_of is_met need_text want_text wants_text object_named domain_name host_in
+    modify_checks needs_behind letters_of right_codes is_met need_text want_text wants_text object_named domain_name
+    host_in
     is_own_host_name is_own_membership
     is_own_service validated_write verdict_of attr_info attr_named attrs_of is_confidential lines_of names_of all_mays
     all_musts all_neighbours
@@ -209,7 +214,8 @@ unfolding granted_as_owner granted_by_entries matches speaks has_bit entry_at fi
     folded closed dn_of step_from
     rdns_text value_text guid_at_of_guid sid_bytes header_at_of_sidreading sid_at first_failing asked_parts act_items
     is_changed is_forced
-    modify_checks needs_behind code_of is_met need_text want_text wants_text object_named domain_name host_in
+    modify_checks needs_behind letters_of right_codes is_met need_text want_text wants_text object_named domain_name
+    host_in
     is_own_host_name is_own_membership
     is_own_service validated_write verdict_of attr_info attr_named attrs_of is_confidential lines_of names_of all_mays
     all_musts all_neighbours
@@ -241,7 +247,8 @@ unfolding granted_as_owner granted_by_entries matches speaks has_bit entry_at fi
     folded closed dn_of step_from
     rdns_text value_text guid_at_of_guid sid_bytes header_at_of_sidreading sid_at first_failing asked_parts act_items
     is_changed is_forced
-    modify_checks needs_behind code_of is_met need_text want_text wants_text object_named domain_name host_in
+    modify_checks needs_behind letters_of right_codes is_met need_text want_text wants_text object_named domain_name
+    host_in
     is_own_host_name is_own_membership
     is_own_service validated_write verdict_of attr_info attr_named attrs_of is_confidential lines_of names_of all_mays
     all_musts all_neighbours
@@ -272,7 +279,8 @@ unfolding granted_as_owner granted_by_entries matches speaks has_bit entry_at fi
     folded closed dn_of step_from
     rdns_text value_text guid_at_of_guid sid_bytes header_at_of_sidreading sid_at first_failing asked_parts act_items
     is_changed is_forced
-    modify_checks needs_behind code_of is_met need_text want_text wants_text object_named domain_name host_in
+    modify_checks needs_behind letters_of right_codes is_met need_text want_text wants_text object_named domain_name
+    host_in
     is_own_host_name is_own_membership
     is_own_service validated_write verdict_of attr_info attr_named attrs_of is_confidential lines_of names_of all_mays
     all_musts all_neighbours
@@ -303,7 +311,8 @@ unfolding granted_as_owner granted_by_entries matches speaks has_bit entry_at fi
     folded closed dn_of step_from
     rdns_text value_text guid_at_of_guid sid_bytes header_at_of_sidreading sid_at first_failing asked_parts act_items
     is_changed is_forced
-    modify_checks needs_behind code_of is_met need_text want_text wants_text object_named domain_name host_in
+    modify_checks needs_behind letters_of right_codes is_met need_text want_text wants_text object_named domain_name
+    host_in
     is_own_host_name is_own_membership
     is_own_service validated_write verdict_of attr_info attr_named attrs_of is_confidential lines_of names_of all_mays
     all_musts all_neighbours
@@ -334,7 +343,8 @@ unfolding granted_as_owner granted_by_entries matches speaks has_bit entry_at fi
     folded closed dn_of step_from
     rdns_text value_text guid_at_of_guid sid_bytes header_at_of_sidreading sid_at first_failing asked_parts act_items
     is_changed is_forced
-    modify_checks needs_behind code_of is_met need_text want_text wants_text object_named domain_name host_in
+    modify_checks needs_behind letters_of right_codes is_met need_text want_text wants_text object_named domain_name
+    host_in
     is_own_host_name is_own_membership
     is_own_service validated_write verdict_of attr_info attr_named attrs_of is_confidential lines_of names_of all_mays
     all_musts all_neighbours
@@ -365,7 +375,8 @@ unfolding granted_as_owner granted_by_entries matches speaks has_bit entry_at fi
     folded closed dn_of step_from
     rdns_text value_text guid_at_of_guid sid_bytes header_at_of_sidreading sid_at first_failing asked_parts act_items
     is_changed is_forced
-    modify_checks needs_behind code_of is_met need_text want_text wants_text object_named domain_name host_in
+    modify_checks needs_behind letters_of right_codes is_met need_text want_text wants_text object_named domain_name
+    host_in
     is_own_host_name is_own_membership
     is_own_service validated_write verdict_of attr_info attr_named attrs_of is_confidential lines_of names_of all_mays
     all_musts all_neighbours
@@ -398,7 +409,8 @@ unfolding granted_as_owner granted_by_entries matches speaks has_bit entry_at fi
     folded closed dn_of step_from
     rdns_text value_text guid_at_of_guid sid_bytes header_at_of_sidreading sid_at first_failing asked_parts act_items
     is_changed is_forced
-    modify_checks needs_behind code_of is_met need_text want_text wants_text object_named domain_name host_in
+    modify_checks needs_behind letters_of right_codes is_met need_text want_text wants_text object_named domain_name
+    host_in
     is_own_host_name is_own_membership
     is_own_service validated_write verdict_of attr_info attr_named attrs_of is_confidential lines_of names_of all_mays
     all_musts all_neighbours
@@ -432,7 +444,8 @@ unfolding granted_as_owner granted_by_entries matches speaks has_bit entry_at fi
     folded closed dn_of step_from
     rdns_text value_text guid_at_of_guid sid_bytes header_at_of_sidreading sid_at first_failing asked_parts act_items
     is_changed is_forced
-    modify_checks needs_behind code_of is_met need_text want_text wants_text object_named domain_name host_in
+    modify_checks needs_behind letters_of right_codes is_met need_text want_text wants_text object_named domain_name
+    host_in
     is_own_host_name is_own_membership
     is_own_service validated_write verdict_of attr_info attr_named attrs_of is_confidential lines_of names_of all_mays
     all_musts all_neighbours
@@ -463,7 +476,8 @@ unfolding granted_as_owner granted_by_entries matches speaks has_bit entry_at fi
     folded closed dn_of step_from
     rdns_text value_text guid_at_of_guid sid_bytes header_at_of_sidreading sid_at first_failing asked_parts act_items
     is_changed is_forced
-    modify_checks needs_behind code_of is_met need_text want_text wants_text object_named domain_name host_in
+    modify_checks needs_behind letters_of right_codes is_met need_text want_text wants_text object_named domain_name
+    host_in
     is_own_host_name is_own_membership
     is_own_service validated_write verdict_of attr_info attr_named attrs_of is_confidential lines_of names_of all_mays
     all_musts all_neighbours
@@ -495,7 +509,8 @@ unfolding granted_as_owner granted_by_entries matches speaks has_bit entry_at fi
     folded closed dn_of step_from
     rdns_text value_text guid_at_of_guid sid_bytes header_at_of_sidreading sid_at first_failing asked_parts act_items
     is_changed is_forced
-    modify_checks needs_behind code_of is_met need_text want_text wants_text object_named domain_name host_in
+    modify_checks needs_behind letters_of right_codes is_met need_text want_text wants_text object_named domain_name
+    host_in
     is_own_host_name is_own_membership
     is_own_service validated_write verdict_of attr_info attr_named attrs_of is_confidential lines_of names_of all_mays
     all_musts all_neighbours

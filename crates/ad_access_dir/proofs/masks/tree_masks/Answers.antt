@@ -13,5 +13,5 @@ returns-clause-nodes c =
 pub returns-clause-granted : goal.returns-clause-granted
 returns-clause-granted c =
     node_masks c.args.dir.now c.args.token.now c.args.number c.args.class c.args.attrs.now c.args.want
-    c.check_tree.result c.in_ok-tree.tree (seen c.view_of.result) (option_copied c.self_sid.result)
-    (rw c.schema.ensures at c.in_ok-tree.ensures) c.view_of.ensures c.self_sid.ensures c.check_tree.ensures.granted
+    c.check_tree.result c.in_ok-tree.tree (seen c.live_sd.result) (option_copied c.self_sid.result)
+    (rw c.schema.ensures at c.in_ok-tree.ensures) c.live_sd.ensures c.self_sid.ensures c.check_tree.ensures.granted

@@ -4,7 +4,8 @@ use Rattle.std.specs.List.{list_all}
 use Rattle.std.proofs.lemmas.Result.{err_from_is_err_and}
 use Rattle.ad_schema.specs.declared.line.SchemaRecord.{SchemaRecord}
 use Rattle.ad_needs_rules.specs.Checks.{or_code, first_failing}
-use Rattle.ad_change_values.specs.Values.{is_single, is_given_twice, are_repeated, leads, is_no_empty_password}
+use Rattle.ad_change_values.specs.Values.{is_given_twice, are_repeated, leads, is_no_empty_password}
+use Rattle.ad_dir_model.specs.Attributes.{is_single}
 use Rattle.ad_change.specs.Adding.{attr_checks}
 use Rattle.ad_change_values.specs.Judging.{reading_checks}
 use Rattle.ad_change.proofs.AddLaws.{attr_read_stops, attr_twice, attr_many, attr_lead_stops, attr_empty, attr_fine}

@@ -1,5 +1,5 @@
 use Rattle.std.proofs.Common.{ℕ, List, subst}
-use Rattle.ad_change.specs.Judging.{AreEdits}
+use Rattle.ad_dir.specs.Conditions.{AreEdits}
 use Rattle.ad_change.specs.Removing.{removal_edits}
 use Rattle.ad_change.proofs.DeleteMay.{refuses, allows}
 use Rattle.ad_change.proofs.Removals.{removal_is}

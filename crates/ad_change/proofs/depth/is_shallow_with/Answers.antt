@@ -7,10 +7,10 @@ use Rattle.ad_change.specs.Tree.{depth_of}
 use Rattle.ad_change.proofs.DepthLaws.{shallow_then, shallow_in_place}
 use Rattle.ad_change.proofs.depth.is_shallow_with.Goals as goal
 
-pub returns-then-parent_of-parent : goal.returns-then-parent_of-parent
-returns-then-parent_of-parent c = λ name. shallow_in_place c.args.dir.now c.args.target c.args.parent name
+pub returns-then-parent_number-parent : goal.returns-then-parent_number-parent
+returns-then-parent_number-parent c = λ name. shallow_in_place c.args.dir.now c.args.target c.args.parent name
     c.requires.sound c.requires.live
-    (sym c.parent_of.ensures ∙ c.if-parent_of-parent.true)
+    (sym c.parent_number.ensures ∙ c.if-parent_number-parent.true)
 
 pub returns : goal.returns
 returns c = λ name. c.are_shallow.ensures

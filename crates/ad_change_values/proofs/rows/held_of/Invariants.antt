@@ -5,8 +5,8 @@ use Rattle.ad_change_values.specs.ByAttr.{by_attr}
 use Rattle.ad_change_values.proofs.rows.held_of.Given as goal
 
 -- what is moved, and what is left
-abbrev pub invariant-loop-i : goal.invariant-loop-i
-invariant-loop-i l = record {
+abbrev pub invariant-loop : goal.invariant-loop
+invariant-loop l = record {
   moved : map held_seen l.held.items ++ by_attr l.rows.entries ≡ by_attr l.initial.rows.entries;
-  left : btree_map_len l.rows ≡ l.count - l.i;
+  left : btree_map_len l.rows ≡ l.count - l.counter;
 }

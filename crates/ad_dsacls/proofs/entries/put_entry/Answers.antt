@@ -1,9 +1,9 @@
 use Rattle.std.proofs.Common.{OnOk, ap, subst}
 use Rattle.ad_acl.specs.Entry.{Entry}
-use Rattle.ad_dsacls.specs.Puts.{Puts}
-use Rattle.ad_dsacls.specs.Words.{newline, spaced}
+use Rattle.ad_bytes.specs.Puts.{Puts, spaced}
+use Rattle.ad_dsacls.specs.Words.{newline}
 use Rattle.ad_dsacls.specs.Listing.{entry_line}
-use Rattle.ad_dsacls.proofs.Appended.{then, called, onward}
+use Rattle.ad_bytes.proofs.Appended.{then, called, onward}
 use Rattle.ad_dsacls.proofs.entries.put_entry.Goals as goal
 
 pub returns : goal.returns

@@ -1,6 +1,6 @@
 use Rattle.std.proofs.Common.{codes}
 use Rattle.ad_dsacls.specs.Listing.{list_lines, lines_of}
-use Rattle.ad_dsacls.proofs.Appended.{then, onward}
+use Rattle.ad_bytes.proofs.Appended.{then, onward}
 use Rattle.ad_dsacls.proofs.entries.put_lines.Goals as goal
 
 pub returns : goal.returns

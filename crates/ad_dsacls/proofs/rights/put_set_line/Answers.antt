@@ -1,6 +1,6 @@
 use Rattle.std.proofs.Common.{List, ℕ, codes, ap, ◌∙◌}
 use Rattle.std.specs.Prelude.{filter}
-use Rattle.ad_sddl.specs.Words.{right_codes}
+use Rattle.ad_acl.specs.Codes.{right_codes}
 use Rattle.ad_sddl.specs.Canonical.{codes_text}
 use Rattle.ad_dsacls.specs.Effective.{line_of, label_of, is_of_set, set_line}
 use Rattle.ad_access_dir.proofs.AllowedLaws.{allowed_all}

@@ -1,5 +1,5 @@
 use Rattle.std.proofs.Common.{List, ℕ, codes, ap, ◌∙◌}
-use Rattle.ad_sddl.specs.Words.{right_codes}
+use Rattle.ad_acl.specs.Codes.{right_codes}
 use Rattle.ad_sddl.specs.Canonical.{codes_text}
 use Rattle.ad_types.specs.Path.{guids_of}
 use Rattle.ad_dsacls.specs.Effective.{line_of, label_of, validated_line}

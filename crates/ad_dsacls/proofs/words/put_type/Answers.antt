@@ -1,6 +1,5 @@
 use Rattle.std.proofs.Common.{List, ℕ, OnOk, subst, ◌∙◌}
-use Rattle.ad_dsacls.specs.Puts.{Puts}
-use Rattle.ad_dsacls.specs.Words.{spaced}
+use Rattle.ad_bytes.specs.Puts.{Puts, spaced}
 use Rattle.ad_dsacls.proofs.Appended.{named, unnamed}
 use Rattle.ad_dsacls.proofs.words.put_type.Goals as goal
 

@@ -10,9 +10,9 @@ pub returns-in-Ok : goal.returns-in-Ok
 returns-in-Ok c =
     let dir = c.args.dir.now in
     let m = message_seen c.args.message.now in
-    decided_as c.judged.result dir _ (changed dir c.args.token.now m c.args.tag (settings_of m))
+    decided_as c.decision_of.result dir _ (changed dir c.args.token.now m c.args.tag (settings_of m))
     (ap (λ (r : Result Settings ℕ). changed dir c.args.token.now m c.args.tag r)
-    (sym c.in-Ok.is ∙ c.settings.ensures)) c.judged.ensures
+    (sym c.in-Ok.is ∙ c.settings.ensures)) c.decision_of.ensures
 
 pub returns-in-Err : goal.returns-in-Err
 returns-in-Err c =

@@ -34,7 +34,7 @@ returns-in-Edits c =
       sound = c.stays_sound.ensures c.args.token.now c.args.settings.now after c.requires.change is;
       nothing = plan.nothing;
     } in
-    decided_as c.made.result dir _ (by_effect message.id c.args.tag
+    decided_as c.success_of.result dir _ (by_effect message.id c.args.tag
     (effect dir c.args.token.now (op_seen message.op) c.args.settings.now))
     (sym (ap (λ (e : Effect). by_effect message.id c.args.tag e) is))
-    (IfOk-weaker c.made.result _ _ (λ (d : Decided) all. all dir after are) c.made.ensures)
+    (IfOk-weaker c.success_of.result _ _ (λ (d : Decided) all. all dir after are) c.success_of.ensures)

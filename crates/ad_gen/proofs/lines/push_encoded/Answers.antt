@@ -1,5 +1,5 @@
 use Rattle.ad_gen.specs.Lines.{encoded_line}
-use Rattle.ad_gen.proofs.Appended.{then}
+use Rattle.ad_bytes.proofs.Appended.{then}
 use Rattle.ad_gen.proofs.lines.push_encoded.Goals as goal
 
 pub returns : goal.returns

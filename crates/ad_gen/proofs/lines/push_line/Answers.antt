@@ -1,5 +1,5 @@
 use Rattle.ad_gen.specs.Lines.{line}
-use Rattle.ad_gen.proofs.Appended.{then}
+use Rattle.ad_bytes.proofs.Appended.{then}
 use Rattle.ad_gen.proofs.lines.push_line.Goals as goal
 
 pub returns : goal.returns

@@ -1,5 +1,5 @@
 use Rattle.ad_gen.specs.Objects.{containers}
-use Rattle.ad_gen.proofs.Appended.{then}
+use Rattle.ad_bytes.proofs.Appended.{then}
 use Rattle.ad_gen.proofs.objects.push_containers.Goals as goal
 
 pub returns : goal.returns

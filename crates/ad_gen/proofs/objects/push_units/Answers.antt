@@ -1,12 +1,12 @@
 use Rattle.std.specs.String.{string_bytes}
 use Rattle.ad_gen.specs.Objects.{units}
-use Rattle.ad_gen.proofs.Appended.{then, none}
+use Rattle.ad_bytes.proofs.Appended.{then, nothing}
 use Rattle.ad_gen.proofs.Counted.{units_more}
 use Rattle.ad_gen.proofs.objects.push_units.Goals as goal
 
 pub loop-i-init : goal.loop-i-init
 unfolding units
-loop-i-init c = none (string_bytes c.args.out.now)
+loop-i-init c = nothing (string_bytes c.args.out.now)
 
 pub loop-i-preserved : goal.loop-i-preserved
 loop-i-preserved c = rw (units_more c.loop-i.i)

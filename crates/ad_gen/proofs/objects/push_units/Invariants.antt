@@ -1,5 +1,5 @@
 use Rattle.std.specs.String.{string_bytes}
-use Rattle.ad_gen.specs.Puts.{Puts}
+use Rattle.ad_bytes.specs.Puts.{Puts}
 use Rattle.ad_gen.specs.Objects.{units}
 use Rattle.ad_gen.proofs.objects.push_units.Given as goal
 

@@ -1,5 +1,5 @@
 use Rattle.std.specs.String.{string_bytes}
-use Rattle.ad_gen.specs.Puts.{Puts}
+use Rattle.ad_bytes.specs.Puts.{Puts}
 use Rattle.ad_gen.specs.Objects.{users}
 use Rattle.ad_gen.proofs.objects.push_users.Given as goal
 

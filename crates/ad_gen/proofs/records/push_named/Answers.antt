@@ -1,5 +1,5 @@
 use Rattle.ad_gen.specs.Schema.{named}
-use Rattle.ad_gen.proofs.Appended.{then}
+use Rattle.ad_bytes.proofs.Appended.{then}
 use Rattle.ad_gen.proofs.records.push_named.Goals as goal
 
 pub returns : goal.returns

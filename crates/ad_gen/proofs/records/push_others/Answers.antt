@@ -1,4 +1,4 @@
-use Rattle.ad_gen.proofs.Appended.{then}
+use Rattle.ad_bytes.proofs.Appended.{then}
 use Rattle.ad_gen.proofs.records.push_others.Goals as goal
 
 pub returns : goal.returns

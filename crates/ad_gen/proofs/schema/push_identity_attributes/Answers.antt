@@ -1,5 +1,5 @@
 use Rattle.ad_gen.specs.Schema.{identity_attributes}
-use Rattle.ad_gen.proofs.Appended.{then}
+use Rattle.ad_bytes.proofs.Appended.{then}
 use Rattle.ad_gen.proofs.schema.push_identity_attributes.Goals as goal
 
 pub returns : goal.returns

@@ -1,5 +1,5 @@
 use Rattle.ad_gen.specs.Schema.{outer_classes}
-use Rattle.ad_gen.proofs.Appended.{then}
+use Rattle.ad_bytes.proofs.Appended.{then}
 use Rattle.ad_gen.proofs.schema.push_outer_classes.Goals as goal
 
 pub returns : goal.returns

@@ -1,5 +1,5 @@
 use Rattle.ad_gen.specs.Schema.{password_rights}
-use Rattle.ad_gen.proofs.Appended.{then}
+use Rattle.ad_bytes.proofs.Appended.{then}
 use Rattle.ad_gen.proofs.schema.push_password_rights.Goals as goal
 
 pub returns : goal.returns

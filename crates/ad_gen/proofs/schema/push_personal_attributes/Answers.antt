@@ -1,5 +1,5 @@
 use Rattle.ad_gen.specs.Schema.{personal_attributes}
-use Rattle.ad_gen.proofs.Appended.{then}
+use Rattle.ad_bytes.proofs.Appended.{then}
 use Rattle.ad_gen.proofs.schema.push_personal_attributes.Goals as goal
 
 pub returns : goal.returns

@@ -1,5 +1,5 @@
 use Rattle.ad_gen.specs.Schema.{validated_writes}
-use Rattle.ad_gen.proofs.Appended.{then}
+use Rattle.ad_bytes.proofs.Appended.{then}
 use Rattle.ad_gen.proofs.schema.push_validated_writes.Goals as goal
 
 pub returns : goal.returns

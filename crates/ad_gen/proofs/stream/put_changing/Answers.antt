@@ -1,5 +1,5 @@
 use Rattle.ad_gen.specs.Frames.{changing}
-use Rattle.ad_gen.proofs.Appended.{then}
+use Rattle.ad_bytes.proofs.Appended.{then}
 use Rattle.ad_gen.proofs.stream.put_changing.Goals as goal
 
 pub returns : goal.returns

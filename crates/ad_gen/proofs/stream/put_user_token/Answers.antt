@@ -1,5 +1,5 @@
 use Rattle.ad_gen.specs.Frames.{user_token}
-use Rattle.ad_gen.proofs.Appended.{then}
+use Rattle.ad_bytes.proofs.Appended.{then}
 use Rattle.ad_gen.proofs.stream.put_user_token.Goals as goal
 
 pub returns : goal.returns

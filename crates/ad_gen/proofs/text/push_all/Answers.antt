@@ -1,5 +1,5 @@
 use Rattle.ad_gen.specs.Ldif.{ldif}
-use Rattle.ad_gen.proofs.Appended.{then}
+use Rattle.ad_bytes.proofs.Appended.{then}
 use Rattle.ad_gen.proofs.text.push_all.Goals as goal
 
 pub returns : goal.returns

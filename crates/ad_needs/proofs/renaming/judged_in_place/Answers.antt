@@ -7,10 +7,10 @@ use Rattle.ad_needs.proofs.renaming.judged_in_place.Goals as goal
 
 pub returns-in-Some : goal.returns-in-Some
 returns-in-Some c =
-    if_ok c.judged.result
+    if_ok c.verdict_there.result
     (λ verdict is. is ∙ in_place_seen c.args.dir.now c.args.token.now c.args.dn.now.rdns c.args.rdn c.in-Some.number
     (rw c.in-Some.is at c.in_ok-number.ensures.found))
-    c.judged.ensures
+    c.verdict_there.ensures
 
 pub returns-in_ok-matched-in-None : goal.returns-in_ok-matched-in-None
 returns-in_ok-matched-in-None c =

@@ -25,9 +25,9 @@ returns-in_default-3 c =
 
 pub returns : goal.returns
 returns c =
-    if_ok c.judged.result
+    if_ok c.verdict_there.result
     (λ verdict is. is ∙ moved_seen c.args.dir.now c.args.token.now c.args.dn.now.rdns c.args.rdn c.args.superior.now
     c.in-Some.above c.in-Some-2.number c.in-Some-3.parent
     (rw c.in-Some.is at c.in_ok-above.ensures) (rw c.in-Some-2.is at c.in_ok-number.ensures.found)
     (rw c.in-Some-3.is at c.in_ok-parent.ensures.found))
-    c.judged.ensures
+    c.verdict_there.ensures

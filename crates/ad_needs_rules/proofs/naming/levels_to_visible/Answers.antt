@@ -2,7 +2,7 @@ use Rattle.std.proofs.Common.{◌≡◌, ◌∙◌, ◌≤◌, ◌-◌, ℕ, Som
 use Rattle.ad_dn.specs.declared.rdn.Dn.{Dn}
 use Rattle.ad_dir_model.specs.Directory.{Meta}
 use Rattle.ad_dir_model.specs.Names.{found}
-use Rattle.ad_needs_rules.proofs.Named.{found_live}
+use Rattle.ad_dir_model.proofs.Named.{found_live}
 use Rattle.ad_needs_rules.proofs.SightLaws.{nearest, matched_nearest}
 use Rattle.ad_needs_rules.proofs.AboveLaws.{visible_by, starts, stops, steps, either_within}
 use Rattle.ad_needs_rules.proofs.naming.levels_to_visible.Goals as goal

@@ -1,5 +1,5 @@
 use Rattle.std.proofs.Common.{sym}
-use Rattle.ad_needs_rules.proofs.Named.{found_live}
+use Rattle.ad_dir_model.proofs.Named.{found_live}
 use Rattle.ad_needs_rules.proofs.SightLaws.{visible_some, visible_none, visible_lives}
 use Rattle.ad_needs_rules.proofs.naming.visible.Goals as goal
 

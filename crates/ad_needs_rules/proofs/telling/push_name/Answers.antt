@@ -2,7 +2,7 @@ use Rattle.std.proofs.Common.{List, ℕ, subst, ap, ◌∙◌}
 use Rattle.std.specs.Result.{OnOk}
 use Rattle.ad_dn.specs.Text.{rdns_text}
 use Rattle.ad_dir_model.specs.Names.{name_text}
-use Rattle.ad_needs_rules.specs.Puts.{Puts}
+use Rattle.ad_bytes.specs.Puts.{Puts}
 use Rattle.ad_needs_rules.proofs.telling.push_name.Goals as goal
 
 pub returns : goal.returns

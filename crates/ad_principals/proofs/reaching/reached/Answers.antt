@@ -4,7 +4,7 @@ use Rattle.ad_ids.specs.SidValue.{SidValue}
 use Rattle.ad_dir_model.specs.Object.{no_sid}
 use Rattle.ad_principals.specs.Reaching.{first_with}
 use Rattle.ad_principals.proofs.Steps.{reaching_starts, reaching_goes, reaching_ends}
-use Rattle.ad_principals.proofs.reaching.reached.Goals.{then-groups-test+else-len-le1025, else-groups-test}
+use Rattle.ad_principals.proofs.reaching.reached.Goals.{then-groups-test+else-len-le-MAX_SET, else-groups-test}
 use Rattle.ad_principals.proofs.reaching.reached.Goals as goal
 
 pub groups-init : goal.groups-init
@@ -29,7 +29,7 @@ returns-clause-least c = λ few.
     reaching_ends c.args.dir.now c.args.user.now (first_with c.args.primary.now c.args.extra.now) c.groups.done
     c.groups.set.keys c.groups.invariant
     (elim c.groups-test.branch [
-      | then-groups-test+else-len-le1025 w
-          ↦ absurd (omega (arith, few, w.if-len-le1025.false, w.len-in-groups.ensures.len))
+      | then-groups-test+else-len-le-MAX_SET w
+          ↦ absurd (omega (arith, few, w.if-len-le-MAX_SET.false, w.len-in-groups.ensures.len))
       | else-groups-test w ↦ omega (arith, w.groups-test.false, c.len.ensures.len)
     ])

@@ -9,8 +9,8 @@ use Rattle.ad_principals.specs.Reaching.{first_with}
 use Rattle.ad_principals.proofs.Remaining.{is_other, distinct_left, contains_left, one_goes}
 use Rattle.ad_principals.proofs.token.token_by.Goals as goal
 
-pub returns-then-len-gt1024-clause-fault : goal.returns-then-len-gt1024-clause-fault
-returns-then-len-gt1024-clause-fault c =
+pub returns-then-len-gt-MAX_GROUPS-clause-fault : goal.returns-then-len-gt-MAX_GROUPS-clause-fault
+returns-then-len-gt-MAX_GROUPS-clause-fault c =
     let set = c.in_ok-set.set.keys in
     let user = c.args.user.now in
     let left : c.in_ok-others.field-0.items ≡ filter (is_other user) set = c.in_ok-others.ensures.are

@@ -1,5 +1,6 @@
 use Rattle.std.proofs.Common.{take}
-use Rattle.ad_protect.specs.Putting.{sd_given, AreEdits, puts_of}
+use Rattle.ad_protect.specs.Putting.{sd_given, puts_of}
+use Rattle.ad_dir.specs.Conditions.{AreEdits}
 use Rattle.ad_protect.proofs.puts.puts_of.Given as goal
 
 -- the edits of those so far

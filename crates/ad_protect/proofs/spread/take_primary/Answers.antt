@@ -11,11 +11,11 @@ use Rattle.ad_protect.proofs.spread.take_primary.Goals as goal
 pub returns-in-Some : goal.returns-in-Some
 returns-in-Some c =
     on_ok_weaker c.take_all.result
-    (takes_same (has c.listed.result.now)
+    (takes_same (has c.numbers_at.result.now)
     (λ n. is_live c.args.dir.now.objects n && has_as_primary c.args.dir.now (object_at c.args.dir.now.objects n)
     (object_at c.args.dir.now.objects c.args.group))
     c.args.taken.now.keys c.take_all.new.taken.keys
-    (λ n. ap (λ (ns : List ℕ). has ns n) (c.listed.ensures ∙ ap (listed c.args.table.now) c.from.ensures)
+    (λ n. ap (λ (ns : List ℕ). has ns n) (c.numbers_at.ensures ∙ ap (listed c.args.table.now) c.from.ensures)
     ∙ listed_are c.args.dir.now c.args.group c.in-Some.rid n (listed c.args.table.now) c.requires c.in-Some.ensures))
     c.take_all.ensures
 

@@ -3,14 +3,14 @@ use Rattle.std.specs.String.{string_bytes}
 use Rattle.ad_acl.specs.Entry.{Entry}
 use Rattle.ad_acl.specs.Writing.{has_guid}
 use Rattle.ad_ids.specs.SidText.{sid_text}
-use Rattle.ad_sddl.specs.Words.{flag_codes}
+use Rattle.ad_acl.specs.Codes.{flag_codes}
 use Rattle.ad_sddl.specs.Grammar.{type_text}
 use Rattle.ad_sddl.specs.Canonical.{codes_text, rights_text, guid_text_if, entry_text}
 use Rattle.ad_sddl.proofs.Pieces.{flags_ascii, entry_joined, where_ok}
 use Rattle.ad_sddl.proofs.printing.push_entry.Goals as goal
 
 pub push_codes-requires : goal.push_codes-requires
-push_codes-requires c = flags_ascii c.flag_table.result.now c.flag_table.ensures
+push_codes-requires c = flags_ascii c.flag_codes.result.now c.flag_codes.ensures
 
 pub returns : goal.returns
 returns c =
@@ -32,7 +32,7 @@ returns c =
     let flags : string_bytes c.push_codes.new.text ≡ string_bytes c.push_str-3.new.self
     ++ codes_text flag_codes e.flags =
     c.in_ok-push_codes.ensures ∙ ap (λ t. string_bytes c.push_str-3.new.self ++ codes_text t c.from.result)
-    c.flag_table.ensures ∙ ap (λ m. string_bytes c.push_str-3.new.self ++ codes_text flag_codes m) c.from.ensures
+    c.flag_codes.ensures ∙ ap (λ m. string_bytes c.push_str-3.new.self ++ codes_text flag_codes m) c.from.ensures
     in
     record {
       text = subst (λ (a : Entry). OnOk c.push_str-8.result

@@ -5,12 +5,12 @@ use Rattle.ad_sddl.proofs.Pieces.{rights_ascii, as_codes, as_hex}
 use Rattle.ad_sddl.proofs.printing.push_rights.Goals as goal
 
 pub push_codes-requires : goal.push_codes-requires
-push_codes-requires c = rights_ascii c.right_table.result.now c.right_table.ensures
+push_codes-requires c = rights_ascii c.right_codes.result.now c.right_codes.ensures
 
 pub returns-then-mask-eq-ALL_RIGHTS : goal.returns-then-mask-eq-ALL_RIGHTS
 returns-then-mask-eq-ALL_RIGHTS c =
-    let text : codes_text c.right_table.result.now c.args.mask ≡ rights_text c.args.mask
-    = ap (λ t. codes_text t c.args.mask) c.right_table.ensures
+    let text : codes_text c.right_codes.result.now c.args.mask ≡ rights_text c.args.mask
+    = ap (λ t. codes_text t c.args.mask) c.right_codes.ensures
     ∙ sym (as_codes c.args.mask c.if-mask-eq-ALL_RIGHTS.true) in
     subst (λ (t : List ℕ). OnOk c.push_codes.result (string_bytes c.push_codes.new.text ≡ string_bytes c.args.text.now
     ++ t)) text c.push_codes.ensures

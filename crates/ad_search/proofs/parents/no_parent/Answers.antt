@@ -3,4 +3,4 @@ use Rattle.std.proofs.lemmas.Bool.{both_ways}
 use Rattle.ad_search.proofs.parents.no_parent.Goals as goal
 
 pub returns : goal.returns
-returns c = λ known number below is_parent. absurd (both_ways false refl known)
+returns c = λ dir token known number below is_parent. absurd (both_ways false refl known)

@@ -2,7 +2,8 @@ use Rattle.std.proofs.Common.{List, ℕ, sym, ap, ◌++◌, ◌∙◌}
 use Rattle.ad_ids.specs.SidText.{sid_text}
 use Rattle.ad_types.specs.Path.{guids_of}
 use Rattle.ad_dir_model.specs.Names.{name_text}
-use Rattle.ad_who.specs.Lines.{spaced, ended, decider_text}
+use Rattle.ad_who.specs.Lines.{decider_text}
+use Rattle.ad_bytes.specs.Puts.{spaced, ended}
 use Rattle.ad_who.proofs.Putting.{where_ok, three_put, line_none, line_some}
 use Rattle.ad_who.proofs.having.put_who_line.Goals as goal
 

@@ -2,7 +2,8 @@ use Rattle.std.proofs.Common.{◌≡◌, List, ℕ, sym, ap, ◌++◌, ◌∙◌
 use Rattle.ad_ids.specs.declared.guid.Guid.{Guid}
 use Rattle.ad_types.specs.Path.{guids_of}
 use Rattle.ad_dir_model.specs.Names.{name_text}
-use Rattle.ad_who.specs.Lines.{spaced, ended, decider_text, granted_line}
+use Rattle.ad_who.specs.Lines.{decider_text, granted_line}
+use Rattle.ad_bytes.specs.Puts.{spaced, ended}
 use Rattle.ad_who.proofs.Putting.{where_ok, two_put, line_none, line_some}
 use Rattle.ad_who.proofs.reaching.put_can_line.Goals as goal
 

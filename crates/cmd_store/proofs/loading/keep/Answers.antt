@@ -10,12 +10,12 @@ returns-in-Err g c = record {
       (record { output = g.met.S.Site.left_output; until = g.met.S.Site.left_until }) c.args.dir c.args.site.now;
 }
 
-pub returns-in-Ok-stored : goal.returns-in-Ok-stored
-returns-in-Ok-stored g c = record {
+pub returns-in-Ok-create_store : goal.returns-in-Ok-create_store
+returns-in-Ok-create_store g c = record {
   keeps = kept_said g.S.Site (record { output = g.met.S.Site.left_output; until = g.met.S.Site.left_until })
-      c.args.dir c.args.site.now c.stored.new.site c.say.new.site c.say.result
-      c.in-Ok-stored.ensures.creating.outside c.in-Ok-stored.ensures.held c.in-Ok-stored.ensures.every_crash
-      (subst (λ (text : List ℕ). Says g.S.Site c.stored.new.site c.say.new.site text Done c.say.result)
+      c.args.dir c.args.site.now c.create_store.new.site c.say.new.site c.say.result
+      c.in-Ok-create_store.ensures.creating.outside c.in-Ok-create_store.ensures.held c.in-Ok-create_store.ensures.every_crash
+      (subst (λ (text : List ℕ). Says g.S.Site c.create_store.new.site c.say.new.site text Done c.say.result)
       (c.deref.ensures.value ∙ c.in-Ok.ensures) c.say.ensures);
 }
 
@@ -24,9 +24,9 @@ returns-in-Err-Taken g c =
     let made = rw c.in-Err-Taken.field-0-is at c.in-Err-Taken.ensures in
     record {
       keeps = kept_taken g.S.Site (record { output = g.met.S.Site.left_output; until = g.met.S.Site.left_until })
-          c.args.dir c.args.site.now c.stored.new.site c.say-in-Err-Taken.new.site c.say-in-Err-Taken.result
+          c.args.dir c.args.site.now c.create_store.new.site c.say-in-Err-Taken.new.site c.say-in-Err-Taken.result
           made.creating.outside (made.creating.taken refl) (made.creating.unwritten (inl refl))
-          (subst (λ (text : List ℕ). Says g.S.Site c.stored.new.site c.say-in-Err-Taken.new.site text NoStore
+          (subst (λ (text : List ℕ). Says g.S.Site c.create_store.new.site c.say-in-Err-Taken.new.site text NoStore
           c.say-in-Err-Taken.result) c.as_bytes.ensures.value c.say-in-Err-Taken.ensures);
     }
 
@@ -36,7 +36,7 @@ returns-in-Err-Memory g c =
     record {
       keeps = kept_memory g.S.Site
           (record { output = g.met.S.Site.left_output; until = g.met.S.Site.left_until }) c.args.dir c.args.site.now
-          c.stored.new.site made.creating.outside
+          c.create_store.new.site made.creating.outside
           (made.creating.unwritten (inr refl));
     }
 
@@ -45,6 +45,6 @@ returns-in-Err-Site g c =
     let made = rw c.in-Err-Site.field-0-is at c.in-Err-Site.ensures in
     record {
       keeps = kept_failed g.S.Site (record { output = g.met.S.Site.left_output; until = g.met.S.Site.left_until })
-          c.args.dir c.args.site.now c.stored.new.site
+          c.args.dir c.args.site.now c.create_store.new.site
           made.creating.outside (made.creating.cause refl);
     }

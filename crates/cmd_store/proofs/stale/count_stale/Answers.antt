@@ -18,7 +18,7 @@ loop-number-preserved c =
     c.loop-number.number-index (c.loop-number.number-index + 1) c.in_ok-is_stale.field-0
     c.loop-number.invariant (omega arith) c.loop-number-test.true c.in_ok-is_stale.ensures in
     subst (λ (k : ℕ). IsCounting c.args.dir.now c.deref-number-items.result.now (c.loop-number.n + k)
-    (c.loop-number.number-index + 1)) (sym c.counted.ensures) counted
+    (c.loop-number.number-index + 1)) (sym c.one_if.ensures) counted
 
 pub returns : goal.returns
 returns c = counted_all c.args.dir.now c.deref-number-items.result.now c.loop-number.n c.loop-number.number-index

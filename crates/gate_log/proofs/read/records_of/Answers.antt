@@ -20,9 +20,9 @@ loop-bodies-preserved c =
     record {
       are = rw grown moved.0;
       within = moved.1;
-      counts = rw grown (c.counted.ensures.counts (bodies_of c.loop-bodies.bodies.items) body.items (sym long)
+      counts = rw grown (c.counts_with.ensures.counts (bodies_of c.loop-bodies.bodies.items) body.items (sym long)
           c.loop-bodies.invariant.counts);
-      small = omega (arith, c.counted.ensures.within, c.loop-bodies.invariant.small);
+      small = omega (arith, c.counts_with.ensures.within, c.loop-bodies.invariant.small);
     }
 
 pub returns-in_err-body-clause-broken : goal.returns-in_err-body-clause-broken

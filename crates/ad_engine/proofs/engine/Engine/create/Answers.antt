@@ -7,7 +7,7 @@ returns-in-Ok-clause-stands g c =
     let kept = c.in-Ok.ensures.kept in
     λ _. record {
       sound = c.requires;
-      held = dir_held _ (g.S.Site.reads c.made.new.site) kept.held;
+      held = dir_held _ (g.S.Site.reads c.store_of.new.site) kept.held;
       unspent = kept.unspent;
       store = kept.store;
     }

@@ -34,7 +34,7 @@ returns-clause-added g c =
     (s.reads c.put_record.new.site) c.settle.ensures.outside.held c.in_ok-put_record.ensures.added
     (λ held bodies rests. subst (λ end. Rests log.version log.live log.generation end log.other_open held bodies)
     (omega arith) rests)
-    (λ bodies counts. c.counted-first.ensures.counts bodies c.args.body.now refl counts)
+    (λ bodies counts. c.counts_with-first.ensures.counts bodies c.args.body.now refl counts)
 
 pub returns-in_err-settle-clause-outside : goal.returns-in_err-settle-clause-outside
 returns-in_err-settle-clause-outside g c = looks_touch g.S.Site c.args.site.now c.settle.new.site

@@ -1,0 +1,23 @@
+use Rattle.std.proofs.lemmas.Result.{err_from_is_err_and}
+use Rattle.row_store.specs.Table.{table_of}
+use Rattle.ad_engine.proofs.Opening.{opened, memory_creating, refused_creating}
+use Rattle.cmd_store.proofs.storing.create_store.Goals as goal
+
+pub returns-in_err-rows-clause-creating : goal.returns-in_err-rows-clause-creating
+returns-in_err-rows-clause-creating g c =
+    let p = err_from_is_err_and c.from_residual.result c.from_residual.ensures.1 in
+    memory_creating _ g.S.Site c.args.site.now (g.met.S.Site.left_until c.args.site.now) p.0 c.from_residual.result
+    p.1 p.2
+
+pub returns-in_err-store-clause-creating : goal.returns-in_err-store-clause-creating
+returns-in_err-store-clause-creating g c =
+    let p = err_from_is_err_and c.from_residual-in_err-store.result c.from_residual-in_err-store.ensures.1 in
+    let says = c.in_err-store.ensures in
+    refused_creating _ _ g.S.Site c.args.site.now c.create_of.new.site c.in_err-store.field-0.0 p.0
+    c.from_residual-in_err-store.result p.1 p.2 says.taken says.unwritten says.faults says.outside says.cause
+
+pub returns-clause-held : goal.returns-clause-held
+returns-clause-held g c =
+    opened (g.S.Site.reads c.create_of.new.site) c.in_ok-store.store (table_of c.in_ok-rows.rows) c.args.dir
+    c.in_ok-store.ensures.created
+    c.in_ok-rows.ensures c.requires
