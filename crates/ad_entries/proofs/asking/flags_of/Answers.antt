@@ -28,7 +28,7 @@ returns-then-is_empty-clause-flags c =
 
 pub returns-then-is_every-clause-flags : goal.returns-then-is_every-clause-flags
 returns-then-is_every-clause-flags c =
-    subst (AreFlags c.args.schema.now c.args.sent.now) (sym c.in_ok-all_flags-then-is_every.ensures)
+    subst (AreFlags c.args.schema.now c.args.sent.now) (sym c.in_ok-all_flags-2.ensures)
     (all_set c.args.schema.now c.args.sent.now
     (all_by_every c.args.sent.now c.loop-asked.asked-index c.asked-item.result
     (from_here c.args.sent.now c.loop-asked.asked-index c.asked-item.result c.loop-asked-test.true c.asked-item.is)
