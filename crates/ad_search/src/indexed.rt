@@ -43,11 +43,7 @@ fn is_text(schema: &Schema, attr: AttrId) -> bool
 }
 
 // What is sought for a needle of `name`.
-fn sought_by_name(
-    alloc: Global,
-    dir: &Dir,
-    needle: &Needle,
-) -> Result<Option<Sought>, AllocError>
+fn sought_by_name(alloc: Global, dir: &Dir, needle: &Needle) -> Result<Option<Sought>, AllocError>
     requires { is_named dir.now.schema (codes "name") needle.now.attr.0 ≡ true }
     ensures { IfOk result (λ found. IfSome found (IsSoughtFor dir.now.schema needle.now)) }
 {
@@ -63,11 +59,7 @@ fn sought_by_name(
 }
 
 // What is sought for a needle of any other attribute, where there is an index for it.
-fn sought_by_value(
-    alloc: Global,
-    dir: &Dir,
-    needle: &Needle,
-) -> Result<Option<Sought>, AllocError>
+fn sought_by_value(alloc: Global, dir: &Dir, needle: &Needle) -> Result<Option<Sought>, AllocError>
     requires { is_named dir.now.schema (codes "name") needle.now.attr.0 ≡ false }
     ensures { IfOk result (λ found. IfSome found (IsSoughtFor dir.now.schema needle.now)) }
 {
