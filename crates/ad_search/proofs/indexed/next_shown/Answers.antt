@@ -21,7 +21,8 @@ returns-then-sought-2 c =
     let dir = c.args.dir.now in
     let sought = c.args.sought.now in
     record {
-      is_above = c.lesser.ensures.above c.args.above c.next_with-stores.ensures.is_above c.next_named-then-sought-2.ensures.is_above;
+      is_above = c.lesser.ensures.above c.args.above c.next_with-stores.ensures.is_above
+          c.next_named-then-sought-2.ensures.is_above;
       none = λ n live more before ordinary name named.
           named_shown dir sought.attr.0 sought.key c.args.above c.stands.ensures c.next_with-stores.result
           c.next_named-then-sought-2.result n c.next_with-stores.ensures c.next_named-then-sought-2.ensures ordinary
