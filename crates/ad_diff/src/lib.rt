@@ -30,13 +30,21 @@
 #![tactic(auto)]
 
 mod alike;
+mod bases;
 mod both;
 mod changes;
 mod codes;
 mod columns;
+mod families;
+mod ground;
 mod grouping;
+mod holders;
+mod kinds;
+mod labels;
 mod laws;
 mod listing;
+mod masks;
+mod named;
 mod own;
 mod pieces;
 mod rights;

@@ -3,7 +3,7 @@ use Rattle.std.specs.List.{flat_map}
 use Rattle.ad_acl.specs.Mask.{has_bit}
 use Rattle.ad_diff.specs.Rights.{label_if}
 use Rattle.ad_diff.specs.Steps.{texts}
-use Rattle.ad_diff.proofs.rights.push_labels.Given as goal
+use Rattle.ad_diff.proofs.labels.push_labels.Given as goal
 
 -- the labels so far
 abbrev pub invariant-loop-code : goal.invariant-loop-code
