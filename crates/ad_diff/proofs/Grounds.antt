@@ -1,9 +1,10 @@
 -- What is known before objects are looked at one by one: families, kinds and their lines.
 use Rattle.std.proofs.Common.{◌≡◌, ◌∙◌, ◌<◌, ◌+◌, ℕ, true, false, List, [], ◌∷◌, ◌++◌, length, map, get_or, refl, sym, ap}
 use Rattle.std.proofs.Common.{subst, arith, Bool, Option, Some, None, inl, inr}
-use Rattle.std.specs.Prelude.{All, slice_get}
+use Rattle.std.specs.Prelude.{All, slice_get, ◌==◌, ◌&&◌, ◌≢◌}
 use Rattle.std.specs.Option.{option_map_or}
-use Rattle.std.proofs.lemmas.Bool.{cases_Bool, false≢true}
+use Rattle.std.proofs.lemmas.Bool.{cases_Bool, false≢true, or_left, or_right}
+use Rattle.std.proofs.lemmas.Bool.Decides.{Decides-eqb}
 use Rattle.std.proofs.lemmas.List.{append-nil}
 use Rattle.std.proofs.lemmas.List.Elements.{All-append, All-cons, All-nil}
 use Rattle.std.proofs.lemmas.Option.{same_Some, get_or_from_slice_get, slice_get_within}
@@ -22,7 +23,7 @@ use Rattle.ad_diff.specs.Own.{changes_in, holds_own, IsBare}
 use Rattle.ad_diff.specs.Steps.{IsParty, IsAlike, IsAlikeIn}
 use Rattle.ad_diff.specs.Families.{IsOfFamily, AreOfFamilies, IsNext}
 use Rattle.ad_diff.specs.Kinds.{IsNamedBoth, HoldAlike, AreTokensAlike, IsLike, IsLikeAt, IsOfKind, AreKinds, IsNextKind}
-use Rattle.ad_diff.specs.Holders.{listed_if, token_in, AreHolders}
+use Rattle.ad_diff.specs.Holders.{listed, listed_if, Gains, token_in, AreHolders}
 use Rattle.ad_diff.specs.Frames.{bare_at, bares_on, all_bares, row_texts, base_at, HasBase, AreBases}
 use Rattle.ad_diff.proofs.Lists.{all_at, mapped_at, there_at, more_at, last_in, last_cases}
 use Rattle.ad_diff.proofs.Likeness.{same_changes}
@@ -91,9 +92,9 @@ kind_new named parties old new place kind are same = record {
   more = place ∷ [];
   are = are;
   own = λ party there. record {
-      first = place;
-      there = last_in old new place kind are same;
-      like = record { other = party; there = there; like = like_itself named party };
+    first = place;
+    there = last_in old new place kind are same;
+    like = record { other = party; there = there; like = like_itself named party };
   };
 }
 
@@ -131,20 +132,20 @@ bases_are before after named parties firsts places frame are names rows count ki
     here =
     let inside = slice_get_within parties place party here in
     let kind = there_at frame.kinds.items place (omega (arith, inside, count)) in
-    let of : IsOfKind named parties places kind.0 party = kinds place kind.0 party kind.1 here in
-    let other = of.like.other in
-    let bare_other = bare_party before after other (all_at (IsParty before after) parties of.first other are
-    of.like.there) in
+    let its : IsOfKind named parties places kind.0 party = kinds place kind.0 party kind.1 here in
+    let other = its.like.other in
+    let bare_other = bare_party before after other (all_at (IsParty before after) parties its.first other are
+    its.like.there) in
     let bare = bare_party before after party (all_at (IsParty before after) parties place party are here) in
     ap (λ (n : ℕ). get_or (get_or (row_texts frame.rows.items) family []) n [])
     (get_or_from_slice_get frame.kinds.items place kind.0 0 kind.1)
     ∙ ap (λ (all : List (List (List ℕ))). get_or (get_or all family []) kind.0 []) rows
     ∙ ap (λ (row : List (List ℕ)). get_or row kind.0 [])
     (mapped_at (bares_on before after parties places) firsts family first [] there)
-    ∙ mapped_at (bare_at before after parties first) places kind.0 of.first [] of.there
+    ∙ mapped_at (bare_at before after parties first) places kind.0 its.first [] its.there
     ∙ ap (λ (p : Option Party). option_map_or (λ (q : Party). changes_in before after q.was q.is false first) p [])
-    of.like.there
-    ∙ like_changes named before after other party first bare_other.0 bare_other.1 bare.0 bare.1 of.like.like
+    its.like.there
+    ∙ like_changes named before after other party first bare_other.0 bare_other.1 bare.0 bare.1 its.like.like
     (all_at (IsNamedBoth before after named) firsts family first names there)
 
 -- those of a family are those of its first object
@@ -162,6 +163,9 @@ all_based before after parties firsts frame objects bases all i d lt =
     family_base before after parties firsts frame (get_or objects i d).group (get_or objects i d).both bases
     (all i d lt)
 
+and_true : {a b : Bool} → a ≡ true → b ≡ true → (a && b) ≡ true
+and_true {a} {b} e f = ap (λ (q : Bool). q && b) e ∙ f
+
 -- ---- who doesn't stand among the holders of an identifier
 
 pub not_holder : {S : Type 0} (table : IndexMap SidValue (Vec ℕ) S) (parties : List Party) (first : Bool)
@@ -173,4 +177,25 @@ not_holder table parties first (Some sid) place party all here none =
     elim (cases_Bool (holds (first_holder (token_in first party)) sid)) [
       | inl is ↦ absurd (false≢true (sym none ∙ all place party sid (slice_get_within parties place party here) here is))
       | inr not ↦ not
+    ]
+
+-- one more principal
+pub holders_more : {S T : Type 0} (old : IndexMap SidValue (Vec ℕ) S) (new : IndexMap SidValue (Vec ℕ) T)
+    (parties : List Party) (first : Bool) (n : ℕ) (party : Party) → slice_get parties n ≡ Some party
+    → AreHolders parties first n old
+    → Gains (λ s p. holds (first_holder (token_in first party)) s && n == p) (listed old) (listed new)
+    → AreHolders parties first (n + 1) new
+holders_more old new parties first n party here all gains place other sid lt there held =
+    let test = holds (first_holder (token_in first party)) sid && n == place in
+    elim (cases_Bool (n == place)) [
+      | inl same ↦
+          let one : other ≡ party = same_Some other party (sym there
+          ∙ ap (λ (i : ℕ). slice_get parties i) (sym ((Decides-eqb n place).0 same)) ∙ here) in
+          let holds_it : holds (first_holder (token_in first party)) sid ≡ true =
+          subst (λ (p : Party). holds (first_holder (token_in first p)) sid ≡ true) one held in
+          gains sid place ∙ or_right (has (listed old sid) place) test (and_true holds_it same)
+      | inr apart ↦
+          let differ : n ≢ place = λ e. false≢true (sym apart ∙ (Decides-eqb n place).1 e) in
+          gains sid place ∙ or_left (has (listed old sid) place) test
+          (all place other sid (omega (arith, lt, differ)) there held)
     ]

@@ -6,8 +6,9 @@ pub mod Owned
 pub mod Likeness
 pub mod Holding
 pub mod Unchanged
+pub mod Naming
 pub mod Grounds
-pub mod Columns
+pub mod Putting
 pub mod Exact
 pub mod Live
 pub mod Groups

@@ -6,7 +6,7 @@ use Rattle.std.specs.Option.{option_map}
 use Rattle.std.proofs.lemmas.Bool.{false≢true, or_cases}
 use Rattle.std.proofs.lemmas.List.{get_or-map}
 use Rattle.std.proofs.lemmas.Option.{none-some, same_Some, slice_get_within, get_or_from_slice_get}
-use Rattle.std.proofs.lemmas.Int.{nat_eq-Decides}
+use Rattle.std.proofs.lemmas.Bool.Decides.{Decides-eqb}
 use Rattle.ad_dir_model.specs.Protection.{has}
 
 pub all_at : {A : Type 0} (P : A → Type 0) (xs : List A) (i : ℕ) (x : A) → All P xs → slice_get xs i ≡ Some x → P x
@@ -55,6 +55,6 @@ last_cases (z ∷ zs) x y (suc i) is = elim (last_cases zs x y i is) [
 pub all_has : (P : ℕ → Type 0) (ns : List ℕ) (n : ℕ) → All P ns → has ns n ≡ true → P n
 all_has P [] n all is = absurd (false≢true is)
 all_has P (m ∷ ns) n all is = elim (or_cases (m == n) (has ns n) is) [
-  | inl here ↦ subst P ((nat_eq-Decides m n).0 here) (all 0 m (omega arith))
+  | inl here ↦ subst P ((Decides-eqb m n).0 here) (all 0 m (omega arith))
   | inr behind ↦ all_has P ns n (λ i d lt. all (suc i) d (omega (arith, lt))) behind
 ]

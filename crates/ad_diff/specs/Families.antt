@@ -3,7 +3,8 @@ use Rattle.std.specs.Prelude.{◌≡◌, ℕ, Some, List, ◌++◌, All, slice_g
 use Rattle.ad_dir_model.specs.Directory.{Directory}
 use Rattle.ad_diff.specs.declared.both.Both.{Both}
 use Rattle.ad_diff.specs.declared.both.Grouped.{Grouped}
-use Rattle.ad_diff.specs.Steps.{IsAlike}
+use Rattle.ad_diff.specs.Text.{members}
+use Rattle.ad_diff.specs.Steps.{IsLiveBoth, IsAlike}
 
 -- the family has a first object, which is like this one
 pub record IsOfFamily (before after : Directory) (firsts : List Both) (family : ℕ) (o : Both) : Type 0 where
@@ -20,3 +21,10 @@ pub record IsNext (before after : Directory) (old new : List Both) (family : ℕ
   pub more : List Both
   pub are : new ≡ old ++ more
   pub own : IsOfFamily before after new family o
+
+-- the objects so far are in families, whose first objects are live
+pub record AreJoined (before after : Directory) (done : List Both) (objects : List Grouped) (firsts : List Both)
+    : Type 0 where
+  pub members_are : members objects ≡ done
+  pub live : All (IsLiveBoth before after) firsts
+  pub families : AreOfFamilies before after firsts objects

@@ -1,10 +1,12 @@
 -- Only for private contracts, invariants and proofs: columns of the table and groups of its rows.
 use Rattle.std.specs.Prelude.{◌≡◌, ℕ, suc, ◌<◌, true, Some, List, [], ◌∷◌, ◌++◌, All, map, get_or, length, slice_get}
 use Rattle.ad_dir_model.specs.Directory.{Directory}
+use Rattle.ad_diff.specs.declared.both.Both.{Both}
 use Rattle.ad_diff.specs.declared.both.Grouped.{Grouped}
 use Rattle.ad_diff.specs.declared.tokens.Party.{Party}
 use Rattle.ad_diff.specs.declared.bases.Frame.{Frame}
 use Rattle.ad_diff.specs.declared.columns.Column.{Column}
+use Rattle.ad_diff.specs.Text.{members}
 use Rattle.ad_diff.specs.Own.{changes_in}
 use Rattle.ad_diff.specs.Frames.{lines_at, group_lines}
 
@@ -47,3 +49,17 @@ pub record IsLed (frame : Frame) (columns : List Column) (old new : List ℕ) (p
 abbrev pub AreRows : Frame → List Column → List ℕ → List Grouped → Type 0
 AreRows frame columns leaders groups = (place : ℕ) (g : Grouped) → slice_get groups place ≡ Some g
     → IsRow frame columns leaders place g.group
+
+-- ---- what the steps keep
+
+-- the principals so far are in groups
+pub record AreGrouped (frame : Frame) (columns : List Column) (done : List Both) (groups : List Grouped)
+    (leaders : List ℕ) : Type 0 where
+  pub members_are : members groups ≡ done
+  pub rows : AreRows frame columns leaders groups
+
+-- the objects so far are placed
+pub record IsPlacing (before after : Directory) (parties : List Party) (frame : Frame) (done : List Both)
+    (objects : List Grouped) (columns : List Column) : Type 0 where
+  pub members_are : members objects ≡ done
+  pub placed : ArePlaced before after parties frame columns objects

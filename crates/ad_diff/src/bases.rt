@@ -8,7 +8,7 @@ ghost use Rattle.ad_diff.specs.Frames.{bare_at, bares_on, all_bares, row_texts, 
 use crate::both::Both;
 use crate::same::is_unchanged;
 use crate::steady::{is_marked, lines_of};
-use crate::tokens::Party;
+use crate::tokens::{Party, party_at};
 use ad_dir::Dir;
 use std::alloc::{AllocError, Global};
 
@@ -36,7 +36,7 @@ fn lines_at_place(
     ensures { IfOk result (λ lines. lines.items
         ≡ bare_at before.now after.now parties.now o place) }
 {
-    match parties.get(place) {
+    match party_at(parties, place) {
         Some(party) => {
             let steady = is_marked(marks, place);
             lines_of(alloc, before, after, party, steady, false, o, unchanged)

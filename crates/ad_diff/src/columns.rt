@@ -13,7 +13,7 @@ use crate::holders::holders_of;
 use crate::own::asked_in;
 use crate::same::is_unchanged;
 use crate::steady::{is_marked, lines_of};
-use crate::tokens::Party;
+use crate::tokens::{Party, party_at};
 use ad_dir::Dir;
 use indexmap::IndexMap;
 use std::alloc::{AllocError, Global};
@@ -83,11 +83,12 @@ fn judge(
     ensures keeps { OnOk result (Keeps before.now after.now parties.now o frame.now column.old
         column.new) }
 {
-    match parties.get(place) {
+    match party_at(parties, place) {
         Some(party) => {
             let steady = is_marked(marks, place);
             let lines = lines_of(alloc, before, after, party, steady, true, o, unchanged)?;
-            put(frame, column, place, lines)
+            put(frame, column, place, lines)?;
+            Ok(())
         }
         None => Ok(()),
     }

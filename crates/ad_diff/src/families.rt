@@ -1,6 +1,6 @@
 //! The objects in families: those of a family have the same class and the same descriptor in each directory.
 
-ghost use Rattle.std.specs.Prelude.{◌≡◌, ◌++◌, ◌∷◌, [], true, All, IfOk, OnOk};
+ghost use Rattle.std.specs.Prelude.{◌≡◌, ◌++◌, ◌∷◌, [], true, All, slice_get, IfOk, OnOk};
 ghost use Rattle.ad_diff.specs.Text.{members};
 ghost use Rattle.ad_diff.specs.Steps.{IsLiveBoth};
 ghost use Rattle.ad_diff.specs.Families.{IsOfFamily, AreOfFamilies, IsNext};
@@ -19,14 +19,24 @@ pub struct Families {
     pub firsts: Vec<Both>,
 }
 
+// The first object of a family.
+fn first_of(firsts: &[Both], family: u32) -> Option<Both>
+    ensures { result ≡ slice_get firsts.now family }
+{
+    match firsts.get(family as usize) {
+        Some(first) => Some(*first),
+        None => None,
+    }
+}
+
 // Whether an object is of a family.
 fn is_of(before: &Dir, after: &Dir, firsts: &[Both], family: u32, o: Both) -> bool
     requires firsts { All (IsLiveBoth before.now after.now) firsts.now }
     requires live { IsLiveBoth before.now after.now o }
     ensures { result ≡ true → IsOfFamily before.now after.now firsts.now family o }
 {
-    match firsts.get(family as usize) {
-        Some(first) => is_alike(before, after, *first, o),
+    match first_of(firsts, family) {
+        Some(first) => is_alike(before, after, first, o),
         None => false,
     }
 }

@@ -1,6 +1,7 @@
 //! The objects in groups: those of a group have one column of lines, and those of group 0 have none.
 
-ghost use Rattle.std.specs.Prelude.{◌≡◌, ◌++◌, ◌∷◌, [], ℕ, true, All, OnOk, IfOk};
+ghost use Rattle.std.specs.Prelude.{◌≡◌, ◌++◌, ◌∷◌, [], ℕ, true, All, slice_get, OnOk, IfOk};
+ghost use Rattle.std.specs.Option.{option_copied};
 ghost use Rattle.ad_diff.specs.Text.{members};
 ghost use Rattle.ad_diff.specs.Steps.{IsLiveBoth, IsParty};
 ghost use Rattle.ad_diff.specs.Frames.{lines_at, HasBase, IsGround, IsAdded};
@@ -31,6 +32,12 @@ fn are_of_one(frame: &Frame, a: &Column, b: &Column) -> bool
     a.family == b.family && is_plain(a) && is_plain(b)
 }
 
+fn column_at(columns: &[Column], place: usize) -> Option<&Column>
+    ensures { option_copied result ≡ slice_get columns.entry.now place }
+{
+    columns.get(place)
+}
+
 // Whether the column of a group, which has one, has the lines of this one: both are those of their family.
 fn is_same(frame: &Frame, columns: &[Column], group: u32, column: &Column) -> bool
     ensures { result ≡ true → IsAdded frame.now columns.now columns.now column.now group }
@@ -38,7 +45,7 @@ fn is_same(frame: &Frame, columns: &[Column], group: u32, column: &Column) -> bo
     if group == 0 {
         return false;
     }
-    match columns.get(group as usize - 1) {
+    match column_at(columns, group as usize - 1) {
         Some(other) => are_of_one(frame, other, column),
         None => false,
     }

@@ -89,15 +89,22 @@ pub(crate) fn holders_in(
     Ok(Holders { places })
 }
 
+// The places of those that hold an identifier.
+fn listed<'a>(table: &'a Table, sid: &Sid) -> &'a [usize]
+    ensures { result.now ≡ listed table.entry.now sid.now }
+{
+    match table.get(sid) {
+        Some(places) => places.as_slice(),
+        None => &[],
+    }
+}
+
 /// The places of those that hold an identifier, if there is one.
 pub(crate) fn holders_of<'a>(holders: &'a Holders, sid: Option<&Sid>) -> &'a [usize]
     ensures { result.now ≡ listed_if holders.entry.now.places (option_copied sid.entry) }
 {
     match sid {
-        Some(sid) => match holders.places.get(sid) {
-            Some(places) => places.as_slice(),
-            None => &[],
-        },
+        Some(sid) => listed(&holders.places, sid),
         None => &[],
     }
 }

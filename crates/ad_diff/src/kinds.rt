@@ -1,14 +1,14 @@
 //! The principals in kinds: those of a kind hold alike the identifiers that are named, so they are granted alike where
 //! own identifiers don't count.
 
-ghost use Rattle.std.specs.Prelude.{◌≡◌, ◌<◌, ◌++◌, ◌∷◌, [], true, All, length, IfOk, OnOk};
+ghost use Rattle.std.specs.Prelude.{◌≡◌, ◌<◌, ◌+◌, ◌++◌, ◌∷◌, [], true, All, length, slice_get, IfOk, OnOk};
 ghost use Rattle.ad_access.specs.Holder.{first_holder, holds};
 ghost use Rattle.ad_diff.specs.Kinds.{HoldAlike, AreTokensAlike, IsLike, IsLikeAt};
 ghost use Rattle.ad_diff.specs.Kinds.{IsOfKind, AreKinds, IsNextKind};
 
 use crate::alike::{NOTHING, mixed};
 use crate::columns::number_of;
-use crate::tokens::Party;
+use crate::tokens::{Party, party_at};
 use ad_ids::{Sid, Token};
 use indexmap::{IndexMap, IndexSet};
 use std::alloc::{AllocError, Global};
@@ -62,9 +62,19 @@ fn is_like(named: &[Sid], a: &Party, b: &Party) -> bool
 fn is_like_at(named: &[Sid], parties: &[Party], first: usize, party: &Party) -> bool
     ensures { result ≡ true → IsLikeAt named.now parties.now first party.now }
 {
-    match parties.get(first) {
+    match party_at(parties, first) {
         Some(other) => is_like(named, other, party),
         None => false,
+    }
+}
+
+// The place of the first of a kind.
+fn first_of(firsts: &[usize], kind: u32) -> Option<usize>
+    ensures { result ≡ slice_get firsts.now kind }
+{
+    match firsts.get(kind as usize) {
+        Some(first) => Some(*first),
+        None => None,
     }
 }
 
@@ -72,8 +82,8 @@ fn is_like_at(named: &[Sid], parties: &[Party], first: usize, party: &Party) -> 
 fn is_of(named: &[Sid], parties: &[Party], firsts: &[usize], kind: u32, party: &Party) -> bool
     ensures { result ≡ true → IsOfKind named.now parties.now firsts.now kind party.now }
 {
-    match firsts.get(kind as usize) {
-        Some(first) => is_like_at(named, parties, *first, party),
+    match first_of(firsts, kind) {
+        Some(first) => is_like_at(named, parties, first, party),
         None => false,
     }
 }

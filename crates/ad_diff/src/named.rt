@@ -39,7 +39,8 @@ fn name_in(named: &mut IndexSet<Sid>, dir: &Dir, number: u32) -> Result<(), Allo
 {
     let view = live_sd(dir, number);
     name(named, view.owner())?;
-    name_entries(named, &view)
+    name_entries(named, &view)?;
+    Ok(())
 }
 
 fn name_both(
@@ -53,7 +54,8 @@ fn name_both(
     ensures there { OnOk result (IsNamedBoth before.now after.now named.new.keys o) }
 {
     name_in(named, before, o.before)?;
-    name_in(named, after, o.after)
+    name_in(named, after, o.after)?;
+    Ok(())
 }
 
 /// Those that the descriptors of these objects name, in each directory.

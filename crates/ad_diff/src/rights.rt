@@ -17,8 +17,8 @@ ghost use Rattle.ad_diff.specs.Steps.{texts, masked_attribute, AreWanted};
 use crate::codes::{
     Code, attribute_codes, child_codes, extended_codes, object_codes, validated_codes,
 };
-use crate::labels::{label_of, push_labels};
-use crate::masks::attr_masks;
+use crate::labelling::{label_of, push_labels};
+use crate::leaf_masks::attr_masks;
 use crate::own::own_sid;
 use ad_access::granted;
 use ad_access_dir::{allowed_attrs, class_count};
