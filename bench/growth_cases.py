@@ -94,10 +94,17 @@ def controls(count):
     return asked(BASE, [search(BOB)], 0, controls=made)
 
 
-@case("or", 1000, 250, known="each item of an Or is looked for among the values that an object stores, one by one")
+@case("or", 1000, 250)
 def one_of(count):
     """An Or of so many equals over so many values."""
     made = ber.sequence(*(equal("description", b"not " + value) for value in several(count)), tag=0xA1)
+    return asked(with_values(count), [search(BOB, made)], 0)
+
+
+@case("and-values", 1000, 250)
+def all_values_of(count):
+    """An And of so many equals over so many values, each of which is there."""
+    made = ber.sequence(*(equal("description", value) for value in several(count)), tag=0xA0)
     return asked(with_values(count), [search(BOB, made)], 0)
 
 

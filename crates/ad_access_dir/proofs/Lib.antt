@@ -1,5 +1,4 @@
 pub mod OwnRight
-pub mod OwnView
 pub mod SightLaws
 pub mod AllowedLaws
 pub mod MaskLaws

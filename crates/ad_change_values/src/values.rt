@@ -21,8 +21,8 @@ ghost use Rattle.ad_change_values.specs.Judging.{Judges, values_in, reading_chec
 use crate::stop::Stop;
 use ad_bytes::{Bytes, Few, List};
 use ad_dir::{Dir, Stored, is_named};
-use ad_dn::DnFault;
 use ad_ldap::result_code;
+use ad_needs_rules::read_name;
 use ad_schema::{AttrId, ClassId, Schema};
 use ad_value::{Value, ValueFault, digest, equal, normal};
 use std::alloc::{AllocError, Global};
@@ -171,10 +171,9 @@ pub fn has_no_empty_password(schema: &Schema, attr: AttrId, sent: &[Bytes]) -> b
 fn target_of(alloc: Global, dir: &Dir, text: &[u8]) -> Result<Option<u32>, AllocError>
     ensures { IfOk result (λ number. number ≡ values.target_of dir.now text.now) }
 {
-    match ad_dn::read(alloc, text) {
-        Ok(dn) => dir.find(alloc, &dn),
-        Err(DnFault::Bad { .. }) => Ok(None),
-        Err(DnFault::Memory) => Err(AllocError),
+    match read_name(alloc, text)? {
+        Some(dn) => dir.find(alloc, &dn),
+        None => Ok(None),
     }
 }
 

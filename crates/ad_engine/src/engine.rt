@@ -17,7 +17,7 @@ use crate::creating::store_of;
 use crate::engine_fault::EngineFault;
 use crate::fault::OpenFault;
 use ad_dir::Dir;
-use ad_rows::read_dir_of;
+use ad_rows::read_dir_in;
 use row_store::Store;
 use site_io::Site;
 use std::alloc::Global;
@@ -116,8 +116,9 @@ impl Engine {
             (S.slot_faults site.new) }
     {
         let tokens = Tokens::new(alloc)?;
-        let (store, rows) = Store::resume(alloc, site)?;
-        let dir = read_dir_of(alloc, rows)?;
+        let mut room = Vec::new(alloc);
+        let (store, rows) = Store::resume_in(alloc, site, &mut room)?;
+        let dir = read_dir_in(alloc, &rows)?;
         Ok(Engine {
             alloc,
             dir,

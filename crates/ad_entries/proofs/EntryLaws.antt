@@ -1,7 +1,7 @@
 -- The attributes of an entry, one after the other.
 use Rattle.std.proofs.Common.{◌≡◌, ℕ, ◌+◌, ◌<◌, ◌≤◌, Bool, true, false, ◌&&◌, ◌||◌, List, [], ◌++◌, map}
 use Rattle.std.proofs.Common.{length, drop, get_or, Option, Some, None, refl, sym, ap, ◌∙◌, append_assoc}
-use Rattle.std.specs.Prelude.{not, if◌then◌else◌, option_to_list, option_map, ◌==◌, Result}
+use Rattle.std.specs.Prelude.{not, if◌then◌else◌, option_to_list, ◌==◌, Result}
 use Rattle.std.proofs.lemmas.List.{append-nil, drop_all, drop_more}
 use Rattle.std.proofs.lemmas.Bool.{and_parts, both_ways}
 use Rattle.ad_ids.specs.SidValue.{SidValue}
@@ -17,8 +17,7 @@ use Rattle.ad_sd.specs.Writing.{written}
 use Rattle.ad_value.specs.Value.{Value}
 use Rattle.ad_schema.specs.declared.info.AttrInfo.{AttrInfo}
 use Rattle.ad_ldap.specs.MessageValue.{SearchValue}
-use Rattle.ad_dir_model.specs.Object.{Object}
-use Rattle.ad_dir_model.specs.Objects.{sd_at, object_of}
+use Rattle.ad_dir_model.specs.Objects.{sd_at}
 use Rattle.ad_dir_model.specs.Shown.{shown}
 use Rattle.ad_dir_model.specs.Directory.{Directory}
 use Rattle.ad_access_dir.specs.Sight.{is_granted}
@@ -28,7 +27,6 @@ use Rattle.ad_entries.specs.Entry.{is_descriptor_asked, are_read, only_if, parts
 use Rattle.ad_entries.specs.Given.{given_if}
 use Rattle.ad_entries.specs.Places.{shown_at, shown_at_each}
 use Rattle.ad_entries.proofs.ReadLaws.{is_read, not_readable}
-use Rattle.ad_access_dir.proofs.OwnView.{view_shown}
 
 -- ---- one attribute
 
@@ -161,12 +159,12 @@ parts_are dir token number flags is =
         ap (λ (x : Option SidValue). made x g d s) eo ∙ ap (λ (x : Option SidValue). made o' x d s) eg
         ∙ ap (λ (x : Option AceList). made o' g' x s) ed ∙ ap (made o' g' d') es
 
-pub written_is : (dir : Directory) (number : ℕ) (sd : Sd) (flags : ℕ) (r : Result (List ℕ) AclWriteFault) → Some sd
-    ≡ option_map (λ (o : Object). o.sd) (object_of dir.objects number)
-    → written (parts_shown sd flags) ≡ r → Some r ≡ Some (written (parts_shown (sd_at dir.objects number) flags))
+pub written_is : (dir : Directory) (number : ℕ) (sd : Sd) (flags : ℕ) (r : Result (List ℕ) AclWriteFault)
+    → sd ≡ sd_at dir.objects number → written (parts_shown sd flags) ≡ r
+    → Some r ≡ Some (written (parts_shown (sd_at dir.objects number) flags))
 written_is dir number sd flags r is gives =
     ap (λ (x : Result (List ℕ) AclWriteFault). Some x)
-    (sym gives ∙ ap (λ (s : Sd). written (parts_shown s flags)) (view_shown dir.objects number sd is))
+    (sym gives ∙ ap (λ (s : Sd). written (parts_shown s flags)) is)
 
 pub descriptor_is : (dir : Directory) (token : Token) (number : ℕ) (search : SearchValue) (flags : ℕ) → true
     ≡ is_descriptor_asked search.attrs → true ≡ are_read (parts_read dir token number) flags

@@ -14,10 +14,10 @@ use Rattle.ad_schema.specs.declared.info.ClassId.{ClassId}
 use Rattle.ad_schema.specs.declared.info.AttrInfo.{AttrInfo}
 use Rattle.ad_schema.specs.Attributes.{attrs_of}
 use Rattle.ad_dir_model.specs.Object.{Object}
-use Rattle.ad_dir_model.specs.Objects.{is_live, object_at, object_of}
+use Rattle.ad_dir_model.specs.Objects.{is_live, object_at}
 use Rattle.ad_dir_model.specs.Identity.{self_sid}
 use Rattle.ad_dir_model.specs.Directory.{Directory}
-use Rattle.ad_dir_model.proofs.Finding.{at-not_live, at-of}
+use Rattle.ad_dir_model.proofs.Finding.{at-not_live}
 use Rattle.ad_types.specs.TypesOf.{path_of}
 use Rattle.ad_dir_model.specs.Shown.{shown}
 use Rattle.ad_access_dir.specs.Sight.{is_granted}
@@ -131,9 +131,3 @@ pub unread_past : (dir : Directory) (token : Token) (number : ℕ) (id : AttrId)
 unread_past dir token number id past =
     ap (option_and_then (λ (i : AttrInfo). readable_at i (values_at (seen_of dir token number) id.0)))
     (none_past (attrs_of dir.schema) id.0 (ltb-false id.0 (length (attrs_of dir.schema)) past))
-
--- ---- the class of an object
-
-pub class_seen : (dir : Directory) (number : ℕ) (o : Object) → Some o ≡ object_of dir.objects number
-    → (object_at dir.objects number).class ≡ o.class
-class_seen dir number o is = ap (λ (x : Object). x.class) (at-of dir.objects number o (sym is))

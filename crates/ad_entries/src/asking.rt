@@ -1,12 +1,13 @@
 //! Which attributes a search asks for. Each name that was sent is looked up once, however many there are: then a flag
 //! for each attribute of the schema tells whether it is asked for.
 
-ghost use Rattle.std.specs.Prelude.{◌≡◌, ◌<◌, ◌==◌, false, codes, length, slice_index_or, IfOk, IfSome, OnOk};
+ghost use Rattle.std.specs.Prelude.{◌≡◌, ◌<◌, ◌==◌, false, true, codes, length, replicate, slice_index_or, IfOk};
+ghost use Rattle.std.specs.Prelude.{IfSome, OnOk};
 ghost use Rattle.std.specs.Str.{bytes_eq};
 ghost use Rattle.ad_schema.specs.Attributes.{attrs_of};
 ghost use Rattle.ad_dir_model.specs.Attributes.{is_named};
 ghost use Rattle.ad_entries.specs.Asked.{AreFlags, Flags, LeavesUnasked, PushesNamed, LeavesUncomputed};
-ghost use Rattle.ad_entries.specs.Asked.{AsksAll, AreApart, AreAsked};
+ghost use Rattle.ad_entries.specs.Asked.{AreApart, AreAsked};
 
 use crate::changing::{ATTRIBUTES, CHILDREN, PARTS, is_sent};
 use crate::descriptor::is_descriptor_asked;
@@ -90,20 +91,12 @@ fn flag_named(
     }
 }
 
-// The flags, each set, where all attributes are asked for.
-fn all_flags(
-    alloc: Global,
-    schema: &Schema,
-    sent: &[Bytes],
-) -> Result<(Vec<bool>, Option<Vec<u32>>), AllocError>
-    requires { AsksAll sent.now }
-    ensures flags { IfOk result (λ it. AreFlags schema.now sent.now it.0.items) }
-    ensures named { IfOk result (λ it. IfSome it.1 (λ named. LeavesUnasked schema.now sent.now
-        named.items)) }
+// The flags, each set.
+fn all_flags(alloc: Global, schema: &Schema) -> Result<Vec<bool>, AllocError>
+    ensures { IfOk result (λ flags. flags.items ≡ replicate (length (attrs_of schema.now)) true) }
 {
-    let _ = sent;
     let flags = vec![in alloc; true; schema.attrs().len()]?;
-    Ok((flags, None))
+    Ok(flags)
 }
 
 // The flags of what is asked for, and the places that are flagged, unless all are.
@@ -119,13 +112,13 @@ fn flags_of(
     schema.make_schema();
     names_are_distinct();
     if sent.is_empty() {
-        return all_flags(alloc, schema, sent);
+        return Ok((all_flags(alloc, schema)?, None));
     }
     let mut flags = vec![in alloc; false; schema.attrs().len()]?;
     let mut named = Vec::new(alloc);
     for asked in sent {
         if is_every(asked.as_slice()) {
-            return all_flags(alloc, schema, sent);
+            return Ok((all_flags(alloc, schema)?, None));
         }
         flag_named(schema, asked.as_slice(), &mut flags, &mut named)?;
     }

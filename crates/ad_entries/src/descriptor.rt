@@ -15,9 +15,9 @@ ghost use Rattle.ad_sd.specs.Writing.{written};
 use ad_access_dir::granted;
 use ad_acl::{ACCESS_SYSTEM_SECURITY, AclWriteFault, READ_CONTROL};
 use ad_bytes::Bytes;
-use ad_dir::Dir;
+use ad_dir::{Dir, live_sd};
 use ad_ids::Token;
-use ad_ldap::Search;
+use ad_ldap::{DACL_PART, GROUP_PART, OWNER_PART, SACL_PART, Search};
 use ad_schema_classes::same_name;
 use ad_sd::write_view;
 use ad_types::Path;
@@ -85,10 +85,10 @@ fn may_have(flags: u8, control: bool, security: bool) -> bool
         ≡ ((not (says flags 1) || control) && (not (says flags 2) || control)
         && (not (says flags 4) || control) && (not (says flags 8) || security)) }
 {
-    (flags & 1 == 0 || control)
-        && (flags & 2 == 0 || control)
-        && (flags & 4 == 0 || control)
-        && (flags & 8 == 0 || security)
+    (flags & OWNER_PART == 0 || control)
+        && (flags & GROUP_PART == 0 || control)
+        && (flags & DACL_PART == 0 || control)
+        && (flags & SACL_PART == 0 || security)
 }
 
 fn are_read(dir: &Dir, token: &Token, number: u32, flags: u8) -> bool
@@ -108,13 +108,10 @@ fn written(alloc: Global, dir: &Dir, number: u32, flags: u8) -> Result<Descripto
     ensures { IfOk result (λ d. descriptor_seen d
         ≡ Some (written (parts_shown (sd_at dir.now.objects number) flags))) }
 {
-    match dir.sd(number) {
-        Some(view) => match write_view(alloc, view, flags) {
-            Ok(bytes) => Ok(Descriptor::Written(bytes)),
-            Err(AclWriteFault::TooLong) => Ok(Descriptor::TooLong),
-            Err(AclWriteFault::Memory) => Err(AllocError),
-        },
-        None => unreachable!(),
+    match write_view(alloc, live_sd(dir, number), flags) {
+        Ok(bytes) => Ok(Descriptor::Written(bytes)),
+        Err(AclWriteFault::TooLong) => Ok(Descriptor::TooLong),
+        Err(AclWriteFault::Memory) => Err(AllocError),
     }
 }
 

@@ -31,16 +31,10 @@ pub struct Kind {
     pub own: Own,
 }
 
-fn is_held(token: &Token, sid: &Sid) -> bool
-    ensures { result ≡ holds (first_holder token.now) sid.now }
-{
-    token.user == *sid || token.groups.contains(sid)
-}
-
 fn is_denied_by(token: &Token, sid: &Sid) -> bool
     ensures { result ≡ denies_by (first_holder token.now) sid.now }
 {
-    is_held(token, sid) || token.deny_only.contains(sid)
+    token.holds(sid) || token.deny_only.contains(sid)
 }
 
 fn is_restricted_to(token: &Token, sid: &Sid) -> bool
@@ -55,7 +49,7 @@ fn answers(token: &Token, sid: Option<&Sid>) -> Own
 {
     match sid {
         Some(sid) => Own {
-            holds: is_held(token, sid),
+            holds: token.holds(sid),
             denies: is_denied_by(token, sid),
             restricted: is_restricted_to(token, sid),
         },

@@ -10,7 +10,7 @@ ghost use Rattle.ad_entries.specs.Seen.{is_never_read, is_readable, readable_of,
 
 use ad_access_dir::granted;
 use ad_acl::{CONTROL_ACCESS, READ_PROPERTY};
-use ad_dir::Dir;
+use ad_dir::{Dir, class_of};
 use ad_filter::Readable;
 use ad_ids::Token;
 use ad_schema::{AttrId, AttrInfo};
@@ -79,14 +79,8 @@ pub fn is_readable(dir: &Dir, token: &Token, number: u32, attr: AttrId, info: &A
     if is_never_read(info.name.as_slice()) {
         return false;
     }
-    dir.stands();
-    match dir.object(number) {
-        Some(object) => {
-            let path = path(dir.schema(), object.class, attr);
-            reads_on(dir, token, number, &path, info.confidential)
-        }
-        None => unreachable!(),
-    }
+    let path = path(dir.schema(), class_of(dir, number), attr);
+    reads_on(dir, token, number, &path, info.confidential)
 }
 
 // What may be read of an attribute of the schema.

@@ -116,8 +116,7 @@ fn in_order(
     let mut values = values;
     let count = values.len();
     let mut all = Vec::with_capacity(alloc, count)?;
-    for i in 0..count {
-        let _ = i;
+    for _ in 0..count {
         move_first(&mut values, &mut all)?;
     }
     Ok(all)

@@ -2,7 +2,7 @@
 
 ghost use Rattle.std.specs.Prelude.{◌≡◌, ◌≤◌, ◌^◌, map, drop, IfOk};
 ghost use Rattle.std.specs.Option.{option_copied, option_and_then};
-ghost use Rattle.ad_load.specs.Links.{last_of, rid_if, rid_of, above, above_all, next_rid, root_rdns};
+ghost use Rattle.ad_load.specs.Links.{last_of, rid_if, rid_of, above, above_all, first_rid, next_rid, root_rdns};
 ghost use Rattle.ad_ids.specs.SidChild.{child_of};
 ghost use Rattle.ad_dir_model.specs.Identity.{is_sid};
 ghost use Rattle.ad_load_objects.specs.Drafts.{draft_sid};

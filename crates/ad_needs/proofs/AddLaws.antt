@@ -35,9 +35,8 @@ use Rattle.ad_needs_rules.specs.Judged.{refusal_of}
 use Rattle.ad_needs_rules.proofs.Refusing.{passes, goes_on, stops, refuses, grants, same_judged}
 use Rattle.ad_needs_rules.proofs.NameChecks.{coded, holds, parts_read}
 use Rattle.ad_needs.proofs.RenameLaws.{needs_stop, needs_go_on}
-use Rattle.ad_ids.specs.declared.guid.Guid.{Guid}
 use Rattle.ad_acl.specs.Mask.{create_child}
-use Rattle.ad_needs_rules.specs.Needs.{needs}
+use Rattle.ad_needs_rules.specs.Needs.{Alternative, needs}
 use Rattle.ad_needs_rules.specs.Requests.{class_path}
 use Rattle.ad_schema.specs.declared.line.SchemaRecord.{SchemaRecord}
 use Rattle.ad_schema.specs.declared.info.ClassInfo.{ClassInfo}
@@ -283,24 +282,24 @@ pub audits_not : (dir : Directory) (token : Token) (parent : ℕ) (sacl : Bool) 
 unfolding refusal_of first_failing
 audits_not dir token parent sacl is = rw is refl
 
-pub child_not : (dir : Directory) (token : Token) (parent class : ℕ) (path : List Guid) (sd : Option SdParts)
-    (verdict : Verdict) → path ≡ class_path dir.schema class
-    → Some verdict ≡ refusal_of (all_met dir token ((needs parent create_child path ∷ []) ∷ [])) → Some verdict
+pub child_not : (dir : Directory) (token : Token) (parent class : ℕ) (create : Alternative) (sd : Option SdParts)
+    (verdict : Verdict) → create ≡ needs parent create_child (class_path dir.schema class)
+    → Some verdict ≡ refusal_of (all_met dir token ((create ∷ []) ∷ [])) → Some verdict
     ≡ refusal_of (all_met dir token (add_needs dir parent class sd))
-child_not dir token parent class path sd verdict is refused =
+child_not dir token parent class create sd verdict is refused =
     needs_stop dir token ((needs parent create_child (class_path dir.schema class) ∷ []) ∷ [])
     (sacl_needs parent (brings_sacl sd)) verdict
-    (refused ∙ ap (λ (p : List Guid). refusal_of (all_met dir token ((needs parent create_child p ∷ []) ∷ []))) is)
+    (refused ∙ ap (λ (a : Alternative). refusal_of (all_met dir token ((a ∷ []) ∷ []))) is)
 
-pub child_so : (dir : Directory) (token : Token) (parent class : ℕ) (path : List Guid) (sd : Option SdParts)
-    (brings : Bool) (found' : Option Verdict) → path ≡ class_path dir.schema class
-    → None ≡ refusal_of (all_met dir token ((needs parent create_child path ∷ []) ∷ [])) → brings ≡ brings_sacl sd
+pub child_so : (dir : Directory) (token : Token) (parent class : ℕ) (create : Alternative) (sd : Option SdParts)
+    (brings : Bool) (found' : Option Verdict) → create ≡ needs parent create_child (class_path dir.schema class)
+    → None ≡ refusal_of (all_met dir token ((create ∷ []) ∷ [])) → brings ≡ brings_sacl sd
     → found' ≡ refusal_of (all_met dir token (sacl_needs parent brings)) → found'
     ≡ refusal_of (all_met dir token (add_needs dir parent class sd))
-child_so dir token parent class path sd brings found' is none same rest =
+child_so dir token parent class create sd brings found' is none same rest =
     needs_go_on dir token ((needs parent create_child (class_path dir.schema class) ∷ []) ∷ [])
     (sacl_needs parent (brings_sacl sd)) found'
-    (none ∙ ap (λ (p : List Guid). refusal_of (all_met dir token ((needs parent create_child p ∷ []) ∷ []))) is)
+    (none ∙ ap (λ (a : Alternative). refusal_of (all_met dir token ((a ∷ []) ∷ []))) is)
     (rest ∙ ap (λ (b : Bool). refusal_of (all_met dir token (sacl_needs parent b))) same)
 
 -- ---- the class

@@ -5,7 +5,6 @@ use Rattle.std.specs.Prelude.{codes, ◌==◌, option_map}
 use Rattle.std.proofs.lemmas.Bool.{eq-eqb, ne_eqb}
 use Rattle.std.proofs.lemmas.List.{map-append}
 use Rattle.ad_ids.specs.declared.token.Token.{Token}
-use Rattle.ad_ids.specs.declared.guid.Guid.{Guid}
 use Rattle.ad_acl.specs.Mask.{create_child}
 use Rattle.ad_schema.specs.declared.info.AttrId.{AttrId}
 use Rattle.ad_schema.specs.Attributes.{attr_named}
@@ -192,16 +191,16 @@ leaves_not dir token number parent verdict differs refused =
     ((needs parent create_child (class_path dir.schema (class_at dir number)) ∷ []) ∷ []) verdict refused
     ∙ ap (λ (all : List (List Alternative)). refusal_of (all_met dir token all)) (moving dir number parent differs)
 
-pub leaves : (dir : Directory) (token : Token) (number parent : ℕ) (path : List Guid) (found : Option Verdict)
+pub leaves : (dir : Directory) (token : Token) (number parent : ℕ) (create : Alternative) (found : Option Verdict)
     → (parent_at dir.objects number ≡ parent → ⊥)
-    → path ≡ class_path dir.schema (class_at dir number) → None
+    → create ≡ needs parent create_child (class_path dir.schema (class_at dir number)) → None
     ≡ refusal_of (all_met dir token (to_leave dir number ∷ []))
-    → found ≡ refusal_of (all_met dir token ((needs parent create_child path ∷ []) ∷ [])) → found
+    → found ≡ refusal_of (all_met dir token ((create ∷ []) ∷ [])) → found
     ≡ refusal_of (all_met dir token (move_needs dir number parent))
-leaves dir token number parent path found differs is none rest =
+leaves dir token number parent create found differs is none rest =
     needs_go_on dir token (to_leave dir number ∷ [])
     ((needs parent create_child (class_path dir.schema (class_at dir number)) ∷ []) ∷ []) found none
-    (rest ∙ ap (λ (p : List Guid). refusal_of (all_met dir token ((needs parent create_child p ∷ []) ∷ []))) is)
+    (rest ∙ ap (λ (a : Alternative). refusal_of (all_met dir token ((a ∷ []) ∷ []))) is)
     ∙ ap (λ (all : List (List Alternative)). refusal_of (all_met dir token all)) (moving dir number parent differs)
 
 -- ---- the names

@@ -28,13 +28,12 @@ use ad_dn::{Dn, Rdn};
 use ad_ids::Token;
 use ad_ldap::{Add, Settings, result_code};
 use ad_needs_rules::{
-    Ask, ROOT, Right, Verdict, asked_in, asked_of, class_path, matched, read_name, sd_in_one,
-    unless_granted, visible,
+    ROOT, Right, Verdict, asked_in, asked_of, matched, on_children, on_object, read_name,
+    sd_in_one, unless_granted, visible,
 };
 use ad_schema::ClassId;
 use ad_schema_defaults::{class_by_names, is_schema_class};
 use ad_sd::SdParts;
-use ad_types::Path;
 use std::alloc::{AllocError, Global};
 
 // ---- what is sent
@@ -123,12 +122,7 @@ fn unless_audits(
         ≡ refusal_of (all_met dir.now token.now (sacl_needs parent sacl))) }
 {
     if sacl {
-        let ask = Ask {
-            object: parent,
-            right: Right::SystemSecurity,
-            path: Path::empty(),
-        };
-        unless_granted(alloc, dir, token, &ask)
+        unless_granted(alloc, dir, token, &on_object(parent, Right::SystemSecurity))
     } else {
         Ok(None)
     }
@@ -148,12 +142,8 @@ fn unless_creates(
     ensures { IfOk result (λ refusal. refusal
         ≡ refusal_of (all_met dir.now token.now (add_needs dir.now parent class.0 sd.now))) }
 {
-    let ask = Ask {
-        object: parent,
-        right: Right::CreateChild,
-        path: class_path(dir.schema(), class),
-    };
-    if let Some(refusal) = unless_granted(alloc, dir, token, &ask)? {
+    let create = on_children(dir, parent, Right::CreateChild, class);
+    if let Some(refusal) = unless_granted(alloc, dir, token, &create)? {
         return Ok(Some(refusal));
     }
     unless_audits(alloc, dir, token, parent, brings_sacl(sd))

@@ -13,10 +13,9 @@ use ad_dir::{Act, Dir, class_of, parent_of};
 use ad_ids::Token;
 use ad_ldap::{Settings, result_code};
 use ad_needs_rules::{
-    Ask, ROOT, Right, Verdict, class_path, matched, read_name, unless_either, unless_granted,
-    visible,
+    ROOT, Right, Verdict, matched, on_children, on_object, read_name, unless_either,
+    unless_granted, visible,
 };
-use ad_types::Path;
 use std::alloc::{AllocError, Global};
 
 /// The refusal where a live object, which isn't the root, may not go alone: it needs to be deleted, or its parent
@@ -36,16 +35,9 @@ pub(crate) fn unless_leaves(
     ensures { IfOk result (λ refusal. refusal
         ≡ refusal_of (all_met dir.now token.now (to_leave dir.now number ∷ []))) }
 {
-    let alone = Ask {
-        object: number,
-        right: Right::Delete,
-        path: Path::empty(),
-    };
-    let above = Ask {
-        object: parent_of(dir, number),
-        right: Right::DeleteChild,
-        path: class_path(dir.schema(), class_of(dir, number)),
-    };
+    let parent = parent_of(dir, number);
+    let alone = on_object(number, Right::Delete);
+    let above = on_children(dir, parent, Right::DeleteChild, class_of(dir, number));
     unless_either(alloc, dir, token, &alone, &above)
 }
 
@@ -60,12 +52,7 @@ fn unless_all_go(
     ensures { IfOk result (λ refusal. refusal
         ≡ refusal_of (all_met dir.now token.now (delete_needs dir.now number true))) }
 {
-    let ask = Ask {
-        object: number,
-        right: Right::DeleteTree,
-        path: Path::empty(),
-    };
-    unless_granted(alloc, dir, token, &ask)
+    unless_granted(alloc, dir, token, &on_object(number, Right::DeleteTree))
 }
 
 // The refusal where what a Delete needs is missing.

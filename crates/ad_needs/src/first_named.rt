@@ -10,25 +10,15 @@ use ad_ldap::Item;
 use ad_schema::Schema;
 use std::alloc::{AllocError, Global};
 
-/// A flag for each attribute of the schema, none of which is set.
+/// A flag for each attribute of the schema, none of which is set: those of no items, and of no attributes of an
+/// addition.
 ///
 /// # Errors
 ///
 /// Memory ran out.
 pub fn none_named(alloc: Global, schema: &Schema) -> Result<Vec<bool>, AllocError>
-    ensures { IfOk result (λ named. AreNamed schema.now named.items []) }
-{
-    let named = vec![in alloc; false; schema.attrs().len()]?;
-    Ok(named)
-}
-
-/// The same for the attributes of an addition.
-///
-/// # Errors
-///
-/// Memory ran out.
-pub(crate) fn none_sent(alloc: Global, schema: &Schema) -> Result<Vec<bool>, AllocError>
-    ensures { IfOk result (λ named. AreSent schema.now named.items []) }
+    ensures named { IfOk result (λ named. AreNamed schema.now named.items []) }
+    ensures sent { IfOk result (λ named. AreSent schema.now named.items []) }
 {
     let named = vec![in alloc; false; schema.attrs().len()]?;
     Ok(named)

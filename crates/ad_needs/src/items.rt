@@ -58,7 +58,7 @@ fn is_of_one(item: &Item, op: u8) -> bool
 
 /// Whether the items force a password.
 #[tactic(auto, unfolding(crate::specs::Modifying::is_forced))]
-pub fn is_forced(items: &[&Item]) -> bool
+pub(crate) fn is_forced(items: &[&Item]) -> bool
     ensures { result ≡ is_forced (map (λ item. item.now) items.now) }
 {
     match items {

@@ -1,6 +1,6 @@
 //! Modify: what it needs.
 
-ghost use Rattle.std.specs.Prelude.{◌≡◌, ◌<◌, if◌then◌else◌, true, map, length, IfOk};
+ghost use Rattle.std.specs.Prelude.{◌≡◌, ◌<◌, ◌∷◌, [], if◌then◌else◌, true, map, length, IfOk};
 ghost use Rattle.ad_schema.specs.Attributes.{attrs_of};
 ghost use Rattle.ad_dir_model.specs.Objects.{is_live};
 ghost use Rattle.ad_dir_model.specs.Attributes.{attr_place};
@@ -8,7 +8,7 @@ ghost use Rattle.ad_needs_rules.specs.Checks.{all_met};
 ghost use Rattle.ad_needs.specs.Modifying.{written_sd, need_if, parts_needs, descriptor_needs, password_needs};
 ghost use Rattle.ad_needs.specs.Modifying.{attr_needs, ordinary_needs};
 ghost use Rattle.ad_needs.specs.Modifying.{items_of, modify_needs, force_change, change};
-ghost use Rattle.ad_needs_rules.specs.Judged.{bit_of, refusal_of};
+ghost use Rattle.ad_needs_rules.specs.Judged.{bit_of, asked, refusal_of};
 ghost use Rattle.ad_needs.specs.ItemWords.{needs_if, named_needs};
 
 use crate::first_named::{is_first, none_named};
@@ -18,7 +18,7 @@ use ad_ids::{Guid, Token};
 use ad_ldap::Item;
 use ad_needs_rules::{
     Ask, Right, Verdict, asked_in, has_owner_or_group, is_descriptor, is_granted, is_password,
-    to_do, to_write, unless_either, unless_granted, validated_write,
+    on_object, to_do, to_write, unless_either, unless_granted, validated_write,
 };
 use ad_schema::AttrId;
 use ad_sd::SdParts;
@@ -76,12 +76,7 @@ fn unless_kept(
     if !is_written {
         return Ok(None);
     }
-    let ask = Ask {
-        object: number,
-        right,
-        path: Path::empty(),
-    };
-    unless_granted(alloc, dir, token, &ask)
+    unless_granted(alloc, dir, token, &on_object(number, right))
 }
 
 fn parts_refusal(
@@ -136,6 +131,29 @@ pub fn password_right(is_forced: bool) -> Guid
     if is_forced { FORCE_CHANGE } else { CHANGE }
 }
 
+/// The right to write a password by the items of its name.
+///
+/// # Errors
+///
+/// Memory ran out.
+pub fn to_set_password(
+    alloc: Global,
+    number: u32,
+    items: &[Item],
+    name: &[u8],
+) -> Result<Ask, AllocError>
+    ensures object { IfOk result (λ ask. ask.object ≡ number) }
+    ensures asked { IfOk result (λ ask. (asked ask ∷ []) ∷ []
+        ≡ password_needs number (items_of items.now name.now)) }
+{
+    let own = items_of(alloc, items, name)?;
+    Ok(Ask {
+        object: number,
+        right: Right::ControlAccess,
+        path: Path::one(password_right(is_forced(own.as_slice()))),
+    })
+}
+
 fn password_refusal(
     alloc: Global,
     dir: &Dir,
@@ -149,12 +167,7 @@ fn password_refusal(
         ≡ refusal_of (all_met dir.now token.now
         (password_needs number (items_of items.now name.now)))) }
 {
-    let own = items_of(alloc, items, name)?;
-    let ask = Ask {
-        object: number,
-        right: Right::ControlAccess,
-        path: Path::one(password_right(is_forced(own.as_slice()))),
-    };
+    let ask = to_set_password(alloc, number, items, name)?;
     unless_granted(alloc, dir, token, &ask)
 }
 

@@ -24,8 +24,8 @@ use ad_dn::{Dn, Rdn};
 use ad_ids::Token;
 use ad_ldap::{Rename, result_code};
 use ad_needs_rules::{
-    Ask, ROOT, Right, Verdict, attr_path, class_path, goes_with, matched, read_name,
-    unless_granted, visible,
+    ROOT, Right, Verdict, goes_with, matched, on_children, read_name, to_write, unless_granted,
+    visible,
 };
 use ad_schema::{AttrId, ClassId, Schema};
 use ad_schema_classes::same_name;
@@ -119,12 +119,8 @@ fn unless_moves(
     if let Some(refusal) = unless_leaves(alloc, dir, token, number)? {
         return Ok(Some(refusal));
     }
-    let ask = Ask {
-        object: parent,
-        right: Right::CreateChild,
-        path: class_path(dir.schema(), class_of(dir, number)),
-    };
-    unless_granted(alloc, dir, token, &ask)
+    let create = on_children(dir, parent, Right::CreateChild, class_of(dir, number));
+    unless_granted(alloc, dir, token, &create)
 }
 
 // The refusal where the attribute of a live object may not be written.
@@ -140,12 +136,7 @@ fn unless_writes(
     ensures { IfOk result (λ refusal. refusal
         ≡ refusal_of (all_met dir.now token.now (to_write dir.now number attr.0 ∷ []))) }
 {
-    let ask = Ask {
-        object: number,
-        right: Right::WriteProperty,
-        path: attr_path(dir.schema(), class_of(dir, number), attr),
-    };
-    unless_granted(alloc, dir, token, &ask)
+    unless_granted(alloc, dir, token, &to_write(dir, number, attr))
 }
 
 // The same of `name`, where the schema has it.

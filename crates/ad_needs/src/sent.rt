@@ -18,7 +18,7 @@ ghost use Rattle.ad_needs_rules.specs.declared.outcome.Verdict.TheVariants.{Refu
 ghost use Rattle.ad_needs_rules.specs.Judged.{refusal_of};
 ghost use Rattle.ad_ldap.specs.ResultCodes.{attribute_or_value_exists};
 
-use crate::first_named::{is_first_mark, none_sent};
+use crate::first_named::{is_first_mark, none_named};
 use ad_bytes::{Bytes, List};
 use ad_dir::{is_named, is_naming};
 use ad_ldap::{Add, result_code};
@@ -113,7 +113,7 @@ pub(crate) fn unless_named_once(
     ensures { IfOk result (λ refusal. refusal
         ≡ refusal_of (all_naming_checks schema.now [] attrs.now)) }
 {
-    let mut named = none_sent(alloc, schema)?;
+    let mut named = none_named(alloc, schema)?;
     'each: for i in 0..attrs.len() {
         let refusal = unless_new(schema, named.as_mut_slice(), &attrs[..i], &attrs[i]);
         if refusal.is_some() {

@@ -3,14 +3,15 @@
 ghost use Rattle.std.specs.Prelude.{◌≡◌, ◌<◌, ◌^◌, ◌∷◌, [], true, length};
 ghost use Rattle.ad_acl.specs.Mask.{self_write, write_property};
 ghost use Rattle.ad_schema.specs.Attributes.{attrs_of};
+ghost use Rattle.ad_schema.specs.Classes.{classes_of};
 ghost use Rattle.ad_types.specs.Path.{guids_of};
 ghost use Rattle.ad_dir_model.specs.Objects.{is_live};
 ghost use Rattle.ad_access_dir.specs.Sight.{is_granted};
 ghost use Rattle.ad_needs_rules.specs.Needs.{needs, want_of};
-ghost use Rattle.ad_needs_rules.specs.Requests.{class_at, attr_path};
+ghost use Rattle.ad_needs_rules.specs.Requests.{class_at, class_path, attr_path};
 ghost use Rattle.ad_needs_rules.specs.Judged.{bit_of, asked};
 
-use crate::naming::attr_path;
+use crate::naming::{attr_path, class_path};
 use crate::need::Want;
 use ad_access_dir::grants;
 use ad_acl::{
@@ -19,7 +20,7 @@ use ad_acl::{
 };
 use ad_dir::{Dir, class_of};
 use ad_ids::{Guid, Token};
-use ad_schema::AttrId;
+use ad_schema::{AttrId, ClassId};
 use ad_types::{Path, last_of};
 
 /// A right that an operation can ask for ([MS-ADTS] 5.1.3.2).
@@ -61,6 +62,31 @@ pub fn mask_of(right: Right) -> u32
         Right::WriteDac => WRITE_DAC,
         Right::WriteOwner => WRITE_OWNER,
         Right::SystemSecurity => ACCESS_SYSTEM_SECURITY,
+    }
+}
+
+/// A right on an object as a whole.
+pub fn on_object(number: u32, right: Right) -> Ask
+    ensures object { result.object ≡ number }
+    ensures asked { asked result ≡ needs number (bit_of right) [] }
+{
+    Ask {
+        object: number,
+        right,
+        path: Path::empty(),
+    }
+}
+
+/// A right to the children of a class below an object.
+pub fn on_children(dir: &Dir, number: u32, right: Right, class: ClassId) -> Ask
+    requires { class.0 < length (classes_of dir.now.schema) }
+    ensures object { result.object ≡ number }
+    ensures asked { asked result ≡ needs number (bit_of right) (class_path dir.now.schema class.0) }
+{
+    Ask {
+        object: number,
+        right,
+        path: class_path(dir.schema(), class),
     }
 }
 

@@ -135,7 +135,7 @@ pub fn is_password(name: &[u8]) -> bool
 // ---- paths
 
 /// The path of a child of this class.
-pub fn class_path(schema: &Schema, class: ClassId) -> Path
+pub(crate) fn class_path(schema: &Schema, class: ClassId) -> Path
     requires { class.0 < length (classes_of schema.now) }
     ensures { guids_of result ≡ class_path schema.now class.0 }
 {
@@ -143,7 +143,7 @@ pub fn class_path(schema: &Schema, class: ClassId) -> Path
 }
 
 /// The path of an attribute of an object of this class.
-pub fn attr_path(schema: &Schema, class: ClassId, attr: AttrId) -> Path
+pub(crate) fn attr_path(schema: &Schema, class: ClassId, attr: AttrId) -> Path
     requires class { class.0 < length (classes_of schema.now) }
     requires attr { attr.0 < length (attrs_of schema.now) }
     ensures { guids_of result ≡ attr_path schema.now class.0 attr.0 }

@@ -18,10 +18,10 @@ use crate::trying::{try_either, try_one};
 use ad_dir::{Dir, class_of, naming_of, parent_of};
 use ad_ids::Token;
 use ad_needs::brings_sacl;
-use ad_needs_rules::{Ask, Right, attr_path, class_path};
+use ad_needs_rules::{Right, on_children, on_object, to_write};
 use ad_schema::{AttrId, ClassId};
 use ad_sd::SdParts;
-use ad_types::{Path, Tried};
+use ad_types::Tried;
 use std::alloc::AllocError;
 
 // ---- Delete
@@ -37,16 +37,9 @@ fn try_leaving(
     ensures { IfOk result (λ met. Steps dir.now token.now into.old.items
         (to_leave dir.now number ∷ []) into.new.items met) }
 {
-    let alone = Ask {
-        object: number,
-        right: Right::Delete,
-        path: Path::empty(),
-    };
-    let above = Ask {
-        object: parent_of(dir, number),
-        right: Right::DeleteChild,
-        path: class_path(dir.schema(), class_of(dir, number)),
-    };
+    let parent = parent_of(dir, number);
+    let alone = on_object(number, Right::Delete);
+    let above = on_children(dir, parent, Right::DeleteChild, class_of(dir, number));
     try_either(into, dir, token, &alone, &above)
 }
 
@@ -60,12 +53,7 @@ fn try_all_leaving(
     ensures { IfOk result (λ met. Steps dir.now token.now into.old.items
         (delete_needs dir.now number true) into.new.items met) }
 {
-    let ask = Ask {
-        object: number,
-        right: Right::DeleteTree,
-        path: Path::empty(),
-    };
-    try_one(into, dir, token, &ask)
+    try_one(into, dir, token, &on_object(number, Right::DeleteTree))
 }
 
 /// What a Delete of a live object requires, which isn't the root.
@@ -103,12 +91,12 @@ fn try_creating(
         ((needs parent create_child (class_path dir.now.schema class.0) ∷ []) ∷ []) into.new.items
         met) }
 {
-    let ask = Ask {
-        object: parent,
-        right: Right::CreateChild,
-        path: class_path(dir.schema(), class),
-    };
-    try_one(into, dir, token, &ask)
+    try_one(
+        into,
+        dir,
+        token,
+        &on_children(dir, parent, Right::CreateChild, class),
+    )
 }
 
 fn try_auditing(
@@ -125,12 +113,7 @@ fn try_auditing(
     if !sacl {
         return Ok(true);
     }
-    let ask = Ask {
-        object: parent,
-        right: Right::SystemSecurity,
-        path: Path::empty(),
-    };
-    try_one(into, dir, token, &ask)
+    try_one(into, dir, token, &on_object(parent, Right::SystemSecurity))
 }
 
 /// What an Add below a live object requires.
@@ -189,12 +172,7 @@ fn try_writing(
     ensures { IfOk result (λ met. Steps dir.now token.now into.old.items
         (to_write dir.now number attr.0 ∷ []) into.new.items met) }
 {
-    let ask = Ask {
-        object: number,
-        right: Right::WriteProperty,
-        path: attr_path(dir.schema(), class_of(dir, number), attr),
-    };
-    try_one(into, dir, token, &ask)
+    try_one(into, dir, token, &to_write(dir, number, attr))
 }
 
 // To write `name`, where the schema has it.

@@ -16,14 +16,14 @@ use crate::trying::{success, try_either, try_one};
 use ad_dir::Dir;
 use ad_ids::Token;
 use ad_ldap::Item;
-use ad_needs::{is_first, is_forced, items_of, none_named, password_right, written_sd};
+use ad_needs::{is_first, items_of, none_named, to_set_password, written_sd};
 use ad_needs_rules::{
-    Ask, Right, has_owner_or_group, is_descriptor, is_granted, is_password, to_do, to_write,
+    Right, has_owner_or_group, is_descriptor, is_granted, is_password, on_object, to_do, to_write,
     validated_write,
 };
 use ad_schema::AttrId;
 use ad_sd::SdParts;
-use ad_types::{Path, Tried};
+use ad_types::Tried;
 use std::alloc::{AllocError, Global};
 
 // ---- the descriptor
@@ -44,12 +44,7 @@ fn try_part(
     if !is_written {
         return Ok(true);
     }
-    let ask = Ask {
-        object: number,
-        right,
-        path: Path::empty(),
-    };
-    try_one(into, dir, token, &ask)
+    try_one(into, dir, token, &on_object(number, right))
 }
 
 fn try_lists(
@@ -125,12 +120,7 @@ fn try_password(
     ensures { IfOk result (λ met. Steps dir.now token.now into.old.items
         (password_needs number (items_of items.now name.now)) into.new.items met) }
 {
-    let own = items_of(alloc, items, name)?;
-    let ask = Ask {
-        object: number,
-        right: Right::ControlAccess,
-        path: Path::one(password_right(is_forced(own.as_slice()))),
-    };
+    let ask = to_set_password(alloc, number, items, name)?;
     try_one(into, dir, token, &ask)
 }
 

@@ -33,8 +33,7 @@ fn tried_deleting(
 {
     let number = found(alloc, dir, token, text)?;
     let mut tried = Vec::new(alloc);
-    let met = try_delete(&mut tried, dir, token, number, settings.tree)?;
-    let _ = met;
+    try_delete(&mut tried, dir, token, number, settings.tree)?;
     Ok(tried)
 }
 
@@ -54,8 +53,7 @@ fn tried_renaming(
     let number = found(alloc, dir, token, rename.dn.as_slice())?;
     let parent = new_parent(alloc, dir, token, number, rename)?;
     let mut tried = Vec::new(alloc);
-    let met = try_rename(&mut tried, dir, token, number, parent)?;
-    let _ = met;
+    try_rename(&mut tried, dir, token, number, parent)?;
     Ok(tried)
 }
 
@@ -74,8 +72,7 @@ fn tried_adding(
     let class = class_of_new(alloc, dir, add)?;
     let sd = new_sd(alloc, add, settings.sd_flags)?;
     let mut tried = Vec::new(alloc);
-    let met = try_add(&mut tried, dir, token, parent, class, &sd)?;
-    let _ = met;
+    try_add(&mut tried, dir, token, parent, class, &sd)?;
     Ok(tried)
 }
 
@@ -94,7 +91,7 @@ fn tried_modifying(
     let number = found(alloc, dir, token, modify.dn.as_slice())?;
     let items = modify.items.as_slice();
     let mut tried = Vec::new(alloc);
-    let met = try_modify(
+    try_modify(
         alloc,
         &mut tried,
         dir,
@@ -103,7 +100,6 @@ fn tried_modifying(
         settings.sd_flags,
         items,
     )?;
-    let _ = met;
     Ok(tried)
 }
 

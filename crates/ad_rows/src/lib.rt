@@ -3,7 +3,7 @@
 //! # Example
 //!
 //! ```text
-//! let dir = ad_rows::read_dir_of(alloc, rows)?;
+//! let dir = ad_rows::read_dir_in(alloc, &rows)?;
 //! ```
 //!
 //! # Proved
@@ -19,20 +19,20 @@
 //!
 //! # Cost
 //!
-//! Linear in the rows, with what `ad_rows_sound` takes for each object. `read_dir_of` gives each row's memory back
-//! as its object is read.
+//! Linear in the rows, with what `ad_rows_sound` takes for each object. `read_dir_in` reads the rows where they lie,
+//! without a copy of them.
 #![tactic(auto)]
 
+mod all_rows;
 mod attributes;
 mod descriptors;
 mod fault;
 mod laws;
 mod parsing;
 mod reading;
-mod row_source;
 mod taking;
 
 pub use ad_rows_write::{Batch, batch, row_of, rows_of, write_parts, write_rows};
 pub use fault::RowsFault;
 pub use laws::{a_batch_follows_its_edits, a_row_follows_its_edit, rows_stand_for_one_directory};
-pub use reading::{read_dir, read_dir_of};
+pub use reading::{read_dir, read_dir_in};

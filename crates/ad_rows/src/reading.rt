@@ -13,14 +13,14 @@ ghost use Rattle.ad_rows.specs.Refusal.{IsRefusal, IsUnsound, StandsForNone, is_
 ghost use Rattle.ad_rows_write.specs.Rows.{AreRowsOf, IsOnlyOf};
 ghost use Rattle.ad_rows.specs.Taking.{parts_of};
 
+use crate::all_rows::{take_all, views_of};
 use crate::fault::{RowsFault, of_soundness};
-use crate::row_source::{RowSource, take_all};
 use crate::taking::{Taken, are_bytes, schema_of};
 use ad_dir::{Dir, Meta};
 use ad_rows_sound::{Entry, judge};
 use ad_schema::Schema;
 use prop_queue::Pending;
-use row_store::Row;
+use row_store::{Row, RowIn};
 use std::alloc::{AllocError, Global};
 use std::mem;
 
@@ -105,15 +105,23 @@ fn of_taken(alloc: Global, schema: Option<Schema>, taken: &mut Taken) -> Result<
 }
 
 // The directory that the rows make, where all are of their forms.
-fn read_rows<R: RowSource>(alloc: Global, rows: R) -> Result<Dir, RowsFault>
-    requires { AreListed (R.rows rows) }
-    ensures { IsReading (table_of (R.rows rows)) result }
+fn read_rows(alloc: Global, rows: &[RowIn<'_>]) -> Result<Dir, RowsFault>
+    requires { AreListed rows.now }
+    ensures { IsReading (table_of rows.now) result }
 {
-    let all = rows.all();
-    are_bytes(all);
-    let schema = schema_of(alloc, all)?;
+    are_bytes(rows);
+    let schema = schema_of(alloc, rows)?;
     let mut taken = take_all(alloc, schema.as_ref(), rows)?;
     of_taken(alloc, schema, &mut taken)
+}
+
+// The same of rows that have bodies of their own.
+fn read_owned(alloc: Global, rows: &[Row]) -> Result<Dir, RowsFault>
+    requires { AreListed rows.now }
+    ensures { IsReading (table_of rows.now) result }
+{
+    let views = views_of(alloc, rows)?;
+    read_rows(alloc, views.as_slice())
 }
 
 /// The directory of which these are the rows, by rising kind and number, none twice, each with a body: as `rows_of`
@@ -138,25 +146,25 @@ pub fn read_dir(alloc: Global, rows: &[Row]) -> Result<Dir, RowsFault>
     ensures unsound { AreRight (table_of rows.now) → StandsForNone (table_of rows.now)
         → IsUnsound result }
 {
-    read_rows(alloc, rows)
+    read_owned(alloc, rows)
 }
 
-/// The same, of rows that are given back while they are read, so that not all of them are held beside the directory.
+/// The same, of rows with their bodies where these lie, as `Store::resume_in` gives them: they aren't copied.
 ///
 /// # Errors
 ///
 /// Those of [`read_dir`].
-pub fn read_dir_of(alloc: Global, rows: Vec<Row>) -> Result<Dir, RowsFault>
-    requires { AreListed rows.items }
-    ensures rows { IfOk result (λ dir. AreRowsOf dir (table_of rows.items)) }
+pub fn read_dir_in(alloc: Global, rows: &[RowIn<'_>]) -> Result<Dir, RowsFault>
+    requires { AreListed rows.now }
+    ensures rows { IfOk result (λ dir. AreRowsOf dir (table_of rows.now)) }
     ensures sound { IfOk result (λ dir. IsSound dir) }
-    ensures only { IfOk result (IsOnlyOf (table_of rows.items)) }
-    ensures told { IfErr result (IsRefusal (table_of rows.items)) }
-    ensures complete { (dir : Directory) → AreRowsOf dir (table_of rows.items) → IsSound dir
+    ensures only { IfOk result (IsOnlyOf (table_of rows.now)) }
+    ensures told { IfErr result (IsRefusal (table_of rows.now)) }
+    ensures complete { (dir : Directory) → AreRowsOf dir (table_of rows.now) → IsSound dir
         → GivesUnless is_memory (λ read. read) result (Ok dir) }
-    ensures row { (kind number : ℕ) → IsLeastBad (table_of rows.items) kind number
+    ensures row { (kind number : ℕ) → IsLeastBad (table_of rows.now) kind number
         → GivesUnless is_memory (λ read. read) result (Err (RowsFault.Row kind number)) }
-    ensures unsound { AreRight (table_of rows.items) → StandsForNone (table_of rows.items)
+    ensures unsound { AreRight (table_of rows.now) → StandsForNone (table_of rows.now)
         → IsUnsound result }
 {
     read_rows(alloc, rows)

@@ -20,7 +20,7 @@ use ad_rows_sound::Entry;
 use ad_schema::{Builder, Schema, SchemaFault, SchemaRecord};
 use ad_sd::NormalSd;
 use prop_queue::Pending;
-use row_store::Row;
+use row_store::RowIn;
 use std::alloc::Global;
 
 // Records of a schema are numbered from 0 to 2^32 - 2.
@@ -46,16 +46,16 @@ fn is_bytes(bytes: &[u8])
     let _ = bytes;
 }
 
-fn has_bytes(row: &Row)
+fn has_bytes(row: &RowIn<'_>)
     ensures { HasBytes row.now }
 {
-    if let Some(body) = &row.body {
-        is_bytes(body.as_slice());
+    if let Some(body) = row.body() {
+        is_bytes(body);
     }
 }
 
 /// What the bodies of rows hold are bytes.
-pub(crate) fn are_bytes(rows: &[Row])
+pub(crate) fn are_bytes(rows: &[RowIn<'_>])
     ensures { AllByRecursion HasBytes rows.now }
 {
     for row in rows {
@@ -63,22 +63,22 @@ pub(crate) fn are_bytes(rows: &[Row])
     }
 }
 
-fn bad_row(row: &Row) -> RowFault
+fn bad_row(row: &RowIn<'_>) -> RowFault
     ensures { result ≡ bad_row row.now }
 {
-    RowFault::Row(row.kind, row.number)
+    RowFault::Row(row.kind(), row.number())
 }
 
-fn body_of(row: &Row) -> Result<&[u8], RowFault>
+fn body_of<'a>(row: &RowIn<'a>) -> Result<&'a [u8], RowFault>
     ensures { GivesUnless is_memory (λ body. body.now) result (body_of row.now) }
 {
-    match &row.body {
-        Some(body) => Ok(body.as_slice()),
+    match row.body() {
+        Some(body) => Ok(body),
         None => Err(bad_row(row)),
     }
 }
 
-fn fault_of(row: &Row, fault: BodyFault) -> RowFault
+fn fault_of(row: &RowIn<'_>, fault: BodyFault) -> RowFault
     ensures { result ≡ fault_of row.now fault }
 {
     match fault {
@@ -88,14 +88,14 @@ fn fault_of(row: &Row, fault: BodyFault) -> RowFault
 }
 
 // The number of an object, above that of the last one.
-fn object_number(row: &Row, last: u32) -> Result<u32, RowFault>
+fn object_number(row: &RowIn<'_>, last: u32) -> Result<u32, RowFault>
     ensures number { GivesUnless is_memory (λ number. number) result (number_of row.now last) }
     ensures above { IfOk result (λ number. (last < number) × (number < 2 ^ 32 - 1)) }
 {
-    if row.number <= u64::from(last) || row.number >= u64::from(u32::MAX) {
+    if row.number() <= u64::from(last) || row.number() >= u64::from(u32::MAX) {
         return Err(bad_row(row));
     }
-    Ok(row.number as u32)
+    Ok(row.number() as u32)
 }
 
 // The first object whose content isn't of the schema.
@@ -113,7 +113,7 @@ fn take_object(
     alloc: Global,
     schema: Option<&Schema>,
     taken: &mut Taken,
-    row: &Row,
+    row: &RowIn<'_>,
 ) -> Result<(), RowFault>
     ensures parts { GivesUnless is_memory (λ _. parts_of taken.new) result
         (with_object (option_copied schema.entry) (parts_of taken.old) row.now) }
@@ -133,7 +133,7 @@ fn take_object(
 }
 
 #[tactic(auto, unfolding(crate::specs::Taking::with_pending))]
-fn take_pending(alloc: Global, taken: &mut Taken, row: &Row) -> Result<(), RowFault>
+fn take_pending(alloc: Global, taken: &mut Taken, row: &RowIn<'_>) -> Result<(), RowFault>
     ensures parts { GivesUnless is_memory (λ _. parts_of taken.new) result
         (with_pending (parts_of taken.old) row.now) }
     ensures objects { taken.new.objects ≡ taken.old.objects }
@@ -151,7 +151,7 @@ fn take_pending(alloc: Global, taken: &mut Taken, row: &Row) -> Result<(), RowFa
 }
 
 #[tactic(auto, unfolding(crate::specs::Taking::with_meta))]
-fn take_meta(alloc: Global, taken: &mut Taken, row: &Row) -> Result<(), RowFault>
+fn take_meta(alloc: Global, taken: &mut Taken, row: &RowIn<'_>) -> Result<(), RowFault>
     ensures parts { GivesUnless is_memory (λ _. parts_of taken.new) result
         (with_meta (parts_of taken.old) row.now) }
     ensures objects { taken.new.objects ≡ taken.old.objects }
@@ -169,12 +169,12 @@ fn take_meta(alloc: Global, taken: &mut Taken, row: &Row) -> Result<(), RowFault
 }
 
 #[tactic(auto, unfolding(crate::specs::Taking::with_record))]
-fn take_record(alloc: Global, taken: &Taken, row: &Row) -> Result<(), RowFault>
+fn take_record(alloc: Global, taken: &Taken, row: &RowIn<'_>) -> Result<(), RowFault>
     ensures { GivesUnless is_memory (λ _. parts_of taken.now) result
         (with_record (parts_of taken.now) row.now) }
 {
     let _ = &taken.last;
-    if row.number >= MOST_RECORDS {
+    if row.number() >= MOST_RECORDS {
         return Err(bad_row(row));
     }
     let body = body_of(row)?;
@@ -185,15 +185,15 @@ fn take_record(alloc: Global, taken: &Taken, row: &Row) -> Result<(), RowFault>
 }
 
 // Whether a row stands after the one of this kind and number 0.
-fn is_behind(kind: u8, row: &Row) -> bool
+fn is_behind(kind: u8, row: &RowIn<'_>) -> bool
     ensures { result ≡ is_behind kind row.now }
 {
-    row.kind > kind || (row.kind == kind && row.number > 0)
+    row.kind() > kind || (row.kind() == kind && row.number() > 0)
 }
 
 // The pending list and the counters come before what comes after them.
 #[tactic(auto, unfolding(crate::specs::Taking::in_place))]
-fn is_in_place(taken: &Taken, row: &Row) -> Result<(), RowFault>
+fn is_in_place(taken: &Taken, row: &RowIn<'_>) -> Result<(), RowFault>
     ensures { GivesUnless is_memory (λ _. tt) result (in_place (parts_of taken.now) row.now) }
 {
     if taken.pending.is_none() && is_behind(2, row) {
@@ -210,22 +210,22 @@ fn take_any(
     alloc: Global,
     schema: Option<&Schema>,
     taken: &mut Taken,
-    row: &Row,
+    row: &RowIn<'_>,
 ) -> Result<(), RowFault>
     ensures parts { GivesUnless is_memory (λ _. parts_of taken.new) result
         (with_any (option_copied schema.entry) (parts_of taken.old) row.now) }
     ensures taken { OnOk result (IsStillTaken (option_copied schema.entry) taken.old taken.new) }
 {
-    if row.kind == 1 {
+    if row.kind() == 1 {
         return take_object(alloc, schema, taken, row);
     }
-    if row.kind == 2 && row.number == 0 {
+    if row.kind() == 2 && row.number() == 0 {
         return take_pending(alloc, taken, row);
     }
-    if row.kind == 3 && row.number == 0 {
+    if row.kind() == 3 && row.number() == 0 {
         return take_meta(alloc, taken, row);
     }
-    if row.kind == 4 {
+    if row.kind() == 4 {
         return take_record(alloc, taken, row);
     }
     Err(bad_row(row))
@@ -237,7 +237,7 @@ pub(crate) fn take_row(
     alloc: Global,
     schema: Option<&Schema>,
     taken: &mut Taken,
-    row: &Row,
+    row: &RowIn<'_>,
 ) -> Result<(), RowFault>
     ensures parts { GivesUnless is_memory (λ _. parts_of taken.new) result
         (with_row (option_copied schema.entry) (parts_of taken.old) row.now) }
@@ -263,19 +263,19 @@ fn add(builder: &mut Builder, read: &SchemaRecord) -> Result<bool, RowFault>
 
 // Whether a row is that of the next record, and the record may stand after those before it.
 #[tactic(auto, unfolding(crate::specs::Taking::with_next))]
-fn add_record(alloc: Global, builder: &mut Builder, row: &Row) -> Result<bool, RowFault>
+fn add_record(alloc: Global, builder: &mut Builder, row: &RowIn<'_>) -> Result<bool, RowFault>
     ensures records { IfOk result (λ is. with_next builder.old row.now
         ≡ (if is then Some builder.new else None)) }
     ensures fault { IfErr result (λ fault. fault ≡ RowFault.Memory) }
 {
     let next = builder.len() as u64;
-    if row.number != next || next >= MOST_RECORDS {
+    if row.number() != next || next >= MOST_RECORDS {
         return Ok(false);
     }
-    let Some(body) = &row.body else {
+    let Some(body) = row.body() else {
         return Ok(false);
     };
-    match parsing::record(alloc, body.as_slice()) {
+    match parsing::record(alloc, body) {
         Ok(read) => add(builder, &read),
         Err(BodyFault::Bad) => Ok(false),
         Err(BodyFault::Memory) => Err(RowFault::Memory),
@@ -284,19 +284,19 @@ fn add_record(alloc: Global, builder: &mut Builder, row: &Row) -> Result<bool, R
 
 // The same of any row, which has a record or not.
 #[tactic(auto, unfolding(crate::specs::Taking::past))]
-fn pass(alloc: Global, builder: &mut Builder, row: &Row) -> Result<bool, RowFault>
+fn pass(alloc: Global, builder: &mut Builder, row: &RowIn<'_>) -> Result<bool, RowFault>
     ensures records { IfOk result (λ is. past builder.old row.now
         ≡ (if is then Some builder.new else None)) }
     ensures fault { IfErr result (λ fault. fault ≡ RowFault.Memory) }
 {
-    if row.kind != 4 {
+    if row.kind() != 4 {
         return Ok(true);
     }
     add_record(alloc, builder, row)
 }
 
 // Passes the rows. Whether their records are numbered without a gap and each may stand after those before it.
-fn pass_all(alloc: Global, builder: &mut Builder, rows: &[Row]) -> Result<bool, RowFault>
+fn pass_all(alloc: Global, builder: &mut Builder, rows: &[RowIn<'_>]) -> Result<bool, RowFault>
     ensures records { IfOk result (λ are. records_among builder.old rows.now
         ≡ (if are then Some builder.new else None)) }
     ensures fault { IfErr result (λ fault. fault ≡ RowFault.Memory) }
@@ -310,7 +310,7 @@ fn pass_all(alloc: Global, builder: &mut Builder, rows: &[Row]) -> Result<bool, 
 }
 
 // The records among the rows, where they are numbered from 0 without a gap and each may stand after those before it.
-fn records_of(alloc: Global, rows: &[Row]) -> Result<Option<Builder>, RowFault>
+fn records_of(alloc: Global, rows: &[RowIn<'_>]) -> Result<Option<Builder>, RowFault>
     ensures records { IfOk result (λ records. records ≡ records_among [] rows.now) }
     ensures fault { IfErr result (λ fault. fault ≡ RowFault.Memory) }
 {
@@ -338,7 +338,7 @@ fn finished(builder: Builder) -> Result<Option<Schema>, RowFault>
 
 /// The schema of the records among the rows, where they are numbered from 0 without a gap and make one.
 #[tactic(auto, unfolding(crate::specs::Taking::schema_among))]
-pub(crate) fn schema_of(alloc: Global, rows: &[Row]) -> Result<Option<Schema>, RowFault>
+pub(crate) fn schema_of(alloc: Global, rows: &[RowIn<'_>]) -> Result<Option<Schema>, RowFault>
     ensures schema { IfOk result (λ schema. schema ≡ schema_among rows.now) }
     ensures fault { IfErr result (λ fault. fault ≡ RowFault.Memory) }
 {

@@ -72,11 +72,11 @@ found_at (x ∷ xs) zero within = (x, refl)
 found_at (x ∷ xs) (suc i) within = found_at xs i (omega (arith, within))
 
 -- no class names its objects by the attribute
-none_named : (schema : List SchemaRecord) (attr class : ℕ) → IsPlain schema attr → class < length (classes_of schema)
-    → names_one schema attr ≡ false → is_naming schema class attr ≡ false
-none_named schema attr class ordinary within none =
+none_named : (schema : List SchemaRecord) (attr class : ℕ) → is_named schema (codes "name") attr ≡ false
+    → class < length (classes_of schema) → names_one schema attr ≡ false → is_naming schema class attr ≡ false
+none_named schema attr class no_name within none =
     let there = found_at (classes_of schema) class within in
-    or_false (is_named schema (codes "name") attr) (naming_of schema class == attr) ordinary.no_name
+    or_false (is_named schema (codes "name") attr) (naming_of schema class == attr) no_name
     (subst (λ (n : ℕ). (n == attr) ≡ false) (class_naming schema class there.0 there.1)
     (any_at (λ (info : ClassInfo). info.naming.0 == attr) (classes_of schema) class there.0 none there.1))
 
@@ -118,15 +118,26 @@ module _ (dir : Directory) (attr : ℕ) (key : Key) (above : ℕ) (standing : Ar
 
   -- where no class names its objects so
   pub stored_shown : (result : Option ℕ) (n : ℕ) → IsNextWith dir.objects attr key above result
-      → IsPlain dir.schema attr → names_one dir.schema attr ≡ false
+      → IsPlain dir.schema attr → is_named dir.schema (codes "name") attr ≡ false
+      → names_one dir.schema attr ≡ false
       → is_live dir.objects n ≡ true → above < n → IsBefore n result → has_key key (shown dir n attr) ≡ false
-  stored_shown result n next ordinary none live more before =
+  stored_shown result n next ordinary no_name none live more before =
       shows_no_key dir n attr key (object_at dir.objects n) refl ordinary
-      (none_named dir.schema attr (object_at dir.objects n).class ordinary
+      (none_named dir.schema attr (object_at dir.objects n).class no_name
       (standing.content n (object_at dir.objects n) (of-live dir.objects n live)).class_of_schema none)
       (stores_none result n next live more before)
 
-  -- and where one does
+  -- where it is `name`
+  pub name_shown : (result : Option ℕ) (n : ℕ) → IsNextNamed dir.objects key above result
+      → IsPlain dir.schema attr → is_named dir.schema (codes "name") attr ≡ true
+      → syntax_at dir.schema attr ≡ syntax.Unicode
+      → is_live dir.objects n ≡ true → above < n → IsBefore n result → has_key key (shown dir n attr) ≡ false
+  name_shown result n next ordinary is_name text live more before =
+      named_no_key dir n attr key (object_at dir.objects n) refl ordinary
+      (ap (λ (b : Bool). b || (naming_of dir.schema (object_at dir.objects n).class == attr)) is_name) text
+      (named_none result n next live more before)
+
+  -- and where a class names its objects so
   pub named_shown : (stored named : Option ℕ) (n : ℕ) → IsNextWith dir.objects attr key above stored
       → IsNextNamed dir.objects key above named → IsPlain dir.schema attr
       → syntax_at dir.schema attr ≡ syntax.Unicode → is_live dir.objects n ≡ true → above < n → IsBefore n stored

@@ -33,7 +33,7 @@ shown_next dir leaf sought above result is next = record {
       let none : has_key leaf.needle.value.key (shown dir n leaf.needle.attr.0) ≡ false
       = subst (λ (k : Key). has_key k (shown dir n leaf.needle.attr.0) ≡ false) for.key_is
       (subst (λ (id : AttrId). has_key sought.key (shown dir n id.0) ≡ false) for.attr_is
-      (next.none n live more before plain for.named)) in
+      (next.none n live more before plain for.name for.named)) in
       both_ways (has_key leaf.needle.value.key (shown dir n leaf.needle.attr.0)) none shows.value;
 }
 

@@ -1,5 +1,5 @@
 -- How the objects of which a filter may be true are found without a look at the others.
-use Rattle.std.specs.Prelude.{◌≡◌, ℕ, ◌<◌, ◌==◌, Bool, true, false, Option, Some, None, List, IfSome}
+use Rattle.std.specs.Prelude.{◌≡◌, ℕ, ◌<◌, ◌==◌, Bool, true, false, codes, Option, Some, None, List, IfSome}
 use Rattle.std.specs.List.{AllByRecursion, list_any}
 use Rattle.ad_value.specs.declared.syntax.Syntax.TheVariants as syntax
 use Rattle.ad_schema.specs.declared.info.ClassInfo.{ClassInfo}
@@ -11,7 +11,7 @@ use Rattle.ad_ldap.specs.MessageValue.{SearchValue}
 use Rattle.ad_filter.specs.ThreeValues.{is_true}
 use Rattle.ad_filter.specs.Filtering.{truth}
 use Rattle.ad_dir_model.specs.Objects.{is_live, numbers}
-use Rattle.ad_dir_model.specs.Attributes.{syntax_at}
+use Rattle.ad_dir_model.specs.Attributes.{is_named, syntax_at}
 use Rattle.ad_dir_model.specs.Shown.{shown}
 use Rattle.ad_dir_model.specs.Directory.{Directory}
 use Rattle.ad_search.specs.declared.needles.Needle.{Needle}
@@ -23,16 +23,19 @@ use Rattle.ad_search.specs.Needles.{has_key, IsPlain, HaveSameEntries}
 abbrev pub names_one : List SchemaRecord → ℕ → Bool
 names_one schema attr = list_any (λ (info : ClassInfo). info.naming.0 == attr) (classes_of schema)
 
--- The naming values that the attribute shows are texts, or it shows none.
-abbrev pub IsNamedBy : List SchemaRecord → ℕ → Bool → Type 0
-IsNamedBy schema attr true = syntax_at schema attr ≡ syntax.Unicode
-IsNamedBy schema attr false = names_one schema attr ≡ false
+-- The naming values that the attribute shows are texts, or it shows none: it is `name`, some class names its objects
+-- by it, or neither.
+abbrev pub IsNamedBy : List SchemaRecord → ℕ → Bool → Bool → Type 0
+IsNamedBy schema attr true by_name = syntax_at schema attr ≡ syntax.Unicode
+IsNamedBy schema attr false true = syntax_at schema attr ≡ syntax.Unicode
+IsNamedBy schema attr false false = names_one schema attr ≡ false
 
 -- what is sought is what is needed
 pub record IsSoughtFor (schema : List SchemaRecord) (needle : Needle) (sought : Sought) : Type 0 where
   pub attr_is : sought.attr ≡ needle.attr
   pub key_is : sought.key ≡ needle.value.key
-  pub named : IsNamedBy schema sought.attr.0 sought.by_name
+  pub name : is_named schema (codes "name") sought.attr.0 ≡ sought.is_name
+  pub named : IsNamedBy schema sought.attr.0 sought.is_name sought.by_name
 
 -- whoever asks, the filter isn't true of the object
 abbrev pub IsNever : Directory → FilterValue → ℕ → Type 0
@@ -48,8 +51,9 @@ IsBefore number (Some next) = number < next
 pub record IsNextShown (dir : Directory) (sought : Sought) (above : ℕ) (result : Option ℕ) : Type 0 where
   pub is_above : IfSome result (λ next. above < next)
   pub none : (number : ℕ) → is_live dir.objects number ≡ true → above < number → IsBefore number result
-      → IsPlain dir.schema sought.attr.0
-      → IsNamedBy dir.schema sought.attr.0 sought.by_name → has_key sought.key (shown dir number sought.attr.0) ≡ false
+      → IsPlain dir.schema sought.attr.0 → is_named dir.schema (codes "name") sought.attr.0 ≡ sought.is_name
+      → IsNamedBy dir.schema sought.attr.0 sought.is_name sought.by_name
+      → has_key sought.key (shown dir number sought.attr.0) ≡ false
 
 -- A number above this one, such that the filter is true of no live object between them.
 pub record IsNextFor (dir : Directory) (filter : FilterValue) (above : ℕ) (result : Option ℕ) : Type 0 where

@@ -24,11 +24,10 @@ use Rattle.ad_search.specs.Steps.{entries_among}
 abbrev pub has_key : Key → List Value → Bool
 has_key key values = list_any (λ (v : Value). same_key v.key key) values
 
--- The attribute isn't computed from the class or the name, but perhaps from the naming value.
+-- The attribute isn't computed from the class or the whole name, but perhaps from the naming value.
 pub record IsPlain (schema : List SchemaRecord) (attr : ℕ) : Type 0 where
   pub no_class : is_named schema (codes "objectClass") attr ≡ false
   pub no_dn : is_named schema (codes "distinguishedName") attr ≡ false
-  pub no_name : is_named schema (codes "name") attr ≡ false
 
 -- The attribute has this name, and is such a one.
 pub record IsPlainNamed (schema : List SchemaRecord) (name : List ℕ) (attr : AttrId) : Type 0 where

@@ -10,7 +10,7 @@ ghost use Rattle.ad_search.specs.Compare.{done, code_by, code_of, compare_at, co
 use crate::finding::{matched, seen_named};
 use ad_bytes::Bytes;
 use ad_dir::Dir;
-use ad_dn::{Dn, DnFault};
+use ad_dn::Dn;
 use ad_entries::values_named;
 use ad_filter::has_equal;
 use ad_ids::Token;
@@ -20,6 +20,7 @@ use ad_ldap::result_code::{
 };
 use ad_ldap::tags::COMPARE_RESPONSE;
 use ad_ldap::{Compare, Reply, write_reply};
+use ad_needs_rules::read_name;
 use ad_value::{Syntax, Value, ValueFault, normal};
 use std::alloc::{AllocError, Global};
 
@@ -136,12 +137,10 @@ fn compare_read(
 ) -> Result<Vec<u8>, AllocError>
     ensures { IfOk result (λ bytes. bytes.items ≡ compare_answer dir.now token.now id request.now) }
 {
-    let name = match ad_dn::read(alloc, request.dn.as_slice()) {
-        Ok(dn) => dn,
-        Err(DnFault::Bad { .. }) => return done(alloc, id, INVALID_DN_SYNTAX, Vec::new(alloc)),
-        Err(DnFault::Memory) => return Err(AllocError),
-    };
-    compare_at(alloc, dir, token, id, request, &name)
+    match read_name(alloc, request.dn.as_slice())? {
+        Some(name) => compare_at(alloc, dir, token, id, request, &name),
+        None => done(alloc, id, INVALID_DN_SYNTAX, Vec::new(alloc)),
+    }
 }
 
 /// The answer to a compare, one message (RFC 4511 4.10). `id` is the request's message number.

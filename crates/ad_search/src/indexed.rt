@@ -1,13 +1,13 @@
 //! What is sought by the indexes of a value that an object has to show: the next object that may store it or be named
 //! by it, so that the others aren't looked at.
 
-ghost use Rattle.std.specs.Prelude.{◌≡◌, ◌<◌, ℕ, true, IfOk, IfSome, IsTrue};
+ghost use Rattle.std.specs.Prelude.{◌≡◌, ◌<◌, ℕ, true, false, codes, IfOk, IfSome, IsTrue};
 ghost use Rattle.ad_value.specs.declared.syntax.Syntax.TheVariants as syntax;
-ghost use Rattle.ad_dir_model.specs.Attributes.{syntax_at};
+ghost use Rattle.ad_dir_model.specs.Attributes.{is_named, syntax_at};
 ghost use Rattle.ad_search.specs.Indexed.{names_one, IsSoughtFor, IsBefore, IsNextShown};
 
 use crate::needles::Needle;
-use ad_dir::Dir;
+use ad_dir::{Dir, is_named};
 use ad_schema::{AttrId, Schema};
 use ad_value::{Key, Syntax};
 use std::alloc::{AllocError, Global};
@@ -19,6 +19,8 @@ pub(crate) struct Sought {
     pub key: Key,
     // Whether objects are named by the attribute.
     pub by_name: bool,
+    // Whether it is `name`, by which each object shows its naming value and none that is stored.
+    pub is_name: bool,
 }
 
 // ---- what is sought
@@ -40,12 +42,25 @@ fn is_text(schema: &Schema, attr: AttrId) -> bool
     }
 }
 
-// What is sought for a needle, where there is an index for it.
-pub(crate) fn sought_of(
-    alloc: Global,
-    dir: &Dir,
-    needle: &Needle,
-) -> Result<Option<Sought>, AllocError>
+// What is sought for a needle of `name`.
+fn sought_by_name(alloc: Global, dir: &Dir, needle: &Needle) -> Result<Option<Sought>, AllocError>
+    requires { is_named dir.now.schema (codes "name") needle.now.attr.0 ≡ true }
+    ensures { IfOk result (λ found. IfSome found (IsSoughtFor dir.now.schema needle.now)) }
+{
+    if !is_text(dir.schema(), needle.attr) {
+        return Ok(None);
+    }
+    Ok(Some(Sought {
+        attr: needle.attr,
+        key: needle.value.key(alloc)?,
+        by_name: true,
+        is_name: true,
+    }))
+}
+
+// What is sought for a needle of any other attribute, where there is an index for it.
+fn sought_by_value(alloc: Global, dir: &Dir, needle: &Needle) -> Result<Option<Sought>, AllocError>
+    requires { is_named dir.now.schema (codes "name") needle.now.attr.0 ≡ false }
     ensures { IfOk result (λ found. IfSome found (IsSoughtFor dir.now.schema needle.now)) }
 {
     if !dir.is_indexed(needle.attr) {
@@ -59,7 +74,22 @@ pub(crate) fn sought_of(
         attr: needle.attr,
         key: needle.value.key(alloc)?,
         by_name,
+        is_name: false,
     }))
+}
+
+// What is sought for a needle, where there is an index for it.
+pub(crate) fn sought_of(
+    alloc: Global,
+    dir: &Dir,
+    needle: &Needle,
+) -> Result<Option<Sought>, AllocError>
+    ensures { IfOk result (λ found. IfSome found (IsSoughtFor dir.now.schema needle.now)) }
+{
+    if is_named(dir.schema(), b"name", needle.attr) {
+        return sought_by_name(alloc, dir, needle);
+    }
+    sought_by_value(alloc, dir, needle)
 }
 
 // ---- the next object
@@ -83,6 +113,9 @@ pub(crate) fn next_shown(dir: &Dir, sought: &Sought, above: u32) -> Option<u32>
     ensures { IsNextShown dir.now sought.now above result }
 {
     dir.stands();
+    if sought.is_name {
+        return dir.next_named(&sought.key, above);
+    }
     let stores = dir.next_with(sought.attr, &sought.key, above);
     if sought.by_name {
         return lesser(stores, dir.next_named(&sought.key, above));

@@ -10,12 +10,11 @@ ghost use Rattle.ad_dir_objects.specs.Seen.{stored_seen};
 ghost use Rattle.ad_dir.specs.Values.{may_have};
 ghost use Rattle.ad_filter.specs.Filtering.{is_descriptor};
 ghost use Rattle.ad_dir_model.specs.Objects.{is_live};
-ghost use Rattle.ad_dir_model.specs.Attributes.{is_named};
 ghost use Rattle.ad_dir_model.specs.Shown.{shown};
 ghost use Rattle.ad_search.specs.Needles.{has_key, IsPlain, IsPlainNamed, IsNeedle, IsAskedAs};
 
 use ad_bytes::Bytes;
-use ad_dir::{Dir, Stored, live_object, stored_of};
+use ad_dir::{Dir, Stored, is_named, is_naming, live_object, stored_of};
 use ad_schema::{AttrId, Schema};
 use ad_schema_classes::same_name;
 use ad_value::{Syntax, Value, ValueFault, equal, normal};
@@ -47,24 +46,11 @@ fn is_descriptor(name: &[u8]) -> bool
     same_name(name, b"nTSecurityDescriptor")
 }
 
-// Whether the attribute is the one that a name leads to.
-fn is_named(schema: &Schema, name: &[u8], attr: AttrId) -> bool
-    ensures { result ≡ is_named schema.now name.now attr.0 }
-{
-    match schema.attr(name) {
-        Some(id) => id.0 == attr.0,
-        None => false,
-    }
-}
-
 // Whether an object shows of the attribute what it stores, or its naming value.
 fn is_plain(schema: &Schema, attr: AttrId) -> bool
     ensures { IsTrue result → IsPlain schema.now attr.0 }
 {
-    if is_named(schema, b"objectClass", attr)
-        || is_named(schema, b"distinguishedName", attr)
-        || is_named(schema, b"name", attr)
-    {
+    if is_named(schema, b"objectClass", attr) || is_named(schema, b"distinguishedName", attr) {
         return false;
     }
     true
@@ -151,7 +137,7 @@ pub(crate) fn may_show(dir: &Dir, number: u32, needle: &Needle) -> bool
 {
     dir.stands();
     let object = live_object(dir, number);
-    if dir.schema().class_info(object.class).naming.0 == needle.attr.0 {
+    if is_naming(dir.schema(), object.class, needle.attr) {
         return true;
     }
     any_may(
@@ -173,7 +159,7 @@ pub(crate) fn may_show_some(dir: &Dir, number: u32, attr: AttrId) -> bool
 {
     dir.stands();
     let object = live_object(dir, number);
-    if dir.schema().class_info(object.class).naming.0 == attr.0 {
+    if is_naming(dir.schema(), object.class, attr) {
         return true;
     }
     is_some(stored_of(object.values.as_slice(), attr))

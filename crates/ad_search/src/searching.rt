@@ -26,12 +26,13 @@ use crate::naming::in_scope;
 use crate::parents::{Parent, is_seen, no_parent};
 use crate::subtree::{ROOT, subtree};
 use ad_dir::Dir;
-use ad_dn::{Dn, DnFault};
+use ad_dn::Dn;
 use ad_entries::{Kinds, Sight, entry_judged, no_kinds};
 use ad_filter::{Truth, truth};
 use ad_ids::Token;
 use ad_ldap::result_code::{INVALID_DN_SYNTAX, NO_SUCH_OBJECT};
 use ad_ldap::{BASE_OBJECT, SINGLE_LEVEL, Search};
+use ad_needs_rules::read_name;
 use std::alloc::{AllocError, Global};
 
 // Whether the filter is true of an object.
@@ -260,12 +261,10 @@ fn answer_read(
     ensures { IfOk result (λ bytes. bytes.items ≡ search_answer dir.now token.now id
         (search_seen search.now) flags) }
 {
-    let base = match ad_dn::read(alloc, search.base.as_slice()) {
-        Ok(dn) => dn,
-        Err(DnFault::Bad { .. }) => return done(alloc, id, INVALID_DN_SYNTAX, Vec::new(alloc)),
-        Err(DnFault::Memory) => return Err(AllocError),
-    };
-    answer_at(alloc, dir, token, id, search, flags, &base)
+    match read_name(alloc, search.base.as_slice())? {
+        Some(base) => answer_at(alloc, dir, token, id, search, flags, &base),
+        None => done(alloc, id, INVALID_DN_SYNTAX, Vec::new(alloc)),
+    }
 }
 
 /// The answer to a search: the messages of the entries by rising number of their objects, and the message at the end,

@@ -22,10 +22,11 @@ use crate::parents::{Parent, no_parent};
 use crate::searching::{found_name, objects_asked};
 use ad_acl::{ACCESS_SYSTEM_SECURITY, READ_CONTROL, READ_PROPERTY};
 use ad_dir::{Dir, class_of};
-use ad_dn::{Dn, DnFault};
+use ad_dn::Dn;
 use ad_entries::{Descriptor, Kinds, descriptor_judged, entry_judged, no_kinds, places_judged};
 use ad_ids::Token;
 use ad_ldap::{DACL_PART, GROUP_PART, OWNER_PART, SACL_PART, Search};
+use ad_needs_rules::read_name;
 use ad_schema::AttrId;
 use ad_tried::succeeded;
 use ad_types::{Path, Tried, path};
@@ -360,10 +361,8 @@ pub fn reads(
     ensures { IfOk result (λ tried. tried_values tried.items ≡ reads_of dir.now token.now id
         (search_seen search.now) flags) }
 {
-    let base = match ad_dn::read(alloc, search.base.as_slice()) {
-        Ok(dn) => dn,
-        Err(DnFault::Bad { .. }) => return Ok(Vec::new(alloc)),
-        Err(DnFault::Memory) => return Err(AllocError),
-    };
-    reads_at(alloc, dir, token, id, search, flags, &base)
+    match read_name(alloc, search.base.as_slice())? {
+        Some(base) => reads_at(alloc, dir, token, id, search, flags, &base),
+        None => Ok(Vec::new(alloc)),
+    }
 }

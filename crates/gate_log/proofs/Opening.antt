@@ -10,7 +10,7 @@ use Rattle.site_io.specs.declared.slot.Slot.{Slot}
 use Rattle.site_io.specs.declared.slot.Slot.TheVariants.{A, B}
 use Rattle.gate_log.specs.Counts.{Counts}
 use Rattle.gate_log.specs.Layout.{HasRecords}
-use Rattle.gate_log.specs.Reading.{bodies_of, AreHeads, IsNewer, IsOpened}
+use Rattle.gate_log.specs.Reading.{AreHeads, IsNewer, IsOpened}
 use Rattle.gate_log.specs.Store.{other, number_of, HasBodies, HasBodiesTwo, IsBrokenStore, IsEmptyStore, IsOne}
 use Rattle.gate_log.specs.Store.{IsOlder, OtherRests, Rests}
 use Rattle.gate_log.specs.StoreOfLog.{RestsIn, StandsIn}
@@ -125,48 +125,48 @@ bytes_told P slot None bytes is p = tt
 bytes_told P slot (Some held) bytes is p = subst P is p
 
 abbrev pub Answer : Type 0
-Answer = Result (Log × Vec (Vec ℕ Global) Global) LogFault
+Answer = Result (Log × Vec (List ℕ) Global) LogFault
 
 pub found_rests : (r : Answer) (r0 r1 : Option Images) (version : Version) (live : Slot) (generation : ℕ)
     (other_open : Bool) → StaysTold r0 r1
     → IfOk r (λ found. IfSome r1 (λ held. HasRecords (at_slot live held) (number_of version) generation found.0.end
-    (bodies_of found.1.items))) → IfOk r (λ found. Counts found.0.first found.0.behind (bodies_of found.1.items))
+    found.1.items)) → IfOk r (λ found. Counts found.0.first found.0.behind found.1.items)
     → IfOk r (λ found. LogIs found.0 version live generation other_open)
     → IfSome r0 (λ held. OtherRests version live generation other_open (at_slot (other live) held)) → 0
     < generation → generation < 2 ^ 64
-    → IfOk r (λ found. IfSome r0 (λ held. RestsIn found.0 held (bodies_of found.1.items)))
+    → IfOk r (λ found. IfSome r0 (λ held. RestsIn found.0 held found.1.items))
 found_rests (Err fault) r0 r1 version live generation other_open told records counts is rest above below = tt
 found_rests (Ok found) r0 r1 version live generation other_open told records counts is rest above below =
     and_told (λ held. HasRecords (at_slot live held) (number_of version) generation found.0.end
-    (bodies_of found.1.items)) (λ held. OtherRests version live generation other_open (at_slot (other live) held))
-    (λ held. RestsIn found.0 held (bodies_of found.1.items)) r0
+    found.1.items) (λ held. OtherRests version live generation other_open (at_slot (other live) held))
+    (λ held. RestsIn found.0 held found.1.items) r0
     (told_back (λ held. HasRecords (at_slot live held) (number_of version) generation found.0.end
-    (bodies_of found.1.items)) r0 r1 told records) rest
-    (λ held has beside. rests_in found.0 held (bodies_of found.1.items) version live generation other_open is has
+    found.1.items) r0 r1 told records) rest
+    (λ held has beside. rests_in found.0 held found.1.items version live generation other_open is has
     counts beside above below)
 
 -- what follows from it
 abbrev pub Found : Answer → Option Images → Type 0
-Found r r0 = IfOk r (λ found. IfSome r0 (λ held. RestsIn found.0 held (bodies_of found.1.items)))
+Found r r0 = IfOk r (λ found. IfSome r0 (λ held. RestsIn found.0 held found.1.items))
 
 pub found_store : (r : Answer) (r0 : Option Images) → Found r r0
-    → IfOk r (λ found. IfSome r0 (λ held. HasBodies held (bodies_of found.1.items)))
+    → IfOk r (λ found. IfSome r0 (λ held. HasBodies held found.1.items))
 found_store (Err fault) r0 found = tt
 found_store (Ok x) None found = tt
 found_store (Ok x) (Some held) found = rests_has x.0.version x.0.live x.0.generation x.0.end x.0.other_open held
-    (bodies_of x.1.items) found.rests
+    x.1.items found.rests
 
 pub found_only : (r : Answer) (r0 : Option Images) → Found r r0
     → IfOk r (λ found. IfSome r0 (λ held. (others : List (List ℕ)) → HasBodies held others → others
-    ≡ bodies_of found.1.items))
+    ≡ found.1.items))
 found_only (Err fault) r0 found = tt
-found_only (Ok x) r0 found = only_these r0 x.0 (bodies_of x.1.items) found
+found_only (Ok x) r0 found = only_these r0 x.0 x.1.items found
 
 pub found_stands : (r : Answer) (r0 r1 : Option Images) (n : ℕ) (l : ℕ → Images → List ℕ → Type 0) → StaysTold r0 r1
     → Found r r0 → IfOk r (λ found. (found.0.settled ≡ false) × (found.0.spent ≡ false))
     → IfOk r (λ found. StandsIn found.0 r1 n l)
 found_stands (Err fault) r0 r1 n l told found unsettled = tt
-found_stands (Ok x) r0 r1 n l told found unsettled = stands_then r0 r1 n l x.0 (bodies_of x.1.items) told found
+found_stands (Ok x) r0 r1 n l told found unsettled = stands_then r0 r1 n l x.0 x.1.items told found
     unsettled.0
 
 -- A store that has bodies is neither empty nor broken.

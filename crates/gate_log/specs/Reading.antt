@@ -13,10 +13,10 @@ abbrev pub bodies_of : List (Vec ℕ Global) → List (List ℕ)
 bodies_of bodies = map (λ body. body.items) bodies
 
 -- the bytes begin with a closed gate, or with an open one and a record of this body
-abbrev pub BeginsRecord : List ℕ → Option (Vec ℕ Global) → Type 0
+abbrev pub BeginsRecord : List ℕ → Option (List ℕ) → Type 0
 BeginsRecord bytes None = (gate : ℕ) × (rest : List ℕ) × (bytes ≡ gate ∷ rest) × (gate ≢ 1)
 BeginsRecord bytes (Some body) = (size rest : List ℕ) × (length size ≡ 8)
-    × (from_be_bytes w64 size ≡ length body.items) × (bytes ≡ 1 ∷ size ++ body.items ++ rest)
+    × (from_be_bytes w64 size ≡ length body) × (bytes ≡ 1 ∷ size ++ body ++ rest)
 
 -- the bytes are records of these bodies up to a place, and then a closed gate
 pub record EndsRecords (bytes : List ℕ) (bodies : List (List ℕ)) (end : ℕ) : Type 0 where

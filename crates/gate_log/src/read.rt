@@ -9,11 +9,12 @@ ghost use Rattle.gate_log.specs.Layout.{opened, AreRecords};
 ghost use Rattle.gate_log.specs.Counts.{Counts};
 ghost use Rattle.gate_log.specs.Faults.{OnlySiteOrMemory, OnlyBroken};
 ghost use Rattle.site_io.specs.Outside.{OnlyLooks};
-ghost use Rattle.gate_log.specs.Reading.{bodies_of, BeginRecords, BeginsRecord, EndsRecords};
+ghost use Rattle.gate_log.specs.Reading.{BeginRecords, BeginsRecord, EndsRecords};
 
 use crate::LogFault;
 use crate::layout::{RECORD, RECORDS};
 use crate::log::counts_with;
+use crate::part::Part;
 use site_io::{Site, Slot, read_full};
 use std::alloc::Global;
 
@@ -77,7 +78,7 @@ fn number_of(bytes: &[u8]) -> u64
 }
 
 /// The record at the beginning, or none where its gate is closed.
-fn record_at(alloc: Global, rest: &[u8]) -> Result<Option<Vec<u8>>, LogFault>
+fn record_at(rest: &[u8]) -> Result<Option<Part<'_>>, LogFault>
     ensures record { IfOk result (λ found. BeginsRecord rest.now found) }
     ensures broken { IsErrOf result LogFault.Broken → (bodies : List (List ℕ))
         → ¬ BeginRecords bodies rest.now }
@@ -97,24 +98,22 @@ fn record_at(alloc: Global, rest: &[u8]) -> Result<Option<Vec<u8>>, LogFault>
     if length > behind.len() as u64 {
         return Err(LogFault::Broken);
     }
-    Ok(Some(behind[..length as usize].to_vec(alloc)?))
+    Ok(Some(Part::of(&behind[..length as usize])))
 }
 
 /// The bodies of records, where they end, and how long they are.
 #[derive(Drop)]
-pub(crate) struct Records {
-    pub bodies: Vec<Vec<u8>>,
+pub(crate) struct Records<'a> {
+    pub bodies: Vec<Part<'a>>,
     pub end: usize,
     pub first: Option<u64>,
     pub behind: u64,
 }
 
 /// The records after a head.
-pub(crate) fn records_of(alloc: Global, bytes: &[u8]) -> Result<Records, LogFault>
-    ensures records { IfOk result (λ found. EndsRecords bytes.now (bodies_of found.bodies.items)
-        found.end) }
-    ensures counts { IfOk result (λ found. Counts found.first found.behind
-        (bodies_of found.bodies.items)) }
+pub(crate) fn records_of(alloc: Global, bytes: &[u8]) -> Result<Records<'_>, LogFault>
+    ensures records { IfOk result (λ found. EndsRecords bytes.now found.bodies.items found.end) }
+    ensures counts { IfOk result (λ found. Counts found.first found.behind found.bodies.items) }
     ensures within { IfOk result (λ found. found.behind ≤ found.end) }
     ensures broken { IsErrOf result LogFault.Broken → (bodies : List (List ℕ))
         → ¬ BeginRecords bodies bytes.now }
@@ -124,8 +123,8 @@ pub(crate) fn records_of(alloc: Global, bytes: &[u8]) -> Result<Records, LogFaul
     let mut end = 0;
     let mut first = None;
     let mut behind = 0;
-    while let Some(body) = record_at(alloc, &bytes[end..])? {
-        let length = body.len();
+    while let Some(body) = record_at(&bytes[end..])? {
+        let length = body.bytes().len();
         end += RECORD + length;
         (first, behind) = counts_with(first, behind, length as u64);
         bodies.push(body)?;

@@ -16,11 +16,12 @@ ghost use Rattle.gate_log.specs.StoreOfLog.{RestsIn, StandsIn};
 ghost use Rattle.gate_log.specs.declared.version.Version.TheVariants.{One, Two};
 
 use crate::layout::RECORDS;
+use crate::part::Part;
 use crate::read::{head_of, read_slot, records_of};
 use crate::version::Version;
 use crate::{Log, LogFault};
 use site_io::{Site, Slot, read_full};
-use std::alloc::Global;
+use std::alloc::{AllocError, Global};
 
 impl Log {
     /// Opens a store, and gives its bodies in order. It writes no slot. Of the slot that isn't live it reads no
@@ -57,10 +58,54 @@ impl Log {
         ensures cause { IsErrOf result LogFault.Site → HasRisen (S.slot_faults site.old)
             (S.slot_faults site.new) }
     {
+        let mut room = Vec::new(alloc);
+        let (log, bodies) = Log::resume_in(alloc, site, &mut room)?;
+        let copies = copies_of(alloc, bodies.as_slice())?;
+        Ok((log, copies))
+    }
+
+    /// Opens a store, and gives its bodies in order, where they lie: the bytes of the live slot are read into the
+    /// room. It writes no slot. Of the slot that isn't live it reads no more than the head.
+    ///
+    /// # Errors
+    ///
+    /// `Empty` where neither slot is open, and `Broken` where one is open and the slots represent no bodies. `Site`
+    /// where the site failed, which its count tells, and `Memory` where there is no memory.
+    pub fn resume_in<'a, S: Site>(
+        alloc: Global,
+        site: &mut S,
+        room: &'a mut Vec<u8>,
+    ) -> Result<(Log, Vec<Part<'a>>), LogFault>
+        ensures bodies { IfOk result
+            (λ found. IfSome (S.reads site.old)
+            (λ held. RestsIn found.0 held found.1.items)) }
+        ensures store { IfOk result
+            (λ found. IfSome (S.reads site.old)
+            (λ held. HasBodies held found.1.items)) }
+        ensures only { IfOk result (λ found. IfSome (S.reads site.old)
+            (λ held. (others : List (List ℕ)) → HasBodies held others → others
+            ≡ found.1.items)) }
+        ensures counts { IfOk result
+            (λ found. Counts found.0.first found.0.behind found.1.items) }
+        ensures empty { IsErrOf result LogFault.Empty → IfSome (S.reads site.old) IsEmptyStore }
+        ensures broken { IsErrOf result LogFault.Broken → IfSome (S.reads site.old) IsBrokenStore }
+        ensures complete { IfSome (S.reads site.old)
+            (λ held. (bodies : List (List ℕ)) → HasBodies held bodies
+            → ¬ IsErrOf result LogFault.Empty × ¬ IsErrOf result LogFault.Broken) }
+        ensures complete_empty { IfSome (S.reads site.old)
+            (λ held. IsEmptyStore held → IsErr result × ¬ IsErrOf result LogFault.Broken) }
+        ensures stands { IfOk result
+            (λ found. StandsIn found.0 (S.reads site.new) (S.now site.new) (S.left site.new)) }
+        ensures unspent { IfOk result (λ found. found.0.spent ≡ false) }
+        ensures faults { OnlyNoStore result }
+        ensures outside { OnlyLooks S.Site site.old site.new }
+        ensures cause { IsErrOf result LogFault.Site → HasRisen (S.slot_faults site.old)
+            (S.slot_faults site.new) }
+    {
         let mut a = [0u8; RECORDS];
         let in_a = read_full(site, Slot::A, 0, &mut a)?;
         if is_of_version_one(&a[..in_a]) {
-            return open(alloc, site, Version::One, Slot::A, 1, false);
+            return open(alloc, site, room, Version::One, Slot::A, 1, false);
         }
         let mut b = [0u8; RECORDS];
         let in_b = read_full(site, Slot::B, 0, &mut b)?;
@@ -68,12 +113,25 @@ impl Log {
         open(
             alloc,
             site,
+            room,
             Version::Two,
             live.slot,
             live.generation,
             live.other_open,
         )
     }
+}
+
+// Copies of bodies.
+fn copies_of(alloc: Global, bodies: &[Part<'_>]) -> Result<Vec<Vec<u8>>, AllocError>
+    ensures { IfOk result (λ copies. bodies_of copies.items ≡ bodies.now) }
+{
+    let mut copies = Vec::with_capacity(alloc, bodies.len())?;
+    for body in bodies {
+        let copy = body.copy(alloc)?;
+        copies.push(copy)?;
+    }
+    Ok(copies)
 }
 
 // Whether slot A is open and its byte at offset 5 is 1: then the store has version 1, and slot B isn't looked at.
@@ -185,14 +243,15 @@ fn generation_of(bytes: &[u8]) -> Result<Option<u64>, LogFault>
 }
 
 // Reads the live slot of a store, and gives its log and its bodies.
-fn open<S: Site>(
+fn open<'a, S: Site>(
     alloc: Global,
     site: &mut S,
+    room: &'a mut Vec<u8>,
     version: Version,
     live: Slot,
     generation: u64,
     other_open: bool,
-) -> Result<(Log, Vec<Vec<u8>>), LogFault>
+) -> Result<(Log, Vec<Part<'a>>), LogFault>
     requires above { 0 < generation }
     requires first { version ≡ One → generation ≡ 1 }
     ensures broken { IsErrOf result LogFault.Broken → IfSome (S.reads site.old)
@@ -200,9 +259,9 @@ fn open<S: Site>(
         (number_of version) generation end bodies) }
     ensures records { IfOk result (λ found. IfSome (S.reads site.old)
         (λ held. HasRecords (at_slot live held) (number_of version) generation found.0.end
-        (bodies_of found.1.items))) }
+        found.1.items)) }
     ensures counts { IfOk result (λ found. Counts found.0.first found.0.behind
-        (bodies_of found.1.items)) }
+        found.1.items) }
     ensures log { IfOk result (λ found. (found.0.version ≡ version) × (found.0.live ≡ live)
         × (found.0.generation ≡ generation) × (found.0.other_open ≡ other_open)) }
     ensures unsettled { IfOk result (λ found. (found.0.settled ≡ false) × (found.0.spent ≡ false)) }
@@ -213,26 +272,34 @@ fn open<S: Site>(
         (S.slot_faults site.new) }
 {
     let bytes = read_slot(alloc, site, live)?;
-    live_log(alloc, &bytes, version, live, generation, other_open)
+    *room = bytes;
+    live_log(
+        alloc,
+        room.as_slice(),
+        version,
+        live,
+        generation,
+        other_open,
+    )
 }
 
 // The log of a live slot with these bytes, and its bodies.
-fn live_log(
+fn live_log<'a>(
     alloc: Global,
-    bytes: &[u8],
+    bytes: &'a [u8],
     version: Version,
     live: Slot,
     generation: u64,
     other_open: bool,
-) -> Result<(Log, Vec<Vec<u8>>), LogFault>
+) -> Result<(Log, Vec<Part<'a>>), LogFault>
     requires above { 0 < generation }
     requires first { version ≡ One → generation ≡ 1 }
     ensures broken { IsErrOf result LogFault.Broken → (end : ℕ) (bodies : List (List ℕ))
         → ¬ HasRecords bytes.now (number_of version) generation end bodies }
     ensures records { IfOk result (λ found. HasRecords bytes.now (number_of version) generation
-        found.0.end (bodies_of found.1.items)) }
+        found.0.end found.1.items) }
     ensures counts { IfOk result (λ found. Counts found.0.first found.0.behind
-        (bodies_of found.1.items)) }
+        found.1.items) }
     ensures log { IfOk result (λ found. (found.0.version ≡ version) × (found.0.live ≡ live)
         × (found.0.generation ≡ generation) × (found.0.other_open ≡ other_open)) }
     ensures unsettled { IfOk result (λ found. (found.0.settled ≡ false) × (found.0.spent ≡ false)) }

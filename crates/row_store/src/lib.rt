@@ -10,7 +10,8 @@
 //! # Example
 //!
 //! ```text
-//! let (mut store, rows) = Store::resume(alloc, &mut site)?;
+//! let mut room = Vec::new(alloc);
+//! let (mut store, rows) = Store::resume_in(alloc, &mut site, &mut room)?;
 //! store.commit(&mut site, &batch)?;
 //! ```
 //!
@@ -41,6 +42,6 @@ mod writing;
 mod written;
 
 pub use fault::StoreFault;
-pub use row::Row;
+pub use row::{Row, RowIn};
 pub use store::Store;
 pub use written::WrittenRows;

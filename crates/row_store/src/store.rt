@@ -15,8 +15,8 @@ ghost use Rattle.row_store.specs.Row.{batch_size};
 ghost use Rattle.row_store.specs.Table.{Table, SameTable, table_of, with_rows, AreListed};
 
 use crate::fault::StoreFault;
-use crate::row::Row;
-use crate::table::{left_by, rows_in_order};
+use crate::row::{Row, RowIn};
+use crate::table::{left_by, owned, rows_in_order};
 use crate::writing::write_batch;
 use crate::written::{WrittenRows, batch_with_room, written};
 use gate_log::Log;
@@ -154,7 +154,50 @@ impl Store {
         ensures cause { IsErrOf result StoreFault.Site → HasRisen (S.slot_faults site.old)
             (S.slot_faults site.new) }
     {
-        let (log, bodies) = Log::resume(alloc, site)?;
+        let mut room = Vec::new(alloc);
+        let (store, rows) = Store::resume_in(alloc, site, &mut room)?;
+        let copies = owned(alloc, rows.as_slice())?;
+        Ok((store, copies))
+    }
+
+    /// Opens a store, and gives its rows by rising kind and number, none twice, each with its body where that lies:
+    /// the bytes of a slot are read into the room. It writes no slot.
+    ///
+    /// # Errors
+    ///
+    /// `Empty` where neither slot is open, and `Broken` where one is open and the slots represent no bodies, or for
+    /// one that is no batch. `Site` where the site failed, which its count tells, and `Memory` where there is no
+    /// memory.
+    pub fn resume_in<'a, S: Site>(
+        alloc: Global,
+        site: &mut S,
+        room: &'a mut Vec<u8>,
+    ) -> Result<(Store, Vec<RowIn<'a>>), StoreFault>
+        ensures rows { IfOk result (λ found. IfSome (S.reads site.old)
+            (λ held. HoldsTable found.0 held (table_of found.1.items))) }
+        ensures listed { IfOk result (λ found. AreListed found.1.items) }
+        ensures only { IfOk result (λ found. IfSome (S.reads site.old)
+            (λ held. (table : Table) → HasTable held table → SameTable (table_of found.1.items)
+            table)) }
+        ensures counts { IfOk result (λ found. IfSome (S.reads site.old)
+            (λ held. (bodies : List (List ℕ)) × HasBodies held bodies × Counts found.0.log.first
+            found.0.log.behind bodies)) }
+        ensures empty { IsErrOf result StoreFault.Empty → IfSome (S.reads site.old) IsEmptyStore }
+        ensures broken { IsErrOf result StoreFault.Broken → IfSome (S.reads site.old)
+            IsBrokenTable }
+        ensures complete { IfSome (S.reads site.old) (λ held. (table : Table) → HasTable held table
+            → ¬ IsErrOf result StoreFault.Empty × ¬ IsErrOf result StoreFault.Broken) }
+        ensures complete_empty { IfSome (S.reads site.old)
+            (λ held. IsEmptyStore held → IsErr result × ¬ IsErrOf result StoreFault.Broken) }
+        ensures stands { IfOk result
+            (λ found. StandsIn found.0 (S.reads site.new) (S.now site.new) (S.left site.new)) }
+        ensures unspent { IfOk result (λ found. found.0.log.spent ≡ false) }
+        ensures faults { OnlyNoStore result }
+        ensures outside { OnlyLooks S.Site site.old site.new }
+        ensures cause { IsErrOf result StoreFault.Site → HasRisen (S.slot_faults site.old)
+            (S.slot_faults site.new) }
+    {
+        let (log, bodies) = Log::resume_in(alloc, site, room)?;
         let left = left_by(alloc, &bodies)?;
         let rows = rows_in_order(alloc, left)?;
         Ok((Store { alloc, log }, rows))

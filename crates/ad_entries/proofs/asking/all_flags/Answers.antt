@@ -1,10 +1,8 @@
-use Rattle.std.proofs.Common.{sym, subst}
-use Rattle.ad_entries.specs.Asked.{AreFlags}
-use Rattle.ad_entries.proofs.AskedLaws.{all_set}
+use Rattle.std.proofs.Common.{List, true, length, replicate, ap, ◌∙◌}
+use Rattle.ad_schema.specs.declared.info.AttrInfo.{AttrInfo}
 use Rattle.ad_entries.proofs.asking.all_flags.Goals as goal
 
-pub returns-clause-flags : goal.returns-clause-flags
-returns-clause-flags c =
-    subst (AreFlags c.args.schema.now c.args.sent.now) (sym (c.in_ok-flags.ensures.items_if_clones_equal
-    (λ y same. same)))
-    (rw (c.attrs.ensures) (all_set c.args.schema.now c.args.sent.now c.requires))
+pub returns : goal.returns
+returns c =
+    c.in_ok-flags.ensures.items_if_clones_equal (λ y same. same)
+    ∙ ap (λ (infos : List AttrInfo). replicate (length infos) true) c.attrs.ensures

@@ -5,8 +5,8 @@ use Rattle.ad_load.specs.Seen.{by_attr}
 use Rattle.ad_load.proofs.by_attr.in_order.Given as goal
 
 -- what is moved, and what is left
-abbrev pub invariant-loop-i : goal.invariant-loop-i
-invariant-loop-i l = record {
+abbrev pub invariant-loop : goal.invariant-loop
+invariant-loop l = record {
   moved : map held_seen l.all.items ++ by_attr l.values.entries ≡ by_attr l.initial.values.entries;
-  left : btree_map_len l.values ≡ l.count - l.i;
+  left : btree_map_len l.values ≡ l.count - l.counter;
 }

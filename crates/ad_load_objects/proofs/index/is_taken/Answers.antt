@@ -10,4 +10,4 @@ returns c = λ parent name within key.
     c.is_some.ensures
     ∙ ap (λ (o : Option ℕ). is_some o) (c.find.ensures ∙ ap (place_by Kept c.args.drafts.now.places) key)
     ∙ taken_by_index (drafts_seen c.args.drafts.now) c.args.drafts.now.names c.args.drafts.now.places parent
-    name c.requires (omega (arith, within))
+    name c.requires.indexed (omega (arith, within))

@@ -1,7 +1,8 @@
-use Rattle.std.proofs.Common.{◌∙◌, List, sym, ap}
-use Rattle.ad_schema.specs.declared.line.SchemaRecord.{SchemaRecord}
-use Rattle.ad_types.specs.Path.{guids_of}
+use Rattle.std.proofs.Common.{◌∙◌, ℕ, sym, ap}
+use Rattle.ad_acl.specs.Mask.{create_child}
 use Rattle.ad_dir.proofs.NameLaws.{if_ok}
+use Rattle.ad_needs_rules.specs.Judged.{asked}
+use Rattle.ad_needs_rules.specs.Needs.{needs}
 use Rattle.ad_needs_rules.specs.Requests.{class_path}
 use Rattle.ad_needs.proofs.RenameLaws.{stays, leaves_not, leaves}
 use Rattle.ad_needs.proofs.renaming.unless_moves.Goals as goal
@@ -19,9 +20,10 @@ returns-in-Some c =
 pub returns : goal.returns
 returns c =
     if_ok c.unless_granted.result
-    (λ found is. leaves c.args.dir.now c.args.token.now c.args.number c.args.parent (guids_of c.class_path.result)
-    found (λ e. c.if-parent_of-parent.false (c.parent_of.ensures.parent ∙ e))
-    (c.class_path.ensures ∙ ap (λ (s : List SchemaRecord). class_path s c.class_of.result.0) c.schema.ensures
-    ∙ ap (class_path c.args.dir.now.schema) c.class_of.ensures.class)
+    (λ found is. leaves c.args.dir.now c.args.token.now c.args.number c.args.parent
+    (asked c.on_children-create.result) found (λ e. c.if-parent_of-parent.false (c.parent_of.ensures.parent ∙ e))
+    (c.on_children-create.ensures.asked
+    ∙ ap (λ (class : ℕ). needs c.args.parent create_child (class_path c.args.dir.now.schema class))
+    c.class_of.ensures.class)
     (rw c.in_default.is at c.in_ok-refusal.ensures) is)
     c.unless_granted.ensures

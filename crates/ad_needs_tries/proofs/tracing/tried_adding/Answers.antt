@@ -17,6 +17,6 @@ class_of_new-requires c = (add_reaches c.args.dir.now c.args.token.now c.args.ad
 pub returns : goal.returns
 returns c =
     adding_tried c.args.dir.now c.args.token.now c.args.add.now c.args.settings.now c.in_ok-parent.parent
-    c.in_ok-class.class.0 c.in_ok-sd.sd c.new-tried.result.items c.try_add.new.into.items c.in_ok-met.met
+    c.in_ok-class.class.0 c.in_ok-sd.sd c.new-tried.result.items c.try_add.new.into.items c.in_ok-try_add.field-0
     c.in_ok-parent.ensures.number c.in_ok-class.ensures.class c.in_ok-sd.ensures c.new-tried.ensures.items
-    c.in_ok-met.ensures
+    c.in_ok-try_add.ensures

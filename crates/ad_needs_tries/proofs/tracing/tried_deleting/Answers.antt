@@ -19,5 +19,5 @@ try_delete-requires-clause-below c =
 pub returns : goal.returns
 returns c =
     deleting_tried c.args.dir.now c.args.token.now c.args.text.now c.args.settings.now c.in_ok-number.number
-    c.new-tried.result.items c.try_delete.new.into.items c.in_ok-met.met
-    c.in_ok-number.ensures.number c.new-tried.ensures.items c.in_ok-met.ensures
+    c.new-tried.result.items c.try_delete.new.into.items c.in_ok-try_delete.field-0
+    c.in_ok-number.ensures.number c.new-tried.ensures.items c.in_ok-try_delete.ensures

@@ -13,6 +13,6 @@ found-requires-clause-seen c = rw c.as_slice.ensures
 pub returns : goal.returns
 returns c =
     modifying_tried c.args.dir.now c.args.token.now c.args.modify.now c.args.settings.now c.in_ok-number.number
-    c.new-tried.result.items c.try_modify.new.into.items c.in_ok-met.met
+    c.new-tried.result.items c.try_modify.new.into.items c.in_ok-try_modify.field-0
     (rw c.as_slice.ensures at c.in_ok-number.ensures.number) c.new-tried.ensures.items
-    (rw c.as_slice-items.ensures at c.in_ok-met.ensures)
+    (rw c.as_slice-items.ensures at c.in_ok-try_modify.ensures)

@@ -28,6 +28,6 @@ try_rename-requires-clause-below c =
 pub returns : goal.returns
 returns c =
     renaming_tried c.args.dir.now c.args.token.now c.args.rename.now c.args.settings.now c.in_ok-number.number
-    c.in_ok-parent.parent c.new-tried.result.items c.try_rename.new.into.items c.in_ok-met.met
+    c.in_ok-parent.parent c.new-tried.result.items c.try_rename.new.into.items c.in_ok-try_rename.field-0
     (rw c.as_slice.ensures at c.in_ok-number.ensures.number) c.in_ok-parent.ensures.number c.new-tried.ensures.items
-    c.in_ok-met.ensures
+    c.in_ok-try_rename.ensures

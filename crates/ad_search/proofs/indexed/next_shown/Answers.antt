@@ -1,6 +1,6 @@
-use Rattle.std.proofs.Common.{subst}
+use Rattle.std.proofs.Common.{Bool, false, subst, ◌∙◌}
 use Rattle.ad_search.specs.Indexed.{IsNamedBy}
-use Rattle.ad_search.proofs.IndexLaws.{stored_shown, named_shown}
+use Rattle.ad_search.proofs.IndexLaws.{name_shown, stored_shown, named_shown}
 use Rattle.ad_search.proofs.indexed.next_shown.Goals as goal
 
 pub returns-then-sought : goal.returns-then-sought
@@ -8,11 +8,26 @@ returns-then-sought c =
     let dir = c.args.dir.now in
     let sought = c.args.sought.now in
     record {
-      is_above = c.lesser.ensures.above c.args.above c.next_with-stores.ensures.is_above c.next_named.ensures.is_above;
-      none = λ n live more before ordinary named.
+      is_above = c.next_named.ensures.is_above;
+      none = λ n live more before ordinary name named.
+          name_shown dir sought.attr.0 sought.key c.args.above c.stands.ensures c.next_named.result n
+          c.next_named.ensures ordinary (name ∙ c.if-sought.true)
+          (subst (λ (b : Bool). IsNamedBy dir.schema sought.attr.0 b sought.by_name) c.if-sought.true named) live more
+          before;
+    }
+
+pub returns-then-sought-2 : goal.returns-then-sought-2
+returns-then-sought-2 c =
+    let dir = c.args.dir.now in
+    let sought = c.args.sought.now in
+    record {
+      is_above = c.lesser.ensures.above c.args.above c.next_with-stores.ensures.is_above
+          c.next_named-then-sought-2.ensures.is_above;
+      none = λ n live more before ordinary name named.
           named_shown dir sought.attr.0 sought.key c.args.above c.stands.ensures c.next_with-stores.result
-          c.next_named.result n c.next_with-stores.ensures c.next_named.ensures ordinary
-          (subst (IsNamedBy dir.schema sought.attr.0) c.if-sought.true named) live more
+          c.next_named-then-sought-2.result n c.next_with-stores.ensures c.next_named-then-sought-2.ensures ordinary
+          (subst (IsNamedBy dir.schema sought.attr.0 false) c.if-sought-2.true
+          (subst (λ (b : Bool). IsNamedBy dir.schema sought.attr.0 b sought.by_name) c.if-sought.false named)) live more
           (c.lesser.ensures.first n before) (c.lesser.ensures.second n before);
     }
 
@@ -22,8 +37,10 @@ returns c =
     let sought = c.args.sought.now in
     record {
       is_above = c.next_with-stores.ensures.is_above;
-      none = λ n live more before ordinary named.
+      none = λ n live more before ordinary name named.
           stored_shown dir sought.attr.0 sought.key c.args.above c.stands.ensures c.next_with-stores.result n
-          c.next_with-stores.ensures ordinary
-          (subst (IsNamedBy dir.schema sought.attr.0) c.if-sought.false named) live more before;
+          c.next_with-stores.ensures ordinary (name ∙ c.if-sought.false)
+          (subst (IsNamedBy dir.schema sought.attr.0 false) c.if-sought-2.false
+          (subst (λ (b : Bool). IsNamedBy dir.schema sought.attr.0 b sought.by_name) c.if-sought.false named)) live more
+          before;
     }

@@ -6,6 +6,4 @@ returns c = λ so. record {
   no_class = sym c.is_named.ensures ∙ c.if-is_named.false;
   no_dn
       = sym c.is_named-else-is_named.ensures ∙ c.if-is_named-2.false;
-  no_name = sym c.is_named-else-is_named-2.ensures
-      ∙ c.if-is_named-3.false;
 }

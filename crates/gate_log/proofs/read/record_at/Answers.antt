@@ -7,12 +7,11 @@ pub returns-clause-record : goal.returns-clause-record
 returns-clause-record c =
     let first = c.in-Some.ensures in
     let split = c.split_at.ensures in
-    let copied = c.in_ok-to_vec.ensures in
     let gate = c.if-gate-ne1.false in
     record_found c.args.rest.now c.in-Some.tail.now c.split_at.result.0.now c.split_at.result.1.now
-    c.in_ok-to_vec.field-0.items c.in-Some.gate.now c.number_of-length.result
+    c.of.result c.in-Some.gate.now c.number_of-length.result
     first.cases.0 gate split.front split.back (omega (arith, c.if-tail-lt8.false)) c.number_of-length.ensures
-    (omega (arith, c.if-length-behind.false)) (copied.items_if_clones_equal (λ x y same. same))
+    (omega (arith, c.if-length-behind.false)) c.of.ensures
 
 pub returns-in_default-clause-broken : goal.returns-in_default-clause-broken
 returns-in_default-clause-broken c = λ is bodies. none_in_none bodies c.args.rest.now

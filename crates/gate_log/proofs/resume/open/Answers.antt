@@ -10,4 +10,4 @@ returns-clause-broken g c = λ is.
     c.args.generation end bodies → ⊥) c.args.live (g.S.Site.reads c.args.site.now) c.in_ok-bytes.bytes.items
     c.in_ok-bytes.ensures.bytes
     (subst (λ bytes. (end : ℕ) (bodies : List (List ℕ)) → HasRecords bytes (number_of c.args.version)
-    c.args.generation end bodies → ⊥) c.deref.ensures.value (c.live_log.ensures.broken is))
+    c.args.generation end bodies → ⊥) c.as_slice.ensures.value (c.live_log.ensures.broken is))

@@ -23,14 +23,16 @@ returns-in_err-dir-clause-opened g c =
     let the_store = c.in_ok-store.store in
     let p = err_from_is_err_and c.from_residual-in_err-dir.result c.from_residual-in_err-dir.ensures.1 in
     rows_opened r the_store (table_of c.in_ok-store.rows.items) c.in_err-dir.field-0.0 p.0
-    c.from_residual-in_err-dir.result p.1 p.2 c.in_err-dir.ensures.told c.in_ok-store.ensures.rows
+    c.from_residual-in_err-dir.result p.1 p.2 (rw c.deref.ensures.value at c.in_err-dir.ensures.told)
+    c.in_ok-store.ensures.rows
 
 pub returns-in_err-dir-clause-only : goal.returns-in_err-dir-clause-only
 returns-in_err-dir-clause-only g c =
     let r = g.S.Site.reads c.args.site.now in
     let p = err_from_is_err_and c.from_residual-in_err-dir.result c.from_residual-in_err-dir.ensures.1 in
     let say = rows_say (table_of c.in_ok-store.rows.items) c.in_err-dir.field-0.0 p.0
-    c.from_residual-in_err-dir.result p.1 p.2 c.in_err-dir.ensures.row c.in_err-dir.ensures.unsound in
+    c.from_residual-in_err-dir.result p.1 p.2 (rw c.deref.ensures.value at c.in_err-dir.ensures.row)
+    (rw c.deref.ensures.value at c.in_err-dir.ensures.unsound) in
     has_rows r c.in_ok-store.store (table_of c.in_ok-store.rows.items) c.from_residual-in_err-dir.result say
     c.in_ok-store.ensures.rows
     (told_not_empty _ _ r c.in_ok-store.ensures.complete_empty)
@@ -39,22 +41,23 @@ pub returns-clause-opened : goal.returns-clause-opened
 returns-clause-opened g c =
     let r = g.S.Site.reads c.args.site.now in
     opened r c.in_ok-store.store (table_of c.in_ok-store.rows.items) c.in_ok-dir.dir c.in_ok-store.ensures.rows
-    c.in_ok-dir.ensures.rows c.in_ok-dir.ensures.sound
+    (rw c.deref.ensures.value at c.in_ok-dir.ensures.rows) c.in_ok-dir.ensures.sound
 
 pub returns-clause-only : goal.returns-clause-only
 returns-clause-only g c =
     let r = g.S.Site.reads c.args.site.now in
-    has_read r c.in_ok-store.store c.in_ok-store.rows.items c.in_ok-dir.dir _ c.in_ok-dir.ensures.row
-    c.in_ok-dir.ensures.unsound
+    has_read r c.in_ok-store.store c.in_ok-store.rows.items c.in_ok-dir.dir _
+    (rw c.deref.ensures.value at c.in_ok-dir.ensures.row)
+    (rw c.deref.ensures.value at c.in_ok-dir.ensures.unsound)
     c.in_ok-store.ensures.rows (told_not_empty _ _ r c.in_ok-store.ensures.complete_empty)
 
 pub returns-clause-stands : goal.returns-clause-stands
 returns-clause-stands g c =
     λ _. record {
       sound = c.in_ok-dir.ensures.sound;
-      held = holds_dir _ (g.S.Site.reads c.args.site.now) (g.S.Site.reads c.resume.new.site)
+      held = holds_dir _ (g.S.Site.reads c.args.site.now) (g.S.Site.reads c.resume_in.new.site)
           (table_of c.in_ok-store.rows.items) c.in_ok-store.ensures.outside.held c.in_ok-store.ensures.rows
-          c.in_ok-dir.ensures.rows;
+          (rw c.deref.ensures.value at c.in_ok-dir.ensures.rows);
       unspent = c.in_ok-store.ensures.unspent;
       store = c.in_ok-store.ensures.stands;
     }

@@ -4,7 +4,7 @@ use Rattle.std.proofs.lemmas.List.{at_drop_all}
 use Rattle.std.proofs.lemmas.Result.{err_from_is_err_and}
 use Rattle.ad_rows.specs.Taking.{parts_of, with_rows}
 use Rattle.ad_rows.proofs.Loops.{here, if_all, rows_stop, rows_on, rows_end}
-use Rattle.ad_rows.proofs.row_source.RefSliceRowRowSource.take_in.Goals as goal
+use Rattle.ad_rows.proofs.all_rows.take_in.Goals as goal
 
 pub loop-row-init : goal.loop-row-init
 loop-row-init c = (if_all _ (option_copied c.args.schema) (λ s has. has), refl)
@@ -12,7 +12,7 @@ loop-row-init c = (if_all _ (option_copied c.args.schema) (λ s has. has), refl)
 pub returns-in_err-take_row-clause-parts : goal.returns-in_err-take_row-clause-parts
 returns-in_err-take_row-clause-parts c =
     let schema = option_copied c.args.schema in
-    let rows = c.args.self.now in
+    let rows = c.args.rows.now in
     let parts = parts_of c.loop-row.taken in
     let total = with_rows schema (parts_of c.args.taken.now) rows in
     let i = c.loop-row.row-index in
@@ -25,7 +25,7 @@ returns-in_err-take_row-clause-parts c =
 pub loop-row-preserved : goal.loop-row-preserved
 loop-row-preserved c =
     let schema = option_copied c.args.schema in
-    let rows = c.args.self.now in
+    let rows = c.args.rows.now in
     let old = c.loop-row.taken in
     let x = c.row-item.result in
     let total = with_rows schema (parts_of c.args.taken.now) rows in
@@ -37,7 +37,7 @@ loop-row-preserved c =
 pub returns-clause-parts : goal.returns-clause-parts
 returns-clause-parts c =
     let schema = option_copied c.args.schema in
-    let rows = c.args.self.now in
+    let rows = c.args.rows.now in
     let parts = parts_of c.loop-row.taken in
     rows_end schema [] parts (with_rows schema (parts_of c.args.taken.now) rows) refl
     (sym (at_drop_all (with_rows schema parts) rows c.loop-row.row-index c.loop-row-test.false)
