@@ -30,7 +30,7 @@ left_at (y ∷ xs) ys (suc i) x there = left_at xs ys i x there
 
 pub more_at : {A : Type 0} (old new more : List A) (i : ℕ) (x : A) → new ≡ old ++ more → slice_get old i ≡ Some x
     → slice_get new i ≡ Some x
-more_at old new more i x are there = ap (λ (l : List _). slice_get l i) are ∙ left_at old more i x there
+more_at {A} old new more i x are there = ap (λ (l : List A). slice_get l i) are ∙ left_at old more i x there
 
 pub last_at : {A : Type 0} (xs : List A) (x : A) → slice_get (xs ++ (x ∷ [])) (length xs) ≡ Some x
 last_at [] x = refl
@@ -38,8 +38,8 @@ last_at (y ∷ ys) x = last_at ys x
 
 pub last_in : {A : Type 0} (old new : List A) (x : A) (i : ℕ) → new ≡ old ++ (x ∷ []) → i ≡ length old
     → slice_get new i ≡ Some x
-last_in old new x i are same =
-    ap (λ (l : List _). slice_get l i) are ∙ ap (slice_get (old ++ (x ∷ []))) same ∙ last_at old x
+last_in {A} old new x i are same =
+    ap (λ (l : List A). slice_get l i) are ∙ ap (slice_get (old ++ (x ∷ []))) same ∙ last_at old x
 
 pub last_cases : {A : Type 0} (xs : List A) (x y : A) (i : ℕ) → slice_get (xs ++ (x ∷ [])) i ≡ Some y
     → (slice_get xs i ≡ Some y) ⊎ ((i ≡ length xs) × (x ≡ y))
