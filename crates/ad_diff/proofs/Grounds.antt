@@ -1,16 +1,18 @@
 -- What is known before objects are looked at one by one: families, kinds and their lines.
 use Rattle.std.proofs.Common.{◌≡◌, ◌∙◌, ◌<◌, ◌+◌, ℕ, true, false, List, [], ◌∷◌, ◌++◌, length, map, get_or, refl, sym, ap}
 use Rattle.std.proofs.Common.{subst, arith, Bool, Option, Some, None, inl, inr}
-use Rattle.std.specs.Prelude.{All, slice_get, ◌==◌, ◌&&◌, ◌≢◌}
+use Rattle.std.specs.Prelude.{All, slice_get, ◌==◌, ◌&&◌, ◌||◌, ◌≢◌, cond}
 use Rattle.std.specs.Option.{option_map_or}
 use Rattle.std.proofs.lemmas.Bool.{cases_Bool, false≢true, or_left, or_right}
 use Rattle.std.proofs.lemmas.Bool.Decides.{Decides-eqb}
 use Rattle.std.proofs.lemmas.List.{append-nil}
+use Rattle.std.proofs.lemmas.List.Folds.{list_any-append}
 use Rattle.std.proofs.lemmas.List.Elements.{All-append, All-cons, All-nil}
 use Rattle.std.proofs.lemmas.Option.{same_Some, get_or_from_slice_get, slice_get_within}
-use Rattle.indexmap.specs.IndexMap.{IndexMap}
+use Rattle.indexmap.specs.IndexMap.{IndexMap, get}
 use Rattle.std.specs.Global.{Vec}
-use Rattle.ad_ids.specs.SidValue.{SidValue}
+use Rattle.ad_ids.specs.SidValue.{SidValue, same_sid}
+use Rattle.ad_ids.proofs.SidLaws.{same_sid-Decides}
 use Rattle.ad_ids.specs.declared.token.Token.{Token}
 use Rattle.ad_access.specs.Holder.{first_holder, holds}
 use Rattle.ad_dir_model.specs.Directory.{Directory}
@@ -177,6 +179,34 @@ not_holder table parties first (Some sid) place party all here none =
     elim (cases_Bool (holds (first_holder (token_in first party)) sid)) [
       | inl is ↦ absurd (false≢true (sym none ∙ all place party sid (slice_get_within parties place party here) here is))
       | inr not ↦ not
+    ]
+
+or_false : (b : Bool) → (b || false) ≡ b
+or_false false = refl
+or_false true = refl
+
+-- one more place of an identifier that has some
+pub gains_one : {S T : Type 0} (old : IndexMap SidValue (Vec ℕ) S) (new : IndexMap SidValue (Vec ℕ) T)
+    (sid : SidValue) (place : ℕ) (was is : Vec ℕ) → get same_sid old sid ≡ Some was
+    → is.items ≡ was.items ++ (place ∷ [])
+    → ((s : SidValue) → get same_sid new s ≡ cond (same_sid sid s) (Some is) (get same_sid old s))
+    → Gains (λ s p. same_sid sid s && place == p) (listed old) (listed new)
+gains_one old new sid place was is there more updates s p =
+    let at = λ (found : Option (Vec ℕ)). has (option_map_or (λ (places : Vec ℕ). places.items) found []) p in
+    elim (cases_Bool (same_sid sid s)) [
+      | inl same ↦
+          let own : get same_sid old s ≡ Some was = ap (λ (x : SidValue). get same_sid old x)
+          (sym ((same_sid-Decides sid s).0 same)) ∙ there in
+          ap at (updates s ∙ ap (λ (b : Bool). cond b (Some is) (get same_sid old s)) same)
+          ∙ ap (λ (l : List ℕ). has l p) more
+          ∙ list_any-append (λ (other : ℕ). other == p) was.items (place ∷ [])
+          ∙ ap (λ (b : Bool). has was.items p || b) (or_false (place == p))
+          ∙ ap (λ (b : Bool). b || (place == p)) (sym (ap at own))
+          ∙ ap (λ (b : Bool). has (listed old s) p || (b && place == p)) (sym same)
+      | inr apart ↦
+          ap at (updates s ∙ ap (λ (b : Bool). cond b (Some is) (get same_sid old s)) apart)
+          ∙ sym (or_false (has (listed old s) p))
+          ∙ ap (λ (b : Bool). has (listed old s) p || (b && place == p)) (sym apart)
     ]
 
 -- one more principal

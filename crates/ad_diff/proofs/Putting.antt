@@ -47,8 +47,8 @@ put_lines frame old new place lines one updates =
     let by = λ (base : ℕ) (at : ℕ) (found : Option (Vec ℕ)). option_map_or (λ (l : Vec ℕ). l.items) found
     (base_at frame base at) in
     record {
-      own = ap (by new.family place) updates.1.0;
-      others = λ other apart. ap (by new.family other) (updates.1.1 other apart)
+      own = ap (by new.family place) updates.1;
+      others = λ other apart. ap (by new.family other) (updates.2 other apart)
           ∙ ap (λ (family : ℕ). by family other (get nat_eq old.others other)) one;
     }
 

@@ -9,11 +9,11 @@ pub loop-g-preserved : goal.loop-g-preserved
 loop-g-preserved c =
     let none : Grouped = record { both = record { before = 0; after = 0 }; group = 0 } in
     record {
-      members_are = c.in_ok-place.ensures.members
+      members_are = c.in_ok-group.ensures.members
           ∙ ap (λ (all : List Both). all ++ ((get_or c.args.objects.now c.loop-g.g-index none).both ∷ []))
           c.loop-g.invariant.members_are
           ∙ sym (map-append (λ (g : Grouped). g.both) (take c.loop-g.g-index c.args.objects.now)
           (get_or c.args.objects.now c.loop-g.g-index none ∷ []))
           ∙ ap members (sym (take_more c.args.objects.now c.loop-g.g-index none c.loop-g-test.true));
-      placed = c.in_ok-place.ensures.placed;
+      placed = c.in_ok-group.ensures.placed;
     }

@@ -1,4 +1,6 @@
-use Rattle.std.proofs.Common.{subst, get_or}
+use Rattle.std.proofs.Common.{subst}
+use Rattle.std.specs.Prelude.{All}
+use Rattle.std.proofs.lemmas.List.{take_all}
 use Rattle.std.proofs.lemmas.List.Elements.{All-more}
 use Rattle.ad_diff.specs.declared.both.Both.{Both}
 use Rattle.ad_diff.specs.Kinds.{IsNamedBoth}
@@ -13,3 +15,7 @@ loop-o-preserved c =
     (λ i d lt. named_still c.args.before.now c.args.after.now c.loop-o.named.keys c.name_both.new.named.keys _
     c.in_ok-name_both.ensures.grows (c.loop-o.invariant i d lt))
     c.in_ok-name_both.ensures.there
+
+pub returns : goal.returns
+returns c = subst (All (IsNamedBoth c.args.before.now c.args.after.now c.loop-o.named.keys))
+    (take_all c.loop-o.o-index c.args.objects.now c.loop-o-test.false) c.loop-o.invariant
