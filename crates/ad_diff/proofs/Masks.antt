@@ -7,20 +7,18 @@ use Rattle.std.proofs.lemmas.List.Elements.{All-from_recursion}
 use Rattle.std.specs.Prelude.{All, ◌&&◌, codes, slice_get, Option, None, Some, if◌then◌else◌}
 use Rattle.std.specs.Option.{option_map_or}
 use Rattle.ad_ids.specs.declared.guid.Guid.{Guid}
-use Rattle.ad_ids.specs.declared.token.Token.{Token}
 use Rattle.ad_acl.specs.Mask.{has_bit, mapped_has}
 use Rattle.ad_schema.specs.declared.info.AttrId.{AttrId}
 use Rattle.ad_schema.specs.declared.info.AttrInfo.{AttrInfo}
 use Rattle.ad_schema.specs.declared.info.ClassId.{ClassId}
 use Rattle.ad_schema.specs.Attributes.{attrs_of}
 use Rattle.ad_types.specs.TypesOf.{path_of}
-use Rattle.ad_dir_model.specs.Directory.{Directory}
-use Rattle.ad_access_dir.specs.Sight.{is_granted}
+use Rattle.ad_schema.specs.declared.line.SchemaRecord.{SchemaRecord}
 use Rattle.ad_access_dir.specs.Masks.{IsMask}
 use Rattle.ad_dsacls.specs.Effective.{label_of}
 use Rattle.ad_diff.specs.declared.codes.Code.{Code}
 use Rattle.ad_diff.specs.Rights.{label_if, labels, object_codes, attribute_codes, extended_codes, validated_codes}
-use Rattle.ad_diff.specs.Rights.{child_codes, attribute_labels, grants_at}
+use Rattle.ad_diff.specs.Rights.{child_codes, attribute_labels}
 use Rattle.ad_diff.specs.Steps.{AreWanted, masked_attribute}
 
 pub labels_are : (want mask : ℕ) (grants : ℕ → Bool) (kind : List ℕ) (all : List Code) → IsMask want grants mask
@@ -34,11 +32,6 @@ labels_are want mask grants kind (code ∷ others) is wanted =
     ap (λ (b : Bool). (if b then (kind ++ code.letters) ∷ [] else []) ++ labels (has_bit mask) kind others) bit
     ∙ ap (λ (rest : List (List ℕ)). label_if grants kind code ++ rest)
     (labels_are want mask grants kind others is (λ i d lt. wanted (suc i) d (omega (arith, lt))))
-
-pub at_grants : (dir : Directory) (token : Token) (number want mask : ℕ) (path : List Guid)
-    → IsMask want (is_granted dir token number path) mask → IsMask want (grants_at dir token number path) mask
-unfolding is_granted
-at_grants dir token number want mask path is = record { bits = is.bits }
 
 -- ---- each code is asked for
 
@@ -102,21 +95,20 @@ low want all wanted i d lt = (wanted i d lt).0
 
 -- ---- an attribute
 
-pub masked_is : (dir : Directory) (token : Token) (number : ℕ) (class : ClassId) (id : AttrId) (mask : ℕ)
-    → IsMask 0x130 (is_granted dir token number (path_of dir.schema class id)) mask
-    → masked_attribute dir.schema id mask ≡ attribute_labels dir.schema (grants_at dir token number) class id
+pub masked_is : (schema : List SchemaRecord) (grants : List Guid → ℕ → Bool) (class : ClassId) (id : AttrId) (mask : ℕ)
+    → IsMask 0x130 (grants (path_of schema class id)) mask
+    → masked_attribute schema id mask ≡ attribute_labels schema grants class id
 unfolding masked_attribute attribute_labels
-masked_is dir token number class id mask is = by_info (slice_get (attrs_of dir.schema) id.0)
+masked_is schema grants class id mask is = by_info (slice_get (attrs_of schema) id.0)
   where
     by_info : (found : Option AttrInfo)
         → option_map_or (λ (info : AttrInfo). labels (has_bit mask) (label_of (codes "attribute ") info.name)
         attribute_codes) found []
-        ≡ option_map_or (λ (info : AttrInfo). labels (grants_at dir token number (path_of dir.schema class id))
+        ≡ option_map_or (λ (info : AttrInfo). labels (grants (path_of schema class id))
         (label_of (codes "attribute ") info.name) attribute_codes) found []
     by_info None = refl
-    by_info (Some info) = labels_are 0x130 mask (grants_at dir token number (path_of dir.schema class id))
-        (label_of (codes "attribute ") info.name) attribute_codes
-        (at_grants dir token number 0x130 mask (path_of dir.schema class id) is) attribute_wanted
+    by_info (Some info) = labels_are 0x130 mask (grants (path_of schema class id))
+        (label_of (codes "attribute ") info.name) attribute_codes is attribute_wanted
 
 -- ---- labels that grow
 

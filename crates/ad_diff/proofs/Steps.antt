@@ -1,34 +1,24 @@
--- A column without a principal at a place.
-use Rattle.std.proofs.Common.{◌≡◌, ◌∙◌, ℕ, zero, suc, List, [], ◌∷◌, None, get_or, map, refl, sym}
+-- The text of columns, and of pieces.
+use Rattle.std.proofs.Common.{◌≡◌, ◌∙◌, ℕ, List, [], get_or, map, sym}
 use Rattle.std.proofs.Common.{◌<◌, ◌+◌, ◌++◌, length, take, ap, arith, append_assoc}
-use Rattle.std.specs.Prelude.{slice_get}
 use Rattle.std.proofs.lemmas.List.{map_more, length-map, length-take-le}
 use Rattle.ad_diff.specs.Text.{cell_text, row_text, table_text}
-use Rattle.ad_diff.specs.Steps.{row_of}
 use Rattle.ad_diff.proofs.Texts.{row_more, table_more}
-use Rattle.std.proofs.lemmas.Option.{none-some}
 use Rattle.ad_diff.specs.declared.columns.Column.{Column}
-use Rattle.ad_diff.specs.Steps.{kind_at, all_lines, lines_at}
-
-no_text : (f : ℕ → List ℕ) (ids : List ℕ) (place : ℕ) → slice_get ids place ≡ None → get_or (map f ids) place [] ≡ []
-no_text f [] place none = refl
-no_text f (id ∷ ids) zero none = absurd (none-some id (sym none))
-no_text f (id ∷ ids) (suc place) none = no_text f ids place none
-
-pub no_lines : (column : Column) (place : ℕ) → slice_get column.ids.items place ≡ None → lines_at column place ≡ []
-unfolding all_lines
-no_lines column place none = no_text (kind_at column.kinds.items) column.ids.items place none
+use Rattle.ad_diff.specs.declared.bases.Frame.{Frame}
+use Rattle.ad_diff.specs.Frames.{lines_at}
+use Rattle.ad_diff.specs.Table.{row_of}
 
 -- ---- the text of columns
 
-pub row_step : (objects k principals : ℕ) (column : Column) (leaders : List ℕ) (before mid after line : List ℕ)
+pub row_step : (objects k principals : ℕ) (frame : Frame) (column : Column) (leaders : List ℕ) (before mid after line : List ℕ)
     → k < length leaders
-    → mid ≡ before ++ row_text objects 1 (map (λ (leader : ℕ). lines_at column leader) (take k leaders))
-    → principals ≡ k + 1 → line ≡ lines_at column (get_or leaders k 0)
+    → mid ≡ before ++ row_text objects 1 (map (λ (leader : ℕ). lines_at frame column leader) (take k leaders))
+    → principals ≡ k + 1 → line ≡ lines_at frame column (get_or leaders k 0)
     → after ≡ mid ++ cell_text objects principals line
-    → after ≡ before ++ row_text objects 1 (map (λ (leader : ℕ). lines_at column leader) (take (k + 1) leaders))
-row_step objects k principals column leaders before mid after line lt is count same put =
-    let f = λ (leader : ℕ). lines_at column leader in
+    → after ≡ before ++ row_text objects 1 (map (λ (leader : ℕ). lines_at frame column leader) (take (k + 1) leaders))
+row_step objects k principals frame column leaders before mid after line lt is count same put =
+    let f = λ (leader : ℕ). lines_at frame column leader in
     let row = map f (take k leaders) in
     let few : length row ≡ k = length-map (take k leaders) f ∙ length-take-le k leaders (omega (arith, lt)) in
     let own : principals ≡ 1 + length row = omega (arith, count, few) in
@@ -39,15 +29,15 @@ row_step objects k principals column leaders before mid after line lt is count s
     ∙ ap (λ (t : List ℕ). before ++ t) (sym (row_more objects 1 principals row (f (get_or leaders k 0)) own))
     ∙ ap (λ (all : List (List ℕ)). before ++ row_text objects 1 all) (sym (map_more f leaders k 0 lt))
 
-pub table_step : (i objects : ℕ) (leaders : List ℕ) (columns : List Column) (column : Column)
+pub table_step : (i objects : ℕ) (frame : Frame) (leaders : List ℕ) (columns : List Column) (column : Column)
     (before mid after : List ℕ) → i < length columns
-    → mid ≡ before ++ table_text 1 (map (λ (c : Column). row_of leaders (all_lines c)) (take i columns))
+    → mid ≡ before ++ table_text 1 (map (λ (c : Column). row_of leaders (lines_at frame c)) (take i columns))
     → objects ≡ i + 1 → column ≡ get_or columns i column
-    → after ≡ mid ++ row_text objects 1 (map (λ (leader : ℕ). lines_at column leader) leaders)
-    → after ≡ before ++ table_text 1 (map (λ (c : Column). row_of leaders (all_lines c)) (take (i + 1) columns))
+    → after ≡ mid ++ row_text objects 1 (map (λ (leader : ℕ). lines_at frame column leader) leaders)
+    → after ≡ before ++ table_text 1 (map (λ (c : Column). row_of leaders (lines_at frame c)) (take (i + 1) columns))
 unfolding row_text
-table_step i objects leaders columns column before mid after lt is count same put =
-    let f = λ (c : Column). row_of leaders (all_lines c) in
+table_step i objects frame leaders columns column before mid after lt is count same put =
+    let f = λ (c : Column). row_of leaders (lines_at frame c) in
     let rows = map f (take i columns) in
     let few : length rows ≡ i = length-map (take i columns) f ∙ length-take-le i columns (omega (arith, lt)) in
     let own : objects ≡ 1 + length rows = omega (arith, count, few) in

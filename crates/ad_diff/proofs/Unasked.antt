@@ -13,7 +13,7 @@ use Rattle.ad_access.specs.Holder.{Holder, first_holder, second_holder, answers_
 use Rattle.ad_access.specs.Matching.{answers_to_self, matches, speaks}
 use Rattle.ad_access.specs.Grant.{decides, is_allow, granted_by_entries, granted_as_owner, granted_to}
 use Rattle.ad_access.specs.Grant.{granted}
-use Rattle.ad_diff.specs.Steps.{is_for_self}
+use Rattle.ad_diff.specs.Own.{is_for_self}
 
 matches_any : (e : Entry) (holder : Holder) (self other : Option SidValue) (owner : SidValue) → is_for_self e ≡ false
     → matches e holder self owner ≡ matches e holder other owner

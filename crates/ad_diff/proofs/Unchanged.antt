@@ -1,5 +1,5 @@
 -- Where nothing of a principal and an object differs, no line says that anything does.
-use Rattle.std.proofs.Common.{◌≡◌, ◌∙◌, ℕ, Bool, true, false, List, [], ◌∷◌, ◌++◌, Option, refl, sym, ap, append_assoc}
+use Rattle.std.proofs.Common.{◌≡◌, ◌∙◌, ℕ, Bool, true, false, List, [], ◌∷◌, ◌++◌, Option, None, refl, sym, ap, append_assoc}
 use Rattle.std.specs.Prelude.{◌||◌, if◌then◌else◌, codes}
 use Rattle.std.specs.List.{flat_map, list_any}
 use Rattle.std.specs.Str.{bytes_eq}
@@ -10,12 +10,12 @@ use Rattle.ad_sd.specs.declared.parts.Sd.{Sd}
 use Rattle.ad_schema.specs.declared.line.SchemaRecord.{SchemaRecord}
 use Rattle.ad_dir_model.specs.Directory.{Directory}
 use Rattle.ad_dir_model.specs.Objects.{object_at, sd_at}
-use Rattle.ad_dir_model.specs.Identity.{self_sid}
 use Rattle.ad_diff.specs.Words.{labelled}
 use Rattle.ad_diff.specs.declared.both.Both.{Both}
 use Rattle.ad_diff.specs.declared.tokens.Party.{Party}
-use Rattle.ad_diff.specs.Rights.{rights_by, grants_by, rights}
-use Rattle.ad_diff.specs.Changes.{has_label, line_unless, lines_without, change_lines, changes}
+use Rattle.ad_diff.specs.Rights.{rights_by, grants_by}
+use Rattle.ad_diff.specs.Changes.{has_label, line_unless, lines_without, change_lines}
+use Rattle.ad_diff.specs.Own.{own_sid, rights_in, changes_in}
 use Rattle.ad_diff.specs.Same.{IsUnchanged, IsSteady}
 
 -- ---- equal lists have no lines
@@ -56,27 +56,28 @@ no_change all =
 
 -- ---- equal rights
 
-one_right : (before after : Directory) (was is : Token) (o : Both) → before.schema ≡ after.schema → was ≡ is
-    → IsUnchanged before after o → rights before was o.before ≡ rights after is o.after
-unfolding rights
-one_right before after was is o one_schema one_token same =
+one_right : (before after : Directory) (was is : Token) (own : Bool) (o : Both) → before.schema ≡ after.schema
+    → was ≡ is → IsUnchanged before after o → rights_in before was own o.before ≡ rights_in after is own o.after
+unfolding rights_in
+one_right before after was is own o one_schema one_token same =
     ap (λ (schema : List SchemaRecord). rights_by schema
-    (grants_by (sd_at before.objects o.before) was (self_sid before o.before))
+    (grants_by (sd_at before.objects o.before) was (own_sid before own o.before))
     (record { 0 = (object_at before.objects o.before).class })) one_schema
     ∙ ap (λ (token : Token). rights_by after.schema
-    (grants_by (sd_at before.objects o.before) token (self_sid before o.before))
+    (grants_by (sd_at before.objects o.before) token (own_sid before own o.before))
     (record { 0 = (object_at before.objects o.before).class })) one_token
-    ∙ ap (λ (sd : Sd). rights_by after.schema (grants_by sd is (self_sid before o.before))
+    ∙ ap (λ (sd : Sd). rights_by after.schema (grants_by sd is (own_sid before own o.before))
     (record { 0 = (object_at before.objects o.before).class })) same.sd
-    ∙ ap (λ (self : Option SidValue). rights_by after.schema (grants_by (sd_at after.objects o.after) is self)
+    ∙ ap (λ (self : Option SidValue). rights_by after.schema
+    (grants_by (sd_at after.objects o.after) is (if own then self else None))
     (record { 0 = (object_at before.objects o.before).class })) same.self
     ∙ ap (λ (class : ℕ). rights_by after.schema
-    (grants_by (sd_at after.objects o.after) is (self_sid after o.after)) (record { 0 = class })) same.class
+    (grants_by (sd_at after.objects o.after) is (own_sid after own o.after)) (record { 0 = class })) same.class
 
-pub none_differs : (before after : Directory) (party : Party) (o : Both) → IsSteady before after party
-    → IsUnchanged before after o → changes before after party.was party.is o ≡ []
-unfolding changes
-none_differs before after party o steady same =
-    ap (λ (had : List (List ℕ)). change_lines had (rights after party.is o.after))
-    (one_right before after party.was party.is o steady.schema steady.token same)
-    ∙ no_change (rights after party.is o.after)
+pub none_differs : (before after : Directory) (party : Party) (own : Bool) (o : Both) → IsSteady before after party
+    → IsUnchanged before after o → changes_in before after party.was party.is own o ≡ []
+unfolding changes_in
+none_differs before after party own o steady same =
+    ap (λ (had : List (List ℕ)). change_lines had (rights_in after party.is own o.after))
+    (one_right before after party.was party.is own o steady.schema steady.token same)
+    ∙ no_change (rights_in after party.is own o.after)

@@ -8,49 +8,42 @@ use Rattle.ad_dir_model.specs.Directory.{Directory}
 use Rattle.ad_diff.specs.declared.both.Both.{Both}
 use Rattle.ad_diff.specs.declared.both.Grouped.{Grouped}
 use Rattle.ad_diff.specs.declared.tokens.Party.{Party}
+use Rattle.ad_diff.specs.declared.bases.Frame.{Frame}
 use Rattle.ad_diff.specs.declared.columns.Column.{Column}
 use Rattle.ad_diff.specs.Both.{are_principals, objects_of_both, principals_of_both}
-use Rattle.ad_diff.specs.Text.{members, principal_line, object_line, table_text, only_text, IsDiffText}
-use Rattle.ad_diff.specs.Steps.{IsLiveBoth, IsParty, all_lines, all_columns, ArePlaced, row_of, AreRows}
-use Rattle.ad_diff.proofs.Texts.{quiet_text}
+use Rattle.ad_diff.specs.Text.{members, principal_line, object_line, row_text, table_text, only_text, IsDiffText}
+use Rattle.ad_diff.specs.Steps.{IsLiveBoth, IsParty}
+use Rattle.ad_diff.specs.Frames.{lines_at}
+use Rattle.ad_diff.specs.Table.{ArePlaced, row_of, table_of, AreRows}
 use Rattle.ad_diff.proofs.Exact.{exact_all, none_of_objects, none_of_principals}
 
-rows_are : (leaders : List ℕ) (columns : List Column) → map (row_of leaders) (map all_lines columns)
-    ≡ map (λ (column : Column). row_of leaders (all_lines column)) columns
-rows_are leaders [] = refl
-rows_are leaders (column ∷ columns) =
-    ap (λ (rows : List (List (List ℕ))). row_of leaders (all_lines column) ∷ rows) (rows_are leaders columns)
+table_is : (frame : Frame) (columns : List Column) (leaders : List ℕ)
+    → table_text 1 (map (λ (column : Column). row_of leaders (lines_at frame column)) columns)
+    ≡ table_text 0 (table_of frame columns leaders)
+unfolding table_text row_text
+table_is frame columns leaders = refl
 
-table_is : (parties : List Party) (columns : List Column) (leaders : List ℕ)
-    → table_text 1 (map (λ (column : Column). row_of leaders (all_lines column)) columns)
-    ≡ table_text 0 (map (row_of leaders) (all_columns parties columns))
-unfolding table_text
-table_is parties columns leaders =
-    ap (table_text 1) (sym (rows_are leaders columns))
-    ∙ ap (λ (t : List ℕ). t ++ table_text 1 (map (row_of leaders) (map all_lines columns)))
-    (sym (quiet_text leaders parties))
-
-pub whole : (before after : Directory) (parties : List Party) (columns : List Column) (objects groups : List Grouped)
-    (leaders : List ℕ) (text : List ℕ)
+pub whole : (before after : Directory) (parties : List Party) (frame : Frame) (columns : List Column)
+    (objects groups : List Grouped) (leaders : List ℕ) (text : List ℕ)
     → map (λ (party : Party). party.both) parties ≡ members groups → All (IsParty before after) parties
-    → ArePlaced before after parties columns objects → AreRows columns leaders groups
+    → ArePlaced before after parties frame columns objects → AreRows frame columns leaders groups
     → members groups ≡ principals_of_both before after → members objects ≡ objects_of_both before after
     → text ≡ flat_map (principal_line after) groups ++ (flat_map (object_line after) objects
-    ++ (table_text 1 (map (λ (column : Column). row_of leaders (all_lines column)) columns)
+    ++ (table_text 1 (map (λ (column : Column). row_of leaders (lines_at frame column)) columns)
     ++ (only_text (codes "only before ") before after ++ only_text (codes "only after ") after before)))
     → IsDiffText before after text
-whole before after parties columns objects groups leaders text same are placed rows they_are things_are is = record {
+whole before after parties frame columns objects groups leaders text same are placed rows they_are things_are is = record {
   principals = groups;
   objects = objects;
-  table = map (row_of leaders) (all_columns parties columns);
+  table = table_of frame columns leaders;
   are_principals = they_are;
   are_objects = things_are;
-  exact = exact_all before after parties columns objects groups leaders same are placed rows;
-  unlisted_objects = λ k. none_of_objects parties columns leaders k;
-  unlisted_principals = λ l. none_of_principals parties columns leaders l;
+  exact = exact_all before after parties frame columns objects groups leaders same are placed rows;
+  unlisted_objects = λ k. none_of_objects frame columns leaders k;
+  unlisted_principals = λ l. none_of_principals frame columns leaders l;
   lines = is ∙ ap (λ (t : List ℕ). flat_map (principal_line after) groups ++ (flat_map (object_line after) objects
       ++ (t ++ (only_text (codes "only before ") before after ++ only_text (codes "only after ") after before))))
-      (table_is parties columns leaders);
+      (table_is frame columns leaders);
 }
 
 -- ---- those of both are live, and principals
@@ -76,26 +69,26 @@ placed_live before after objects gs live of_them =
     all_members (IsLiveBoth before after) gs (subst (All (IsLiveBoth before after)) (sym of_them) live)
 
 -- the same, where parts are seen as slices
-pub whole_seen : (before after : Directory) (parties ps : List Party) (columns cs cols : List Column)
+pub whole_seen : (before after : Directory) (parties ps : List Party) (frame : Frame) (columns cs cols : List Column)
     (objects os groups gs : List Grouped) (leaders ls : List ℕ) (principals things : List Both) (text : List ℕ)
     → ps ≡ parties → cs ≡ columns → cols ≡ columns → gs ≡ groups → os ≡ objects → ls ≡ leaders
     → map (λ (party : Party). party.both) parties ≡ principals → members groups ≡ principals
     → members objects ≡ things → All (IsParty before after) parties
-    → ArePlaced before after ps columns objects → AreRows cs leaders groups
+    → ArePlaced before after ps frame columns objects → AreRows frame cs leaders groups
     → principals ≡ principals_of_both before after → things ≡ objects_of_both before after
     → text ≡ flat_map (principal_line after) gs ++ (flat_map (object_line after) os
-    ++ (table_text 1 (map (λ (column : Column). row_of ls (all_lines column)) cols)
+    ++ (table_text 1 (map (λ (column : Column). row_of ls (lines_at frame column)) cols)
     ++ (only_text (codes "only before ") before after ++ only_text (codes "only after ") after before)))
     → IsDiffText before after text
-whole_seen before after parties ps columns cs cols objects os groups gs leaders ls principals things text same_ps
+whole_seen before after parties ps frame columns cs cols objects os groups gs leaders ls principals things text same_ps
     same_cs same_cols same_gs same_os same_ls both_are groups_are objects_are are placed rows they_are things_are is =
     let F = λ (g o : List Grouped) (c : List Column) (l : List ℕ). flat_map (principal_line after) g
     ++ (flat_map (object_line after) o
-    ++ (table_text 1 (map (λ (column : Column). row_of l (all_lines column)) c)
+    ++ (table_text 1 (map (λ (column : Column). row_of l (lines_at frame column)) c)
     ++ (only_text (codes "only before ") before after ++ only_text (codes "only after ") after before))) in
-    whole before after parties columns objects groups leaders text (both_are ∙ sym groups_are) are
-    (subst (λ (p : List Party). ArePlaced before after p columns objects) same_ps placed)
-    (subst (λ (c : List Column). AreRows c leaders groups) same_cs rows)
+    whole before after parties frame columns objects groups leaders text (both_are ∙ sym groups_are) are
+    (subst (λ (p : List Party). ArePlaced before after p frame columns objects) same_ps placed)
+    (subst (λ (c : List Column). AreRows frame c leaders groups) same_cs rows)
     (groups_are ∙ they_are) (objects_are ∙ things_are)
     (is ∙ ap (λ (x : List Grouped). F x os cols ls) same_gs
     ∙ ap (λ (x : List Grouped). F groups x cols ls) same_os

@@ -1,14 +1,13 @@
-//! Which objects are alike, so that no principal gains or loses on one what it doesn't on the other.
+//! Which objects are alike: but for their own identifiers no principal gains or loses on one what it doesn't on the other.
 
 ghost use Rattle.std.specs.Prelude.{◌≡◌, true, IfSome};
 ghost use Rattle.ad_dir_model.specs.Objects.{is_live};
 ghost use Rattle.ad_diff.specs.Steps.{IsAlike, IsAlikeIn, IsLiveBoth};
 
 use crate::both::Both;
-use crate::own::{is_same_own, names_self};
 use ad_dir::{Dir, class_of};
 
-// Whether two live objects have the same class and descriptor, and the same identifier where that counts.
+// Whether two live objects have the same class and descriptor.
 fn is_alike_in(dir: &Dir, a: u32, b: u32) -> bool
     requires a { is_live dir.now.objects a ≡ true }
     requires b { is_live dir.now.objects b ≡ true }
@@ -20,10 +19,10 @@ fn is_alike_in(dir: &Dir, a: u32, b: u32) -> bool
     if !dir.same_descriptor(a, b) {
         return false;
     }
-    is_same_own(dir, a, b)
+    true
 }
 
-/// Whether two objects have the same class and descriptor in each directory, and the same identifier where that counts.
+/// Whether two objects have the same class and descriptor in each directory.
 pub(crate) fn is_alike(before: &Dir, after: &Dir, a: Both, b: Both) -> bool
     requires a { IsLiveBoth before.now after.now a }
     requires b { IsLiveBoth before.now after.now b }
@@ -34,11 +33,16 @@ pub(crate) fn is_alike(before: &Dir, after: &Dir, a: Both, b: Both) -> bool
 
 // ---- where to look for one
 
-fn mixed(hash: u64, value: u64) -> u64 {
+/// The hash of nothing.
+pub(crate) const NOTHING: u64 = 0xcbf2_9ce4_8422_2325;
+
+/// A hash of one more number.
+pub(crate) fn mixed(hash: u64, value: u64) -> u64 {
     (hash ^ value).wrapping_mul(0x0000_0100_0000_01b3)
 }
 
-fn mixed_bytes(hash: u64, bytes: &[u8]) -> u64 {
+/// A hash of some bytes more.
+pub(crate) fn mixed_bytes(hash: u64, bytes: &[u8]) -> u64 {
     let mut hash = hash;
     for byte in bytes {
         hash = mixed(hash, u64::from(*byte));
@@ -46,22 +50,10 @@ fn mixed_bytes(hash: u64, bytes: &[u8]) -> u64 {
     hash
 }
 
-fn mixed_own(hash: u64, dir: &Dir, number: u32) -> u64 {
-    match dir.self_sid(number) {
-        Some(_) => mixed(hash, u64::from(number)),
-        None => hash,
-    }
-}
-
 fn mixed_object(hash: u64, dir: &Dir, number: u32) -> u64
     requires { is_live dir.now.objects number ≡ true }
 {
     let hash = mixed(hash, u64::from(class_of(dir, number).0));
-    let hash = if names_self(dir, number) {
-        mixed_own(hash, dir, number)
-    } else {
-        hash
-    };
     match dir.sd(number) {
         Some(view) => mixed_bytes(hash, view.as_bytes()),
         None => hash,
@@ -72,14 +64,5 @@ fn mixed_object(hash: u64, dir: &Dir, number: u32) -> u64
 pub(crate) fn hash_of(before: &Dir, after: &Dir, o: Both) -> u64
     requires { IsLiveBoth before.now after.now o }
 {
-    mixed_object(
-        mixed_object(0xcbf2_9ce4_8422_2325, before, o.before),
-        after,
-        o.after,
-    )
-}
-
-/// A hash of one more number.
-pub(crate) fn hashed(hash: u64, value: u32) -> u64 {
-    mixed(hash, u64::from(value))
+    mixed_object(mixed_object(NOTHING, before, o.before), after, o.after)
 }

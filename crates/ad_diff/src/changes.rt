@@ -2,7 +2,8 @@
 
 ghost use Rattle.std.specs.Prelude.{◌≡◌, ◌++◌, true, if◌then◌else◌, IfOk, OnOk};
 ghost use Rattle.std.specs.List.{flat_map, list_any};
-ghost use Rattle.ad_diff.specs.Changes.{has_label, line_unless, lines_without, change_lines, changes};
+ghost use Rattle.ad_diff.specs.Changes.{has_label, line_unless, lines_without, change_lines};
+ghost use Rattle.ad_diff.specs.Own.{changes_in};
 ghost use Rattle.ad_diff.specs.Steps.{texts, IsLiveBoth};
 
 use crate::both::Both;
@@ -65,25 +66,27 @@ fn change_lines(alloc: Global, was: &[Vec<u8>], is: &[Vec<u8>]) -> Result<Vec<u8
     Ok(lines)
 }
 
-/// The lines of what is gained and lost, of tokens of a principal on an object that is live in both.
+/// The lines of what is gained and lost, of tokens of a principal on an object that is live in both: with the object's
+/// own identifiers, or as if it had none.
 ///
 /// # Errors
 ///
 /// Out of memory.
-#[tactic(auto, unfolding(crate::specs::Changes::changes))]
+#[tactic(auto, unfolding(crate::specs::Own::changes_in))]
 pub(crate) fn changes(
     alloc: Global,
     before: &Dir,
     after: &Dir,
     was: &Token,
     is: &Token,
+    own: bool,
     o: Both,
 ) -> Result<Vec<u8>, AllocError>
     requires { IsLiveBoth before.now after.now o }
     ensures { IfOk result (λ lines. lines.items
-        ≡ changes before.now after.now was.now is.now o) }
+        ≡ changes_in before.now after.now was.now is.now own o) }
 {
-    let had = rights(alloc, before, was, o.before)?;
-    let has = rights(alloc, after, is, o.after)?;
+    let had = rights(alloc, before, was, o.before, own)?;
+    let has = rights(alloc, after, is, o.after, own)?;
     change_lines(alloc, had.as_slice(), has.as_slice())
 }

@@ -1,67 +1,40 @@
 //! A column of the table: what each principal gains and loses on one object.
 
-ghost use Rattle.std.specs.Prelude.{◌≡◌, ◌<◌, ◌++◌, ◌∷◌, [], ℕ, List, get_or, slice_get, length, IfOk, IfSome, OnOk};
-ghost use Rattle.std.specs.List.{list_all};
-ghost use Rattle.ad_diff.specs.Same.{AreSteady};
-ghost use Rattle.ad_diff.specs.Steps.{texts, kind_at, all_lines, lines_at, lines_on, is_none, IsKind, IsSound};
-ghost use Rattle.ad_diff.specs.Steps.{IsPushed, IsLiveBoth};
+ghost use Rattle.std.specs.Prelude.{◌≡◌, ℕ, true, All, IfOk, OnOk};
+ghost use Rattle.ad_diff.specs.Same.{IsUnchanged, AreSteady};
+ghost use Rattle.ad_diff.specs.Steps.{IsLiveBoth, IsParty};
+ghost use Rattle.ad_diff.specs.Frames.{lines_at, base_at, HasBase, IsRight, Keeps, IsPut, IsGround};
+ghost use Rattle.ad_diff.specs.declared.bases.Frame.{Frame as FrameValue};
 
-use crate::both::Both;
+use crate::bases::{Frame, base_at};
+use crate::both::{Both, Grouped};
+use crate::ground::Ground;
+use crate::holders::holders_of;
+use crate::own::asked_in;
 use crate::same::is_unchanged;
 use crate::steady::{is_marked, lines_of};
-use crate::tokens::Party;
+use crate::tokens::{Party, party_at};
 use ad_dir::Dir;
+use indexmap::IndexMap;
 use std::alloc::{AllocError, Global};
 
-/// The lines of each principal on an object, by their place among the kinds of lines; the first kind has none.
+/// The lines of each principal on an object: those of its kind on the object's family, but for those principals that
+/// have others, since they hold the object's own identifier.
 #[derive(Drop)]
 pub struct Column {
-    pub ids: Vec<u32>,
-    pub kinds: Vec<Vec<u8>>,
-}
-
-/// The kind of the principal at a place, if there is one.
-pub(crate) fn id_at(column: &Column, place: usize) -> Option<u32>
-    ensures { result ≡ slice_get column.now.ids.items place }
-{
-    match column.ids.get(place) {
-        Some(id) => Some(*id),
-        None => None,
-    }
-}
-
-// The lines of a kind.
-fn kind_at(kinds: &[Vec<u8>], id: u32) -> &[u8]
-    ensures { result.now ≡ kind_at kinds.entry.now id }
-{
-    match kinds.get(id as usize) {
-        Some(kind) => kind.as_slice(),
-        None => b"",
-    }
+    pub family: u32,
+    pub others: IndexMap<usize, Vec<u8>>,
 }
 
 /// The lines of the principal at a place.
-#[tactic(auto, unfolding(crate::specs::Steps::all_lines))]
-pub(crate) fn lines_at(column: &Column, place: usize) -> &[u8]
-    ensures { result.now ≡ lines_at column.entry.now place }
+#[tactic(auto, unfolding(crate::specs::Frames::lines_at))]
+pub(crate) fn lines_at<'a>(frame: &'a Frame, column: &'a Column, place: usize) -> &'a [u8]
+    ensures { result.now ≡ lines_at frame.entry.now column.entry.now place }
 {
-    match id_at(column, place) {
-        Some(id) => kind_at(column.kinds.as_slice(), id),
-        None => b"",
+    match column.others.get(&place) {
+        Some(lines) => lines.as_slice(),
+        None => base_at(frame, column.family, place),
     }
-}
-
-// The place of lines among the kinds.
-fn found(kinds: &[Vec<u8>], lines: &[u8]) -> Option<usize>
-    ensures { IfSome result (λ place. (place < length kinds.now)
-        × (get_or (texts kinds.now) place [] ≡ lines.now)) }
-{
-    'each: for place in 0..kinds.len() {
-        if kinds[place].as_slice() == lines {
-            return Some(place);
-        }
-    }
-    None
 }
 
 /// The number of a place that a table may have.
@@ -78,44 +51,91 @@ pub(crate) fn number_of(place: usize) -> Result<u32, AllocError>
     }
 }
 
-// The kind of these lines, which may be a new one.
-fn kind_of(kinds: &mut Vec<Vec<u8>>, lines: Vec<u8>) -> Result<u32, AllocError>
-    ensures more { OnOk result ((more : List (List ℕ)) × (texts kinds.new.items
-        ≡ texts kinds.old.items ++ more)) }
-    ensures kind { IfOk result (λ id. IsKind (texts kinds.new.items) id lines.items) }
+// The column with these lines of the principal at a place.
+fn put(frame: &Frame, column: &mut Column, place: usize, lines: Vec<u8>) -> Result<(), AllocError>
+    ensures { OnOk result (IsPut frame.now column.old column.new place lines.items) }
 {
-    if let Some(place) = found(kinds.as_slice(), lines.as_slice()) {
-        return number_of(place);
+    if lines_at(frame, column, place) == lines.as_slice() {
+        return Ok(());
     }
-    let id = number_of(kinds.as_slice().len())?;
-    kinds.push(lines)?;
-    Ok(id)
-}
-
-// The lines of one more principal.
-fn push_lines(column: &mut Column, lines: Vec<u8>) -> Result<(), AllocError>
-    requires { IsSound column.now }
-    ensures { OnOk result (IsPushed column.old column.new lines.items) }
-{
-    let id = kind_of(&mut column.kinds, lines)?;
-    column.ids.push(id)?;
+    column.others.insert(place, lines)?;
     Ok(())
 }
 
-// The column of no principals.
-fn empty(alloc: Global) -> Result<Column, AllocError>
-    ensures sound { IfOk result IsSound }
-    ensures lines { IfOk result (λ column. all_lines column ≡ []) }
+// The column with the lines of the principal at a place, which is judged.
+fn judge(
+    alloc: Global,
+    before: &Dir,
+    after: &Dir,
+    parties: &[Party],
+    marks: &[bool],
+    frame: &Frame,
+    column: &mut Column,
+    o: Both,
+    unchanged: bool,
+    place: usize,
+) -> Result<(), AllocError>
+    requires live { IsLiveBoth before.now after.now o }
+    requires steady { AreSteady before.now after.now parties.now marks.now }
+    requires unchanged { unchanged ≡ true → IsUnchanged before.now after.now o }
+    ensures right { OnOk result (IsRight before.now after.now parties.now o frame.now column.new
+        place) }
+    ensures keeps { OnOk result (Keeps before.now after.now parties.now o frame.now column.old
+        column.new) }
 {
-    let mut kinds = Vec::new(alloc);
-    kinds.push(Vec::new(alloc))?;
-    Ok(Column {
-        ids: Vec::new(alloc),
-        kinds,
-    })
+    match party_at(parties, place) {
+        Some(party) => {
+            let steady = is_marked(marks, place);
+            let lines = lines_of(alloc, before, after, party, steady, true, o, unchanged)?;
+            put(frame, column, place, lines)?;
+            Ok(())
+        }
+        None => Ok(()),
+    }
 }
 
-/// The column of an object that is live in both. Whether the object is unchanged is looked up once.
+// The same of the principals at these places.
+fn judge_all(
+    alloc: Global,
+    before: &Dir,
+    after: &Dir,
+    parties: &[Party],
+    marks: &[bool],
+    frame: &Frame,
+    column: &mut Column,
+    o: Both,
+    unchanged: bool,
+    places: &[usize],
+) -> Result<(), AllocError>
+    requires live { IsLiveBoth before.now after.now o }
+    requires steady { AreSteady before.now after.now parties.now marks.now }
+    requires unchanged { unchanged ≡ true → IsUnchanged before.now after.now o }
+    ensures right { OnOk result (All (IsRight before.now after.now parties.now o frame.now
+        column.new) places.now) }
+    ensures keeps { OnOk result (Keeps before.now after.now parties.now o frame.now column.old
+        column.new) }
+{
+    for place in places {
+        judge(
+            alloc, before, after, parties, marks, frame, column, o, unchanged, *place,
+        )?;
+    }
+    Ok(())
+}
+
+// The column of a family.
+fn plain(alloc: Global, frame: &Frame, family: u32) -> Column
+    ensures { (place : ℕ) → lines_at frame.now result place ≡ base_at frame.now family place }
+{
+    let _ = frame;
+    Column {
+        family,
+        others: IndexMap::new(alloc),
+    }
+}
+
+/// The column of an object that is live in both, with the number of its family. Those are judged that hold an own
+/// identifier for which an entry asks.
 ///
 /// # Errors
 ///
@@ -125,33 +145,54 @@ pub(crate) fn column_of(
     before: &Dir,
     after: &Dir,
     parties: &[Party],
-    marks: &[bool],
-    o: Both,
+    ground: &Ground,
+    g: Grouped,
 ) -> Result<Column, AllocError>
-    requires live { IsLiveBoth before.now after.now o }
-    requires steady { AreSteady before.now after.now parties.now marks.now }
-    ensures sound { IfOk result IsSound }
-    ensures lines { IfOk result (λ column. all_lines column
-        ≡ lines_on before.now after.now parties.now o) }
+    requires live { IsLiveBoth before.now after.now g.both }
+    requires parties { All (IsParty before.now after.now) parties.now }
+    requires ground { IsGround before.now after.now parties.now ground.now }
+    requires base { HasBase before.now after.now parties.now ground.now.frame g.group g.both }
+    ensures { IfOk result (λ column. (place : ℕ) → IsRight before.now after.now parties.now g.both
+        ground.now.frame column place) }
 {
-    let mut column = empty(alloc)?;
+    let marks = ground.marks.as_slice();
+    let frame = &ground.frame;
+    let o = g.both;
     let unchanged = is_unchanged(before, after, o);
-    'each: for i in 0..parties.len() {
-        let steady = is_marked(marks, i);
-        let lines = lines_of(alloc, before, after, &parties[i], steady, o, unchanged)?;
-        push_lines(&mut column, lines)?;
-    }
+    let mut column = plain(alloc, frame, g.group);
+    let first = holders_of(&ground.holders, asked_in(before, o.before));
+    judge_all(
+        alloc,
+        before,
+        after,
+        parties,
+        marks,
+        frame,
+        &mut column,
+        o,
+        unchanged,
+        first,
+    )?;
+    let second = holders_of(&ground.holders_after, asked_in(after, o.after));
+    judge_all(
+        alloc,
+        before,
+        after,
+        parties,
+        marks,
+        frame,
+        &mut column,
+        o,
+        unchanged,
+        second,
+    )?;
     Ok(column)
 }
 
-/// Whether no kind has a line.
-pub(crate) fn is_quiet(column: &Column) -> bool
-    ensures { result ≡ list_all is_none (texts column.now.kinds.items) }
+/// Whether no principal has others than those of its kind.
+pub(crate) fn is_plain(column: &Column) -> bool
+    ensures { result ≡ true → (frame : FrameValue) (place : ℕ) → lines_at frame column.now place
+        ≡ base_at frame column.now.family place }
 {
-    for kind in column.kinds.as_slice() {
-        if !kind.is_empty() {
-            return false;
-        }
-    }
-    true
+    column.others.is_empty()
 }

@@ -1,14 +1,16 @@
 //! The objects in groups: those of a group have one column of lines, and those of group 0 have none.
 
-ghost use Rattle.std.specs.Prelude.{◌≡◌, ◌++◌, ◌∷◌, [], ℕ, Some, All, length, slice_get, OnOk, IfOk, IfSome};
+ghost use Rattle.std.specs.Prelude.{◌≡◌, ◌++◌, ◌∷◌, [], ℕ, true, All, slice_get, OnOk, IfOk};
+ghost use Rattle.std.specs.Option.{option_copied};
 ghost use Rattle.ad_diff.specs.Text.{members};
-ghost use Rattle.ad_diff.specs.Same.{AreSteady};
-ghost use Rattle.ad_diff.specs.Steps.{all_lines, lines_on, IsLiveBoth, ArePlaced, IsGroupOfAlike, IsAdded};
+ghost use Rattle.ad_diff.specs.Steps.{IsLiveBoth, IsParty};
+ghost use Rattle.ad_diff.specs.Frames.{lines_at, HasBase, IsGround, IsAdded};
+ghost use Rattle.ad_diff.specs.Table.{ArePlaced};
 
-use crate::alike::{hash_of, is_alike};
-use crate::both::{Both, Grouped};
-use crate::columns::{Column, column_of, is_quiet, number_of};
-use crate::steady::steady_marks;
+use crate::bases::{Frame, is_quiet_family};
+use crate::both::Grouped;
+use crate::columns::{Column, column_of, is_plain, number_of};
+use crate::ground::Ground;
 use crate::tokens::Party;
 use ad_dir::Dir;
 use indexmap::IndexMap;
@@ -21,80 +23,68 @@ pub struct Placing {
     pub columns: Vec<Column>,
 }
 
-// The object that was placed at a place.
-fn placed_at(objects: &[Grouped], place: Option<usize>) -> Option<Grouped>
-    ensures { IfSome result (λ g. (place : ℕ) × (slice_get objects.now place ≡ Some g)) }
+// Whether both are those of one family.
+fn are_of_one(frame: &Frame, a: &Column, b: &Column) -> bool
+    ensures { result ≡ true → (place : ℕ) → lines_at frame.now a.now place
+        ≡ lines_at frame.now b.now place }
 {
-    match place {
-        Some(place) => match objects.get(place) {
-            Some(other) => Some(*other),
-            None => None,
-        },
-        None => None,
+    let _ = frame;
+    a.family == b.family && is_plain(a) && is_plain(b)
+}
+
+fn column_at(columns: &[Column], place: usize) -> Option<&Column>
+    ensures { option_copied result ≡ slice_get columns.entry.now place }
+{
+    columns.get(place)
+}
+
+// Whether the column of a group, which has one, has the lines of this one: both are those of their family.
+fn is_same(frame: &Frame, columns: &[Column], group: u32, column: &Column) -> bool
+    ensures { result ≡ true → IsAdded frame.now columns.now columns.now column.now group }
+{
+    if group == 0 {
+        return false;
+    }
+    match column_at(columns, group as usize - 1) {
+        Some(other) => are_of_one(frame, other, column),
+        None => false,
     }
 }
 
-// The group of the object at a place, if this one is like it.
-fn alike_at(
-    before: &Dir,
-    after: &Dir,
-    objects: &[Grouped],
-    place: Option<usize>,
-    o: Both,
-) -> Option<u32>
-    requires objects { All (λ g. IsLiveBoth before.now after.now g.both) objects.now }
-    requires live { IsLiveBoth before.now after.now o }
-    ensures { IfSome result (IsGroupOfAlike before.now after.now objects.now o) }
+// The group of the lines of a column that has some, which is added.
+fn add(frame: &Frame, columns: &mut Vec<Column>, column: Column) -> Result<u32, AllocError>
+    ensures { IfOk result (IsAdded frame.now columns.old.items columns.new.items column) }
 {
-    match placed_at(objects, place) {
-        Some(other) => {
-            if is_alike(before, after, other.both, o) {
-                return Some(other.group);
-            }
-            None
-        }
-        None => None,
-    }
-}
-
-// The group of the lines of a column, which is added where it has some.
-fn add(columns: &mut Vec<Column>, column: Column, parties: &[Party]) -> Result<u32, AllocError>
-    requires { length (all_lines column) ≡ length parties.now }
-    ensures { IfOk result (IsAdded parties.now columns.old.items columns.new.items
-        (all_lines column)) }
-{
-    let _ = parties;
-    if is_quiet(&column) {
-        return Ok(0);
-    }
+    let _ = frame;
     columns.push(column)?;
     number_of(columns.as_slice().len())
 }
 
-// The group of an object: that of one that is like it, or a new column's.
-fn group_of(
-    alloc: Global,
-    before: &Dir,
-    after: &Dir,
-    parties: &[Party],
-    marks: &[bool],
-    objects: &[Grouped],
-    columns: &mut Vec<Column>,
-    place: Option<usize>,
-    o: Both,
-) -> Result<u32, AllocError>
-    requires objects { All (λ g. IsLiveBoth before.now after.now g.both) objects.now }
-    requires live { IsLiveBoth before.now after.now o }
-    requires placed { ArePlaced before.now after.now parties.now columns.now.items objects.now }
-    requires steady { AreSteady before.now after.now parties.now marks.now }
-    ensures { IfOk result (IsAdded parties.now columns.old.items columns.new.items
-        (lines_on before.now after.now parties.now o)) }
+// Whether the column has no lines.
+fn is_quiet(frame: &Frame, column: &Column) -> bool
+    ensures { result ≡ true → (place : ℕ) → lines_at frame.now column.now place ≡ [] }
 {
-    if let Some(group) = alike_at(before, after, objects, place, o) {
-        return Ok(group);
+    is_plain(column) && is_quiet_family(frame, column.family)
+}
+
+// The group of the lines of a column: none, that of the hint, or a new one.
+fn group_of(
+    frame: &Frame,
+    columns: &mut Vec<Column>,
+    hint: Option<u32>,
+    column: Column,
+) -> Result<u32, AllocError>
+    ensures { IfOk result (IsAdded frame.now columns.old.items columns.new.items column) }
+{
+    if is_quiet(frame, &column) {
+        return Ok(0);
     }
-    let column = column_of(alloc, before, after, parties, marks, o)?;
-    add(columns, column, parties)
+    if let Some(group) = hint {
+        if is_same(frame, columns.as_slice(), group, &column) {
+            return Ok(group);
+        }
+    }
+    add(frame, columns, column)
 }
 
 // Places one more object.
@@ -103,37 +93,33 @@ fn place(
     before: &Dir,
     after: &Dir,
     parties: &[Party],
-    marks: &[bool],
+    ground: &Ground,
     placing: &mut Placing,
-    at: Option<usize>,
-    o: Both,
-) -> Result<(), AllocError>
-    requires objects { All (λ g. IsLiveBoth before.now after.now g.both) placing.now.objects.items }
-    requires live { IsLiveBoth before.now after.now o }
-    requires placed { ArePlaced before.now after.now parties.now placing.now.columns.items
-        placing.now.objects.items }
-    requires steady { AreSteady before.now after.now parties.now marks.now }
+    hint: Option<u32>,
+    g: Grouped,
+) -> Result<u32, AllocError>
+    requires live { IsLiveBoth before.now after.now g.both }
+    requires parties { All (IsParty before.now after.now) parties.now }
+    requires ground { IsGround before.now after.now parties.now ground.now }
+    requires base { HasBase before.now after.now parties.now ground.now.frame g.group g.both }
+    requires placed { ArePlaced before.now after.now parties.now ground.now.frame
+        placing.now.columns.items placing.now.objects.items }
     ensures members { OnOk result (members placing.new.objects.items
-        ≡ members placing.old.objects.items ++ (o ∷ [])) }
-    ensures placed { OnOk result (ArePlaced before.now after.now parties.now
+        ≡ members placing.old.objects.items ++ (g.both ∷ [])) }
+    ensures placed { OnOk result (ArePlaced before.now after.now parties.now ground.now.frame
         placing.new.columns.items placing.new.objects.items) }
 {
-    let group = group_of(
-        alloc,
-        before,
-        after,
-        parties,
-        marks,
-        placing.objects.as_slice(),
-        &mut placing.columns,
-        at,
-        o,
-    )?;
-    placing.objects.push(Grouped { both: o, group })?;
-    Ok(())
+    let column = column_of(alloc, before, after, parties, ground, g)?;
+    let group = group_of(&ground.frame, &mut placing.columns, hint, column)?;
+    placing.objects.push(Grouped {
+        both: g.both,
+        group,
+    })?;
+    Ok(group)
 }
 
-/// The objects, which are live in both, in groups by what the principals gain and lose on them.
+/// The objects, which are live in both and given with their families, in groups by what the principals gain and lose on
+/// them.
 ///
 /// # Errors
 ///
@@ -143,33 +129,37 @@ pub(crate) fn placed(
     before: &Dir,
     after: &Dir,
     parties: &[Party],
-    objects: &[Both],
+    ground: &Ground,
+    objects: &[Grouped],
 ) -> Result<Placing, AllocError>
-    requires { All (IsLiveBoth before.now after.now) objects.now }
-    ensures members { IfOk result (λ placing. members placing.objects.items ≡ objects.now) }
+    requires live { All (λ g. IsLiveBoth before.now after.now g.both) objects.now }
+    requires parties { All (IsParty before.now after.now) parties.now }
+    requires ground { IsGround before.now after.now parties.now ground.now }
+    requires bases { All (λ g. HasBase before.now after.now parties.now ground.now.frame g.group
+        g.both) objects.now }
+    ensures members { IfOk result (λ placing. members placing.objects.items
+        ≡ members objects.now) }
     ensures placed { IfOk result (λ placing. ArePlaced before.now after.now parties.now
-        placing.columns.items placing.objects.items) }
+        ground.now.frame placing.columns.items placing.objects.items) }
 {
-    let marks = steady_marks(alloc, before, after, parties)?;
-    let mut places: IndexMap<u64, usize> = IndexMap::new(alloc);
+    let mut hints: IndexMap<u32, u32> = IndexMap::new(alloc);
     let mut placing = Placing {
         objects: Vec::new(alloc),
         columns: Vec::new(alloc),
     };
-    for o in objects {
-        let hash = hash_of(before, after, *o);
-        let at = places.get(&hash).copied();
-        place(
+    for g in objects {
+        let hint = hints.get(&g.group).copied();
+        let group = place(
             alloc,
             before,
             after,
             parties,
-            marks.as_slice(),
+            ground,
             &mut placing,
-            at,
-            *o,
+            hint,
+            *g,
         )?;
-        places.insert(hash, placing.objects.len() - 1)?;
+        hints.insert(g.group, group)?;
     }
     Ok(placing)
 }

@@ -21,22 +21,31 @@
 //!
 //! # Cost
 //!
-//! Each principal is judged once for each class and pair of descriptors among the objects, and for each pair of own
-//! identifiers where an entry asks for it: with p principals and g such groups of objects p times g judgements, each a
-//! sweep for the tree of attributes, and one for each right and class that is asked for. What differs takes room once
-//! for each kind of lines. Nothing is judged where nothing can differ: the schemas are equal, so are the principal's
-//! tokens, and the group's first object has the class, the descriptor and the identifier in both. The schemas are
-//! compared once, the tokens once for each principal, and the objects once for each group.
+//! Objects of one class and one descriptor in each directory are a family, and principals that hold the same of what
+//! the descriptors name are a kind. Each kind is judged once on each family, as if objects had no identifiers of their
+//! own; and on an object for which an entry asks (S-1-5-10) those principals are judged that hold its identifier. So
+//! with f families, k kinds and h pairs of such an object and a holder f times k plus h judgements, each a sweep for
+//! the tree of attributes, and one for each right and class that is asked for. Nothing is judged where nothing can
+//! differ: the schemas are equal, so are the principal's tokens, and the object has the class, the descriptor and the
+//! identifier in both. Besides, each principal's lines are looked up for each group of objects, to put it into a group.
 #![tactic(auto)]
 
 mod alike;
+mod bases;
 mod both;
 mod changes;
 mod codes;
 mod columns;
+mod families;
+mod ground;
 mod grouping;
+mod holders;
+mod kinds;
+mod labelling;
 mod laws;
+mod leaf_masks;
 mod listing;
+mod named;
 mod own;
 mod pieces;
 mod rights;

@@ -1,12 +1,11 @@
-//! Whether the own identifiers of objects tell them apart.
+//! The own identifiers of objects, and whether they count.
 
 ghost use Rattle.std.specs.Prelude.{◌≡◌, true};
 ghost use Rattle.std.specs.List.{list_any};
 ghost use Rattle.std.specs.Option.{option_copied};
 ghost use Rattle.ad_sd.specs.Seen.{seen};
 ghost use Rattle.ad_dir_model.specs.Objects.{is_live, sd_at};
-ghost use Rattle.ad_dir_model.specs.Identity.{self_sid};
-ghost use Rattle.ad_diff.specs.Steps.{is_for_self, IsSameOwn};
+ghost use Rattle.ad_diff.specs.Own.{is_for_self, own_sid, asked_in};
 
 use ad_dir::{Dir, live_sd};
 use ad_ids::Sid;
@@ -35,8 +34,8 @@ fn names_self_in(view: &SdView<'_>) -> bool
     false
 }
 
-/// Whether an entry of the descriptor of a live object is for the object itself (S-1-5-10).
-pub(crate) fn names_self(dir: &Dir, number: u32) -> bool
+// Whether an entry of the descriptor of a live object is for the object itself (S-1-5-10).
+fn names_self(dir: &Dir, number: u32) -> bool
     requires { is_live dir.now.objects number ≡ true }
     ensures { result ≡ list_any is_for_self (sd_at dir.now.objects number).dacl.entries }
 {
@@ -44,11 +43,23 @@ pub(crate) fn names_self(dir: &Dir, number: u32) -> bool
     names_self_in(&view)
 }
 
-/// Whether two live objects have the same own identifier, or the descriptor of the first has no entry for the object
-/// itself.
-pub(crate) fn is_same_own(dir: &Dir, a: u32, b: u32) -> bool
-    requires { is_live dir.now.objects a ≡ true }
-    ensures { result ≡ true → IsSameOwn dir.now a b }
+/// The own identifier of a live object, where an entry of its descriptor asks for it.
+pub(crate) fn asked_in(dir: &Dir, number: u32) -> Option<&Sid>
+    requires { is_live dir.now.objects number ≡ true }
+    ensures { option_copied result ≡ asked_in dir.now number }
 {
-    same_sid(dir.self_sid(a), dir.self_sid(b)) || !names_self(dir, a)
+    if names_self(dir, number) {
+        return dir.self_sid(number);
+    }
+    None
+}
+
+/// The own identifier of an object, where it counts.
+pub(crate) fn own_sid(dir: &Dir, own: bool, number: u32) -> Option<&Sid>
+    ensures { option_copied result ≡ own_sid dir.now own number }
+{
+    if own {
+        return dir.self_sid(number);
+    }
+    None
 }

@@ -2,7 +2,6 @@
 
 ghost use Rattle.std.specs.Prelude.{◌≡◌, ◌++◌, ◌∷◌, [], ◌<◌, true, All, length, if◌then◌else◌, IfOk, OnOk};
 ghost use Rattle.std.specs.List.{flat_map, list_any};
-ghost use Rattle.ad_acl.specs.Mask.{has_bit};
 ghost use Rattle.ad_schema.specs.Attributes.{attrs_of, rights_of};
 ghost use Rattle.ad_schema.specs.Classes.{classes_of};
 ghost use Rattle.ad_types.specs.Path.{guids_of};
@@ -10,15 +9,20 @@ ghost use Rattle.ad_dir_model.specs.Objects.{is_live};
 ghost use Rattle.ad_access_dir.specs.Allowed.{allowed_attrs};
 ghost use Rattle.ad_access_dir.specs.Masks.{IsMask};
 ghost use Rattle.ad_dsacls.specs.Effective.{label_of, applies, is_child_class};
-ghost use Rattle.ad_diff.specs.Rights.{label_if, labels, object_labels, attribute_labels, kind_labels};
-ghost use Rattle.ad_diff.specs.Rights.{right_labels, child_labels, children_labels, grants_at, rights_by, rights};
+ghost use Rattle.ad_diff.specs.Rights.{labels, object_labels, attribute_labels, kind_labels};
+ghost use Rattle.ad_diff.specs.Rights.{right_labels, child_labels, children_labels, rights_by};
+ghost use Rattle.ad_diff.specs.Own.{grants_in, rights_in};
 ghost use Rattle.ad_diff.specs.Steps.{texts, masked_attribute, AreWanted};
 
 use crate::codes::{
     Code, attribute_codes, child_codes, extended_codes, object_codes, validated_codes,
 };
-use ad_access_dir::{allowed_attrs, attr_masks, class_count, granted};
-use ad_dir::{Dir, class_of};
+use crate::labelling::{label_of, push_labels};
+use crate::leaf_masks::attr_masks;
+use crate::own::own_sid;
+use ad_access::granted;
+use ad_access_dir::{allowed_attrs, class_count};
+use ad_dir::{Dir, class_of, live_sd};
 use ad_ids::{Guid, Token};
 use ad_schema::{AttrId, ClassId, ClassInfo, RightInfo, Schema};
 use ad_types::Path;
@@ -39,80 +43,18 @@ const VALIDATED_WRITE: u32 = 0x8;
 /// Those of the children of a class: to create them and to delete them.
 const CHILD_RIGHTS: u32 = 0x3;
 
-// ---- labels
-
-// Whether the mask has the bit.
-#[tactic(auto, unfolding(ad_acl::specs::Mask::has_bit))]
-fn has_bit(mask: u32, bit: u32) -> bool
-    requires { bit < 32 }
-    ensures { result ≡ has_bit mask bit }
-{
-    (mask >> bit) % 2 == 1
-}
-
-// A kind and a name, with a blank after.
-fn label_of(alloc: Global, kind: &[u8], name: &[u8]) -> Result<Vec<u8>, AllocError>
-    ensures { IfOk result (λ label. label.items ≡ label_of kind.now name.now) }
-{
-    let mut label = kind.to_vec(alloc)?;
-    label.extend_from_slice(name)?;
-    label.extend_from_slice(b" ")?;
-    Ok(label)
-}
-
-// What a right is of, and its code.
-fn with_code(alloc: Global, kind: &[u8], code: &Code) -> Result<Vec<u8>, AllocError>
-    ensures { IfOk result (λ label. label.items ≡ kind.now ++ code.now.letters) }
-{
-    let mut label = kind.to_vec(alloc)?;
-    label.extend_from_slice(code.letters.as_slice())?;
-    Ok(label)
-}
-
-fn push_label(
-    alloc: Global,
-    into: &mut Vec<Vec<u8>>,
-    kind: &[u8],
-    code: &Code,
-    mask: u32,
-) -> Result<(), AllocError>
-    requires { code.now.bit < 32 }
-    ensures { OnOk result (texts into.new.items ≡ texts into.old.items
-        ++ label_if (has_bit mask) kind.now code.now) }
-{
-    if has_bit(mask, code.bit) {
-        let label = with_code(alloc, kind, code)?;
-        into.push(label)?;
-    }
-    Ok(())
-}
-
-// The labels of the rights of a mask.
-#[tactic(auto, unfolding(crate::specs::Rights::labels))]
-fn push_labels(
-    alloc: Global,
-    into: &mut Vec<Vec<u8>>,
-    kind: &[u8],
-    codes: &[Code],
-    mask: u32,
-) -> Result<(), AllocError>
-    requires { All (λ code. code.bit < 32) codes.now }
-    ensures { OnOk result (texts into.new.items ≡ texts into.old.items
-        ++ labels (has_bit mask) kind.now codes.now) }
-{
-    for code in codes {
-        push_label(alloc, into, kind, code, mask)?;
-    }
-    Ok(())
-}
-
 // The wanted rights that are granted on a path.
-#[tactic(auto, unfolding(ad_access_dir::specs::Sight::is_granted))]
-fn mask_on(dir: &Dir, token: &Token, number: u32, path: &Path, want: u32) -> u32
+fn mask_on(dir: &Dir, token: &Token, number: u32, own: bool, path: &Path, want: u32) -> u32
     requires { is_live dir.now.objects number ≡ true }
-    ensures { IsMask want (grants_at dir.now token.now number (guids_of path.now)) result }
+    ensures { IsMask want (grants_in dir.now token.now own number (guids_of path.now)) result }
 {
-    granted(dir, token, number, path, want)
+    granted(
+        live_sd(dir, number),
+        token,
+        own_sid(dir, own, number),
+        path,
+        want,
+    )
 }
 
 // ---- the object as a whole
@@ -123,12 +65,13 @@ fn push_object(
     dir: &Dir,
     token: &Token,
     number: u32,
+    own: bool,
 ) -> Result<(), AllocError>
     requires { is_live dir.now.objects number ≡ true }
     ensures { OnOk result (texts into.new.items ≡ texts into.old.items
-        ++ object_labels (grants_at dir.now token.now number)) }
+        ++ object_labels (grants_in dir.now token.now own number)) }
 {
-    let mask = mask_on(dir, token, number, &Path::empty(), OBJECT_RIGHTS);
+    let mask = mask_on(dir, token, number, own, &Path::empty(), OBJECT_RIGHTS);
     push_labels(alloc, into, b"object ", object_codes(), mask)
 }
 
@@ -157,6 +100,7 @@ fn push_attributes(
     dir: &Dir,
     token: &Token,
     number: u32,
+    own: bool,
     class: ClassId,
     attrs: &[AttrId],
 ) -> Result<(), AllocError>
@@ -164,9 +108,18 @@ fn push_attributes(
     requires class { class.0 < length (classes_of dir.now.schema) }
     requires allowed { attrs.now ≡ allowed_attrs dir.now.schema class.0 }
     ensures { OnOk result (texts into.new.items ≡ texts into.old.items
-        ++ flat_map (attribute_labels dir.now.schema (grants_at dir.now token.now number) class) attrs.now) }
+        ++ flat_map (attribute_labels dir.now.schema (grants_in dir.now token.now own number) class) attrs.now) }
 {
-    let masks = attr_masks(alloc, dir, token, number, class, attrs, ATTRIBUTE_RIGHTS)?;
+    let masks = attr_masks(
+        alloc,
+        dir,
+        token,
+        number,
+        own,
+        class,
+        attrs,
+        ATTRIBUTE_RIGHTS,
+    )?;
     let masks = masks.as_slice();
     let first = masks.len() - attrs.len();
     'each: for i in 0..attrs.len() {
@@ -183,6 +136,7 @@ fn push_kind(
     dir: &Dir,
     token: &Token,
     number: u32,
+    own: bool,
     right: &RightInfo,
     kind: &[u8],
     codes: &[Code],
@@ -191,10 +145,10 @@ fn push_kind(
     requires live { is_live dir.now.objects number ≡ true }
     requires codes { AreWanted want codes.now }
     ensures { OnOk result (texts into.new.items ≡ texts into.old.items
-        ++ labels (grants_at dir.now token.now number (right.now.guid ∷ []))
+        ++ labels (grants_in dir.now token.now own number (right.now.guid ∷ []))
         (label_of kind.now right.now.name) codes.now) }
 {
-    let mask = mask_on(dir, token, number, &Path::one(right.guid), want);
+    let mask = mask_on(dir, token, number, own, &Path::one(right.guid), want);
     let label = label_of(alloc, kind, right.name.as_slice())?;
     push_labels(alloc, into, label.as_slice(), codes, mask)
 }
@@ -207,11 +161,12 @@ fn push_right_of_kind(
     dir: &Dir,
     token: &Token,
     number: u32,
+    own: bool,
     right: &RightInfo,
 ) -> Result<(), AllocError>
     requires { is_live dir.now.objects number ≡ true }
     ensures { OnOk result (texts into.new.items ≡ texts into.old.items
-        ++ kind_labels (grants_at dir.now token.now number) right.now) }
+        ++ kind_labels (grants_in dir.now token.now own number) right.now) }
 {
     if right.accesses == 256 {
         let codes = extended_codes();
@@ -221,6 +176,7 @@ fn push_right_of_kind(
             dir,
             token,
             number,
+            own,
             right,
             b"right ",
             codes,
@@ -235,6 +191,7 @@ fn push_right_of_kind(
             dir,
             token,
             number,
+            own,
             right,
             b"validated ",
             codes,
@@ -263,17 +220,18 @@ fn push_right(
     dir: &Dir,
     token: &Token,
     number: u32,
+    own: bool,
     class: ClassId,
     right: &RightInfo,
 ) -> Result<(), AllocError>
     requires { is_live dir.now.objects number ≡ true }
     ensures { OnOk result (texts into.new.items ≡ texts into.old.items
-        ++ right_labels dir.now.schema (grants_at dir.now token.now number) class right.now) }
+        ++ right_labels dir.now.schema (grants_in dir.now token.now own number) class right.now) }
 {
     if !applies(dir.schema(), class, right.applies.as_slice()) {
         return Ok(());
     }
-    push_right_of_kind(alloc, into, dir, token, number, right)
+    push_right_of_kind(alloc, into, dir, token, number, own, right)
 }
 
 fn push_rights(
@@ -282,15 +240,16 @@ fn push_rights(
     dir: &Dir,
     token: &Token,
     number: u32,
+    own: bool,
     class: ClassId,
     rights: &[RightInfo],
 ) -> Result<(), AllocError>
     requires { is_live dir.now.objects number ≡ true }
     ensures { OnOk result (texts into.new.items ≡ texts into.old.items
-        ++ flat_map (right_labels dir.now.schema (grants_at dir.now token.now number) class) rights.now) }
+        ++ flat_map (right_labels dir.now.schema (grants_in dir.now token.now own number) class) rights.now) }
 {
     for right in rights {
-        push_right(alloc, into, dir, token, number, class, right)?;
+        push_right(alloc, into, dir, token, number, own, class, right)?;
     }
     Ok(())
 }
@@ -309,19 +268,20 @@ fn push_child(
     dir: &Dir,
     token: &Token,
     number: u32,
+    own: bool,
     class: ClassId,
     child: ClassId,
 ) -> Result<(), AllocError>
     requires live { is_live dir.now.objects number ≡ true }
     requires child { child.0 < length (classes_of dir.now.schema) }
     ensures { OnOk result (texts into.new.items ≡ texts into.old.items
-        ++ child_labels dir.now.schema (grants_at dir.now token.now number) class child.0) }
+        ++ child_labels dir.now.schema (grants_in dir.now token.now own number) class child.0) }
 {
     let info = dir.schema().class_info(child);
     if !is_child_class(dir.schema(), class, child, info) {
         return Ok(());
     }
-    let mask = mask_on(dir, token, number, &Path::one(info.guid), CHILD_RIGHTS);
+    let mask = mask_on(dir, token, number, own, &Path::one(info.guid), CHILD_RIGHTS);
     let kind = label_of(alloc, b"child ", info.name.as_slice())?;
     push_labels(alloc, into, kind.as_slice(), child_codes(), mask)
 }
@@ -333,15 +293,16 @@ fn push_children(
     dir: &Dir,
     token: &Token,
     number: u32,
+    own: bool,
     class: ClassId,
 ) -> Result<(), AllocError>
     requires { is_live dir.now.objects number ≡ true }
     ensures { OnOk result (texts into.new.items ≡ texts into.old.items
-        ++ children_labels dir.now.schema (grants_at dir.now token.now number) class
+        ++ children_labels dir.now.schema (grants_in dir.now token.now own number) class
         (length (classes_of dir.now.schema))) }
 {
     'each: for place in 0..class_count(dir) {
-        push_child(alloc, into, dir, token, number, class, ClassId(place))?;
+        push_child(alloc, into, dir, token, number, own, class, ClassId(place))?;
     }
     Ok(())
 }
@@ -355,42 +316,55 @@ fn push_all(
     dir: &Dir,
     token: &Token,
     number: u32,
+    own: bool,
     class: ClassId,
 ) -> Result<(), AllocError>
     requires live { is_live dir.now.objects number ≡ true }
     requires class { class.0 < length (classes_of dir.now.schema) }
     ensures { OnOk result (texts into.new.items ≡ texts into.old.items
-        ++ rights_by dir.now.schema (grants_at dir.now token.now number) class) }
+        ++ rights_by dir.now.schema (grants_in dir.now token.now own number) class) }
 {
     let allowed = allowed_attrs(alloc, dir, class)?;
-    push_object(alloc, into, dir, token, number)?;
-    push_attributes(alloc, into, dir, token, number, class, allowed.as_slice())?;
+    push_object(alloc, into, dir, token, number, own)?;
+    push_attributes(
+        alloc,
+        into,
+        dir,
+        token,
+        number,
+        own,
+        class,
+        allowed.as_slice(),
+    )?;
     push_rights(
         alloc,
         into,
         dir,
         token,
         number,
+        own,
         class,
         dir.schema().rights(),
     )?;
-    push_children(alloc, into, dir, token, number, class)
+    push_children(alloc, into, dir, token, number, own, class)
 }
 
-/// The labels of the rights that are granted to a token on a live object, in the order of the definition.
+/// The labels of the rights that are granted to a token on a live object, in the order of the definition: with the
+/// object's own identifier, or as if it had none.
 ///
 /// # Errors
 ///
 /// Out of memory.
-#[tactic(auto, unfolding(crate::specs::Rights::rights))]
+#[tactic(auto, unfolding(crate::specs::Own::rights_in))]
 pub(crate) fn rights(
     alloc: Global,
     dir: &Dir,
     token: &Token,
     number: u32,
+    own: bool,
 ) -> Result<Vec<Vec<u8>>, AllocError>
     requires { is_live dir.now.objects number ≡ true }
-    ensures { IfOk result (λ labels. texts labels.items ≡ rights dir.now token.now number) }
+    ensures { IfOk result (λ labels. texts labels.items ≡ rights_in dir.now token.now own number) }
 {
     let mut labels = Vec::new(alloc);
     push_all(
@@ -399,6 +373,7 @@ pub(crate) fn rights(
         dir,
         token,
         number,
+        own,
         class_of(dir, number),
     )?;
     Ok(labels)

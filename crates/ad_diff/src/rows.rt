@@ -2,11 +2,13 @@
 
 ghost use Rattle.std.specs.Prelude.{◌≡◌, ◌++◌, ◌∷◌, [], true, All, IfOk, OnOk};
 ghost use Rattle.ad_diff.specs.Text.{members};
-ghost use Rattle.ad_diff.specs.Steps.{lines_at, IsRow, IsLed, AreRows};
+ghost use Rattle.ad_diff.specs.Frames.{lines_at};
+ghost use Rattle.ad_diff.specs.Table.{IsRow, IsLed, AreRows};
 
-use crate::alike::hashed;
+use crate::alike::{NOTHING, mixed, mixed_bytes};
+use crate::bases::Frame;
 use crate::both::{Both, Grouped};
-use crate::columns::{Column, id_at, lines_at, number_of};
+use crate::columns::{Column, lines_at, number_of};
 use indexmap::IndexMap;
 use std::alloc::{AllocError, Global};
 
@@ -18,45 +20,41 @@ pub struct Rows {
 }
 
 // Whether the principal at the place has no lines in a column.
-fn has_none(column: &Column, place: usize) -> bool
-    ensures { result ≡ true → lines_at column.now place ≡ [] }
+fn has_none(frame: &Frame, column: &Column, place: usize) -> bool
+    ensures { result ≡ true → lines_at frame.now column.now place ≡ [] }
 {
-    match lines_at(column, place) {
+    match lines_at(frame, column, place) {
         [] => true,
         _ => false,
     }
 }
 
 // Whether the principal at the place has no lines in any column.
-fn is_quiet_row(columns: &[Column], place: usize) -> bool
-    ensures { result ≡ true → All (λ column. lines_at column place ≡ []) columns.now }
+fn is_quiet_row(frame: &Frame, columns: &[Column], place: usize) -> bool
+    ensures { result ≡ true → All (λ column. lines_at frame.now column place ≡ []) columns.now }
 {
     for column in columns {
-        if !has_none(column, place) {
+        if !has_none(frame, column, place) {
             return false;
         }
     }
     true
 }
 
-// Whether both have the same lines in a column, by their kind.
-#[tactic(auto, unfolding(crate::specs::Steps::all_lines))]
-fn same_kind(column: &Column, place: usize, other: usize) -> bool
-    ensures { result ≡ true → lines_at column.now place ≡ lines_at column.now other }
+// Whether both have the same lines in a column.
+fn same_lines(frame: &Frame, column: &Column, place: usize, other: usize) -> bool
+    ensures { result ≡ true → lines_at frame.now column.now place ≡ lines_at frame.now column.now other }
 {
-    match (id_at(column, place), id_at(column, other)) {
-        (Some(id), Some(own)) => id == own,
-        _ => false,
-    }
+    lines_at(frame, column, place) == lines_at(frame, column, other)
 }
 
 // Whether both have the same lines in each column.
-fn same_row(columns: &[Column], place: usize, other: usize) -> bool
-    ensures { result ≡ true → All (λ column. lines_at column place ≡ lines_at column other)
-        columns.now }
+fn same_row(frame: &Frame, columns: &[Column], place: usize, other: usize) -> bool
+    ensures { result ≡ true → All (λ column. lines_at frame.now column place
+        ≡ lines_at frame.now column other) columns.now }
 {
     for column in columns {
-        if !same_kind(column, place, other) {
+        if !same_lines(frame, column, place, other) {
             return false;
         }
     }
@@ -64,22 +62,28 @@ fn same_row(columns: &[Column], place: usize, other: usize) -> bool
 }
 
 // Whether the principal at the place has the lines of this group.
-fn is_of(columns: &[Column], leaders: &[usize], place: usize, group: u32) -> bool
-    ensures { result ≡ true → IsRow columns.now leaders.now place group }
+fn is_of(frame: &Frame, columns: &[Column], leaders: &[usize], place: usize, group: u32) -> bool
+    ensures { result ≡ true → IsRow frame.now columns.now leaders.now place group }
 {
     if group == 0 {
-        return is_quiet_row(columns, place);
+        return is_quiet_row(frame, columns, place);
     }
     match leaders.get(group as usize - 1) {
-        Some(leader) => same_row(columns, place, *leader),
+        Some(leader) => same_row(frame, columns, place, *leader),
         None => false,
     }
 }
 
 // A new group of the principal at the place.
-fn lead(columns: &[Column], leaders: &mut Vec<usize>, place: usize) -> Result<u32, AllocError>
-    ensures { IfOk result (IsLed columns.now leaders.old.items leaders.new.items place) }
+fn lead(
+    frame: &Frame,
+    columns: &[Column],
+    leaders: &mut Vec<usize>,
+    place: usize,
+) -> Result<u32, AllocError>
+    ensures { IfOk result (IsLed frame.now columns.now leaders.old.items leaders.new.items place) }
 {
+    let _ = frame;
     let _ = columns;
     leaders.push(place)?;
     number_of(leaders.as_slice().len())
@@ -87,50 +91,83 @@ fn lead(columns: &[Column], leaders: &mut Vec<usize>, place: usize) -> Result<u3
 
 // The group of the principal at the place: 0, this one, or a new one.
 fn group_of(
+    frame: &Frame,
     columns: &[Column],
     leaders: &mut Vec<usize>,
     place: usize,
     hint: Option<u32>,
 ) -> Result<u32, AllocError>
-    ensures { IfOk result (IsLed columns.now leaders.old.items leaders.new.items place) }
+    ensures { IfOk result (IsLed frame.now columns.now leaders.old.items leaders.new.items place) }
 {
-    if is_of(columns, leaders.as_slice(), place, 0) {
+    if is_of(frame, columns, leaders.as_slice(), place, 0) {
         return Ok(0);
     }
     if let Some(group) = hint {
-        if is_of(columns, leaders.as_slice(), place, group) {
+        if is_of(frame, columns, leaders.as_slice(), place, group) {
             return Ok(group);
         }
     }
-    lead(columns, leaders, place)
+    lead(frame, columns, leaders, place)
 }
 
-// A hash that principals have in common whose kinds are the same.
-fn hash_of(columns: &[Column], place: usize) -> u64 {
-    let mut hash = 0xcbf2_9ce4_8422_2325;
-    for column in columns {
-        hash = match id_at(column, place) {
-            Some(id) => hashed(hash, id),
-            None => hash,
-        };
+// ---- where to look for one
+
+// A hash of the kind of each principal.
+fn kind_hashes(alloc: Global, frame: &Frame) -> Result<Vec<u64>, AllocError> {
+    let mut hashes = Vec::new(alloc);
+    for kind in frame.kinds.as_slice() {
+        hashes.push(mixed(NOTHING, u64::from(*kind)))?;
     }
-    hash
+    Ok(hashes)
 }
+
+// The hash at the place, with the lines in a column.
+fn mix_at(hashes: &mut [u64], place: usize, column: usize, lines: &[u8]) {
+    if place < hashes.len() {
+        hashes[place] = mixed_bytes(mixed(hashes[place], column as u64), lines);
+    }
+}
+
+fn mix_column(hashes: &mut [u64], number: usize, column: &Column) {
+    for (place, lines) in column.others.iter() {
+        mix_at(hashes, *place, number, lines.as_slice());
+    }
+}
+
+// Of each principal a hash that those have in common which have the same lines: of one kind, and of others than its own
+// the same.
+fn hashes_of(alloc: Global, frame: &Frame, columns: &[Column]) -> Result<Vec<u64>, AllocError> {
+    let mut hashes = kind_hashes(alloc, frame)?;
+    'each: for number in 0..columns.len() {
+        mix_column(hashes.as_mut_slice(), number, &columns[number]);
+    }
+    Ok(hashes)
+}
+
+fn hash_at(hashes: &[u64], place: usize) -> u64 {
+    match hashes.get(place) {
+        Some(hash) => *hash,
+        None => NOTHING,
+    }
+}
+
+// ---- groups
 
 // Puts one more principal into a group.
 fn join(
+    frame: &Frame,
     columns: &[Column],
     rows: &mut Rows,
     hint: Option<u32>,
     principal: Both,
 ) -> Result<u32, AllocError>
-    requires { AreRows columns.now rows.now.leaders.items rows.now.groups.items }
+    requires { AreRows frame.now columns.now rows.now.leaders.items rows.now.groups.items }
     ensures members { OnOk result (members rows.new.groups.items
         ≡ members rows.old.groups.items ++ (principal ∷ [])) }
-    ensures rows { OnOk result (AreRows columns.now rows.new.leaders.items rows.new.groups.items) }
+    ensures rows { OnOk result (AreRows frame.now columns.now rows.new.leaders.items rows.new.groups.items) }
 {
     let place = rows.groups.as_slice().len();
-    let group = group_of(columns, &mut rows.leaders, place, hint)?;
+    let group = group_of(frame, columns, &mut rows.leaders, place, hint)?;
     rows.groups.push(Grouped {
         both: principal,
         group,
@@ -145,21 +182,23 @@ fn join(
 /// Out of memory.
 pub(crate) fn grouped(
     alloc: Global,
+    frame: &Frame,
     columns: &[Column],
     principals: &[Both],
 ) -> Result<Rows, AllocError>
     ensures members { IfOk result (λ rows. members rows.groups.items ≡ principals.now) }
-    ensures rows { IfOk result (λ rows. AreRows columns.now rows.leaders.items rows.groups.items) }
+    ensures rows { IfOk result (λ rows. AreRows frame.now columns.now rows.leaders.items rows.groups.items) }
 {
+    let hashes = hashes_of(alloc, frame, columns)?;
     let mut hints: IndexMap<u64, u32> = IndexMap::new(alloc);
     let mut rows = Rows {
         groups: Vec::new(alloc),
         leaders: Vec::new(alloc),
     };
     for principal in principals {
-        let hash = hash_of(columns, rows.groups.len());
+        let hash = hash_at(hashes.as_slice(), rows.groups.len());
         let hint = hints.get(&hash).copied();
-        let group = join(columns, &mut rows, hint, *principal)?;
+        let group = join(frame, columns, &mut rows, hint, *principal)?;
         hints.insert(hash, group)?;
     }
     Ok(rows)

@@ -1,7 +1,7 @@
 //! What a principal gains and loses on an object, without judging where nothing of both differs.
 
 ghost use Rattle.std.specs.Prelude.{◌≡◌, true, Some, slice_get, IfOk};
-ghost use Rattle.ad_diff.specs.Changes.{changes};
+ghost use Rattle.ad_diff.specs.Own.{changes_in};
 ghost use Rattle.ad_diff.specs.Same.{IsUnchanged, IsSteady, AreSteady};
 ghost use Rattle.ad_diff.specs.Steps.{IsLiveBoth};
 
@@ -68,6 +68,7 @@ pub(crate) fn lines_of(
     after: &Dir,
     party: &Party,
     steady: bool,
+    own: bool,
     o: Both,
     unchanged: bool,
 ) -> Result<Vec<u8>, AllocError>
@@ -75,10 +76,10 @@ pub(crate) fn lines_of(
     requires steady { steady ≡ true → IsSteady before.now after.now party.now }
     requires unchanged { unchanged ≡ true → IsUnchanged before.now after.now o }
     ensures { IfOk result (λ lines. lines.items
-        ≡ changes before.now after.now party.now.was party.now.is o) }
+        ≡ changes_in before.now after.now party.now.was party.now.is own o) }
 {
     if steady && unchanged {
         return Ok(Vec::new(alloc));
     }
-    changes(alloc, before, after, &party.was, &party.is, o)
+    changes(alloc, before, after, &party.was, &party.is, own, o)
 }

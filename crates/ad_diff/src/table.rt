@@ -2,8 +2,10 @@
 
 ghost use Rattle.std.specs.Prelude.{◌≡◌, ◌++◌, [], map, get_or, OnOk};
 ghost use Rattle.ad_diff.specs.Text.{cell_text, row_text, table_text};
-ghost use Rattle.ad_diff.specs.Steps.{all_lines, lines_at, all_columns, row_of};
+ghost use Rattle.ad_diff.specs.Frames.{lines_at};
+ghost use Rattle.ad_diff.specs.Table.{row_of};
 
+use crate::bases::Frame;
 use crate::columns::{Column, lines_at, number_of};
 use crate::pieces::{put, put_number, put_number_line};
 use std::alloc::AllocError;
@@ -32,16 +34,22 @@ fn put_cell(
 // Those of a column, for each group of principals from 1 on.
 fn put_row(
     into: &mut Vec<u8>,
+    frame: &Frame,
     objects: u32,
     column: &Column,
     leaders: &[usize],
 ) -> Result<(), AllocError>
     ensures { OnOk result (into.new.items ≡ into.old.items
-        ++ row_text objects 1 (map (λ leader. lines_at column.now leader) leaders.now)) }
+        ++ row_text objects 1 (map (λ leader. lines_at frame.now column.now leader) leaders.now)) }
 {
     'each: for k in 0..leaders.len() {
         let principals = number_of(k + 1)?;
-        put_cell(into, objects, principals, lines_at(column, leaders[k]))?;
+        put_cell(
+            into,
+            objects,
+            principals,
+            lines_at(frame, column, leaders[k]),
+        )?;
     }
     Ok(())
 }
@@ -53,15 +61,16 @@ fn put_row(
 /// Out of memory, also where there are more groups than numbers for them.
 pub(crate) fn put_table(
     into: &mut Vec<u8>,
+    frame: &Frame,
     columns: &[Column],
     leaders: &[usize],
 ) -> Result<(), AllocError>
     ensures { OnOk result (into.new.items ≡ into.old.items
-        ++ table_text 1 (map (λ column. row_of leaders.now (all_lines column)) columns.now)) }
+        ++ table_text 1 (map (λ column. row_of leaders.now (lines_at frame.now column)) columns.now)) }
 {
     'each: for i in 0..columns.len() {
         let objects = number_of(i + 1)?;
-        put_row(into, objects, &columns[i], leaders)?;
+        put_row(into, frame, objects, &columns[i], leaders)?;
     }
     Ok(())
 }

@@ -5,10 +5,15 @@ ghost use Rattle.std.specs.List.{flat_map};
 ghost use Rattle.ad_diff.specs.Both.{objects_of_both, principals_of_both};
 ghost use Rattle.ad_diff.specs.Text.{principal_line, object_line, table_text, only_text, IsDiffText};
 ghost use Rattle.ad_diff.specs.Answers.{DiffTold};
-ghost use Rattle.ad_diff.specs.Steps.{AreNoParties, IsOfLive, IsLiveBoth, all_lines, row_of};
+ghost use Rattle.ad_diff.specs.Frames.{lines_at};
+ghost use Rattle.ad_diff.specs.Steps.{AreNoParties, IsOfLive, IsLiveBoth};
+ghost use Rattle.ad_diff.specs.Table.{row_of};
 
+use crate::bases::Frame;
 use crate::both::{Both, Grouped, objects_of_both, principals_among};
 use crate::columns::Column;
+use crate::families::families_of;
+use crate::ground::ground_of;
 use crate::grouping::placed;
 use crate::listing::{put_object_lines, put_only, put_principal_lines};
 use crate::rows::grouped;
@@ -31,6 +36,7 @@ fn text_of(
     after: &Dir,
     principals: &[Grouped],
     objects: &[Grouped],
+    frame: &Frame,
     columns: &[Column],
     leaders: &[usize],
 ) -> Result<Vec<u8>, AllocError>
@@ -38,14 +44,14 @@ fn text_of(
     requires objects { All (λ g. IsLiveBoth before.now after.now g.both) objects.now }
     ensures { IfOk result (λ text. text.items ≡ flat_map (principal_line after.now) principals.now
         ++ (flat_map (object_line after.now) objects.now
-        ++ (table_text 1 (map (λ column. row_of leaders.now (all_lines column)) columns.now)
+        ++ (table_text 1 (map (λ column. row_of leaders.now (lines_at frame.now column)) columns.now)
         ++ (only_text (codes "only before ") before.now after.now
         ++ only_text (codes "only after ") after.now before.now)))) }
 {
     let mut text = Vec::new(alloc);
     put_principal_lines(alloc, &mut text, after, principals)?;
     put_object_lines(alloc, &mut text, after, objects)?;
-    put_table(&mut text, columns, leaders)?;
+    put_table(&mut text, frame, columns, leaders)?;
     put_only(alloc, &mut text, b"only before ", before, after)?;
     put_only(alloc, &mut text, b"only after ", after, before)?;
     Ok(text)
@@ -67,14 +73,25 @@ fn differences(
     ensures live { IfErr result (IsOfLive before.now after.now) }
 {
     let parties = parties(alloc, before, after, principals)?;
-    let placing = placed(alloc, before, after, parties.as_slice(), objects)?;
-    let rows = grouped(alloc, placing.columns.as_slice(), principals)?;
+    let families = families_of(alloc, before, after, objects)?;
+    let firsts = families.firsts.as_slice();
+    let ground = ground_of(alloc, before, after, parties.as_slice(), firsts)?;
+    let placing = placed(
+        alloc,
+        before,
+        after,
+        parties.as_slice(),
+        &ground,
+        families.objects.as_slice(),
+    )?;
+    let rows = grouped(alloc, &ground.frame, placing.columns.as_slice(), principals)?;
     Ok(text_of(
         alloc,
         before,
         after,
         rows.groups.as_slice(),
         placing.objects.as_slice(),
+        &ground.frame,
         placing.columns.as_slice(),
         rows.leaders.as_slice(),
     )?)

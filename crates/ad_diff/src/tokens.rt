@@ -1,6 +1,7 @@
 //! The tokens of the principals of both directories.
 
-ghost use Rattle.std.specs.Prelude.{◌≡◌, ◌++◌, ◌∷◌, [], true, List, All, map, IfOk, IfErr, OnOk};
+ghost use Rattle.std.specs.Prelude.{◌≡◌, ◌++◌, ◌∷◌, [], true, List, All, map, slice_get, IfOk, IfErr, OnOk};
+ghost use Rattle.std.specs.Option.{option_copied};
 ghost use Rattle.ad_dir_model.specs.Objects.{is_live};
 ghost use Rattle.ad_principals.specs.Groups.{is_principal};
 ghost use Rattle.ad_principals.specs.Membership.{AreMembersOf};
@@ -173,6 +174,13 @@ pub(crate) fn parties(
     let members = Members::of(alloc, before)?;
     let others = Members::of(alloc, after)?;
     parties_of(alloc, before, after, &members, &others, principals)
+}
+
+/// The principal at a place, if there is one.
+pub(crate) fn party_at(parties: &[Party], place: usize) -> Option<&Party>
+    ensures { option_copied result ≡ slice_get parties.entry.now place }
+{
+    parties.get(place)
 }
 
 // The line of a label and the name of a live object.

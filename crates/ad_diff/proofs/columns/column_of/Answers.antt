@@ -1,9 +1,13 @@
-use Rattle.std.proofs.Common.{length, refl}
-use Rattle.std.proofs.lemmas.Option.{slice_get_read}
+use Rattle.std.proofs.Common.{◌∙◌, ap, sym}
+use Rattle.ad_diff.specs.Holders.{listed_if}
+use Rattle.ad_diff.proofs.Putting.{column_right}
 use Rattle.ad_diff.proofs.columns.column_of.Goals as goal
 
-pub lines_of-requires-clause-steady : goal.lines_of-requires-clause-steady
-lines_of-requires-clause-steady c = λ marked. c.requires.steady c.each.i c.index-parties-i.result
-    (slice_get_read c.args.parties.now (length c.args.parties.now) c.each.i c.index-parties-i.result refl
-    c.each-test.true c.index-parties-i.is)
-    (c.is_marked-steady.ensures marked)
+pub returns : goal.returns
+returns c = column_right c.args.before.now c.args.after.now c.args.parties.now c.args.g.both c.args.ground.now
+    c.args.g.group c.plain-column.result c.judge_all.new.column c.judge_all-2.new.column c.holders_of-first.result.now
+    c.holders_of-second.result.now c.requires.parties c.requires.ground c.requires.base c.plain-column.ensures
+    (c.holders_of-first.ensures ∙ ap (listed_if c.args.ground.now.holders.places) c.asked_in.ensures)
+    (c.holders_of-second.ensures ∙ ap (listed_if c.args.ground.now.holders_after.places) c.asked_in-2.ensures)
+    c.in_ok-judge_all.ensures.right c.in_ok-judge_all.ensures.keeps c.in_ok-judge_all-2.ensures.right
+    c.in_ok-judge_all-2.ensures.keeps

@@ -1,8 +1,10 @@
 use Rattle.std.proofs.Common.{take}
-use Rattle.ad_diff.specs.Steps.{IsPlacing}
+use Rattle.ad_diff.specs.Text.{members}
+use Rattle.ad_diff.specs.Table.{IsPlacing}
 use Rattle.ad_diff.proofs.grouping.placed.Given as goal
 
 -- those so far are placed
-abbrev pub invariant-loop-o : goal.invariant-loop-o
-invariant-loop-o l =
-    IsPlacing l.before l.after l.parties (take l.o-index l.fn.objects) l.placing.objects.items l.placing.columns.items
+abbrev pub invariant-loop-g : goal.invariant-loop-g
+invariant-loop-g l =
+    IsPlacing l.before l.after l.parties l.ground.frame (members (take l.g-index l.fn.objects)) l.placing.objects.items
+    l.placing.columns.items

@@ -2,7 +2,7 @@ use Rattle.std.proofs.Common.{◌≡◌}
 use Rattle.std.specs.List.{list_any}
 use Rattle.ad_sd.specs.Seen.{seen}
 use Rattle.ad_sd.specs.View.{to_come}
-use Rattle.ad_diff.specs.Steps.{is_for_self}
+use Rattle.ad_diff.specs.Own.{is_for_self}
 use Rattle.ad_diff.proofs.own.names_self_in.Given as goal
 
 -- none so far is

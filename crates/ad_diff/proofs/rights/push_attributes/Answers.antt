@@ -4,10 +4,10 @@ use Rattle.std.proofs.lemmas.Option.{slice_get-get_or}
 use Rattle.ad_schema.specs.declared.line.SchemaRecord.{SchemaRecord}
 use Rattle.ad_schema.specs.declared.info.AttrId.{AttrId}
 use Rattle.ad_types.specs.TypesOf.{path_of}
-use Rattle.ad_access_dir.specs.Sight.{is_granted}
 use Rattle.ad_access_dir.specs.Masks.{IsMask}
 use Rattle.ad_access_dir.proofs.AllowedLaws.{allowed_all}
-use Rattle.ad_diff.specs.Rights.{attribute_labels, grants_at}
+use Rattle.ad_diff.specs.Rights.{attribute_labels}
+use Rattle.ad_diff.specs.Own.{grants_in}
 use Rattle.ad_diff.specs.Steps.{texts, masked_attribute}
 use Rattle.ad_diff.proofs.Masks.{masked_is, flat_more}
 use Rattle.ad_diff.proofs.rights.push_attributes.Goals as goal
@@ -32,16 +32,15 @@ each-preserved c =
     within in
     let mask : ℕ = get_or c.as_slice-masks.result.now ((length c.as_slice-masks.result.now - length c.args.attrs.now)
     + c.each.i) 0 in
-    let is : IsMask 0x130 (is_granted c.args.dir.now c.args.token.now c.args.number
-    (path_of c.args.dir.now.schema c.args.class attr)) mask =
-    subst (λ (masks : List ℕ). IsMask 0x130
-    (is_granted c.args.dir.now c.args.token.now c.args.number (path_of c.args.dir.now.schema c.args.class attr))
+    let grants = grants_in c.args.dir.now c.args.token.now c.args.own c.args.number in
+    let is : IsMask 0x130 (grants (path_of c.args.dir.now.schema c.args.class attr)) mask =
+    subst (λ (masks : List ℕ). IsMask 0x130 (grants (path_of c.args.dir.now.schema c.args.class attr))
     (get_or masks ((length masks - length c.args.attrs.now) + c.each.i) 0))
     (sym c.as_slice-masks.ensures.value) (c.in_ok-masks.ensures.granted c.each.i attr there) in
-    flat_more (attribute_labels c.args.dir.now.schema (grants_at c.args.dir.now c.args.token.now c.args.number)
+    flat_more (attribute_labels c.args.dir.now.schema (grants_in c.args.dir.now c.args.token.now c.args.own c.args.number)
     c.args.class) c.args.attrs.now c.each.i
     none (texts c.args.into.now.items) (texts c.each.into.items) (texts c.push_attribute.new.into.items)
     (masked_attribute c.schema.result.now attr mask) within c.each.invariant
-    (ap (λ (schema : List SchemaRecord). masked_attribute schema attr mask) c.schema.ensures ∙ masked_is c.args.dir.now
-    c.args.token.now c.args.number c.args.class attr mask is)
+    (ap (λ (schema : List SchemaRecord). masked_attribute schema attr mask) c.schema.ensures ∙ masked_is
+    c.args.dir.now.schema grants c.args.class attr mask is)
     c.in_ok-push_attribute.ensures

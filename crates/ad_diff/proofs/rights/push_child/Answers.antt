@@ -5,7 +5,8 @@ use Rattle.ad_acl.specs.Mask.{has_bit}
 use Rattle.ad_types.specs.Path.{guids_of}
 use Rattle.ad_dsacls.specs.Effective.{label_of}
 use Rattle.ad_diff.specs.declared.codes.Code.{Code}
-use Rattle.ad_diff.specs.Rights.{labels, child_codes, child_labels, grants_at}
+use Rattle.ad_diff.specs.Rights.{labels, child_codes, child_labels}
+use Rattle.ad_diff.specs.Own.{grants_in}
 use Rattle.ad_diff.specs.Steps.{texts}
 use Rattle.ad_diff.proofs.Masks.{low, child_wanted}
 use Rattle.ad_diff.proofs.Labels.{put_as, child_is, child_none}
@@ -21,12 +22,12 @@ returns-then-not-is_child_class c =
     let none = rw c.schema-2.ensures at c.if-not-is_child_class.ensures in
     sym (append-nil (texts c.args.into.now.items))
     ∙ ap (λ (t : List (List ℕ)). texts c.args.into.now.items ++ t)
-    (child_none c.args.dir.now.schema (grants_at c.args.dir.now c.args.token.now c.args.number) c.args.class
+    (child_none c.args.dir.now.schema (grants_in c.args.dir.now c.args.token.now c.args.own c.args.number) c.args.class
     c.args.child.0 c.class_info-info.result.now there (sym none))
 
 pub returns : goal.returns
 returns c =
-    let grants = grants_at c.args.dir.now c.args.token.now c.args.number in
+    let grants = grants_in c.args.dir.now c.args.token.now c.args.own c.args.number in
     let there = rw c.schema.ensures at c.class_info-info.ensures.info in
     let some = rw c.schema-2.ensures at c.if-not-is_child_class.ensures in
     put_as c.push_labels.result (texts c.args.into.now.items) (texts c.push_labels.new.into.items)

@@ -2,7 +2,8 @@ use Rattle.std.proofs.Common.{◌∙◌, [], ◌∷◌, ap}
 use Rattle.ad_acl.specs.Mask.{has_bit}
 use Rattle.ad_types.specs.Path.{guids_of}
 use Rattle.ad_dsacls.specs.Effective.{label_of}
-use Rattle.ad_diff.specs.Rights.{labels, grants_at}
+use Rattle.ad_diff.specs.Rights.{labels}
+use Rattle.ad_diff.specs.Own.{grants_in}
 use Rattle.ad_diff.specs.Steps.{texts}
 use Rattle.ad_diff.proofs.Masks.{low}
 use Rattle.ad_diff.proofs.Labels.{put_as, kind_is}
@@ -13,7 +14,7 @@ push_labels-requires c = low c.args.want c.args.codes.now c.requires.codes
 
 pub returns : goal.returns
 returns c =
-    let grants = grants_at c.args.dir.now c.args.token.now c.args.number in
+    let grants = grants_in c.args.dir.now c.args.token.now c.args.own c.args.number in
     let right = c.args.right.now in
     put_as c.push_labels.result (texts c.args.into.now.items) (texts c.push_labels.new.into.items)
     (labels (has_bit c.mask_on-mask.result) c.as_slice-2.result.now c.args.codes.now)

@@ -3,7 +3,8 @@ use Rattle.std.specs.Prelude.{All}
 use Rattle.ad_acl.specs.Mask.{has_bit}
 use Rattle.ad_types.specs.Path.{guids_of}
 use Rattle.ad_diff.specs.declared.codes.Code.{Code}
-use Rattle.ad_diff.specs.Rights.{labels, object_codes, object_labels, grants_at}
+use Rattle.ad_diff.specs.Rights.{labels, object_codes, object_labels}
+use Rattle.ad_diff.specs.Own.{grants_in}
 use Rattle.ad_diff.specs.Steps.{texts}
 use Rattle.ad_diff.proofs.Masks.{low, object_wanted}
 use Rattle.ad_diff.proofs.Labels.{put_as, object_is}
@@ -15,7 +16,7 @@ push_labels-requires c = subst (All (λ (code : Code). code.bit < 32)) (sym c.ob
 
 pub returns : goal.returns
 returns c =
-    let grants = grants_at c.args.dir.now c.args.token.now c.args.number in
+    let grants = grants_in c.args.dir.now c.args.token.now c.args.own c.args.number in
     put_as c.push_labels.result (texts c.args.into.now.items) (texts c.push_labels.new.into.items)
     (labels (has_bit c.mask_on-mask.result) (codes "object ") c.object_codes.result.now) (object_labels grants)
     (object_is grants c.mask_on-mask.result c.object_codes.result.now (guids_of c.empty.result) c.empty.ensures

@@ -3,15 +3,15 @@ use Rattle.std.specs.List.{All}
 use Rattle.std.proofs.lemmas.List.{take_all}
 use Rattle.std.proofs.lemmas.List.Elements.{All-more}
 use Rattle.ad_diff.specs.declared.columns.Column.{Column}
-use Rattle.ad_diff.specs.Steps.{lines_at}
+use Rattle.ad_diff.specs.Frames.{lines_at}
 use Rattle.ad_diff.proofs.rows.is_quiet_row.Goals as goal
 
 pub loop-column-preserved : goal.loop-column-preserved
-loop-column-preserved c = All-more (λ (column : Column). lines_at column c.args.place ≡ []) c.args.columns.now
+loop-column-preserved c = All-more (λ (column : Column). lines_at c.args.frame.now column c.args.place ≡ []) c.args.columns.now
     c.loop-column.column-index c.column-item.result c.loop-column-test.true c.loop-column.invariant
-    (subst (λ (column : Column). lines_at column c.args.place ≡ []) c.column-item.is
+    (subst (λ (column : Column). lines_at c.args.frame.now column c.args.place ≡ []) c.column-item.is
     (c.has_none.ensures c.if-not-has_none.false))
 
 pub returns : goal.returns
-returns c = λ done. subst (All (λ (column : Column). lines_at column c.args.place ≡ []))
+returns c = λ done. subst (All (λ (column : Column). lines_at c.args.frame.now column c.args.place ≡ []))
     (take_all c.loop-column.column-index c.args.columns.now c.loop-column-test.false) c.loop-column.invariant

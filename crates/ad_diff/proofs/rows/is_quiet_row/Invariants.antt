@@ -1,10 +1,10 @@
 use Rattle.std.proofs.Common.{◌≡◌, [], take}
 use Rattle.std.specs.List.{All}
 use Rattle.ad_diff.specs.declared.columns.Column.{Column}
-use Rattle.ad_diff.specs.Steps.{lines_at}
+use Rattle.ad_diff.specs.Frames.{lines_at}
 use Rattle.ad_diff.proofs.rows.is_quiet_row.Given as goal
 
 -- it has none so far
 abbrev pub invariant-loop-column : goal.invariant-loop-column
 invariant-loop-column l =
-    All (λ (column : Column). lines_at column l.place ≡ []) (take l.column-index l.columns)
+    All (λ (column : Column). lines_at l.frame column l.place ≡ []) (take l.column-index l.columns)

@@ -1,0 +1,16 @@
+use Rattle.std.proofs.Common.{◌≡◌, Option, Some, true, refl, sym, ap, subst}
+use Rattle.std.specs.Prelude.{IsSome, is_some}
+use Rattle.std.specs.Global.{Vec}
+use Rattle.std.proofs.Common.{ℕ}
+use Rattle.indexmap.specs.IndexMap.{get}
+use Rattle.ad_ids.specs.SidValue.{same_sid}
+use Rattle.ad_diff.proofs.Grounds.{gains_one}
+use Rattle.ad_diff.proofs.holders.note.Goals as goal
+
+pub returns-in-Some : goal.returns-in-Some
+returns-in-Some c =
+    let there : get same_sid c.args.table.now c.args.sid ≡ Some c.in-Some.places.now = sym c.in-Some.ensures.value in
+    let written = c.get_mut.follows.holds c.push.new.self in
+    gains_one c.args.table.now (c.get_mut.follows.lender c.push.new.self) c.args.sid c.args.place
+    c.in-Some.places.now c.push.new.self there c.in_ok-push.ensures.items
+    (written.3 (ap is_some there)).0
