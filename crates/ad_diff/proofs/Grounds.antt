@@ -1,5 +1,6 @@
 -- What is known before objects are looked at one by one: families, kinds and their lines.
-use Rattle.std.proofs.Common.{◌≡◌, ◌∙◌, ◌<◌, ◌+◌, ℕ, true, false, List, [], ◌∷◌, ◌++◌, length, map, get_or, refl, sym, ap}
+use Rattle.std.proofs.Common.{◌≡◌, ◌∙◌, ◌<◌, ◌+◌, ℕ, true, false, List, [], ◌∷◌, ◌++◌, length, map, get_or, refl, sym}
+use Rattle.std.proofs.Common.{ap}
 use Rattle.std.proofs.Common.{subst, arith, Bool, Option, Some, None, inl, inr}
 use Rattle.std.specs.Prelude.{All, slice_get, ◌==◌, ◌&&◌, ◌||◌, ◌≢◌, cond}
 use Rattle.std.specs.Option.{option_map_or}
@@ -24,7 +25,8 @@ use Rattle.ad_diff.specs.declared.bases.Frame.{Frame}
 use Rattle.ad_diff.specs.Own.{changes_in, holds_own, IsBare}
 use Rattle.ad_diff.specs.Steps.{IsParty, IsAlike, IsAlikeIn}
 use Rattle.ad_diff.specs.Families.{IsOfFamily, AreOfFamilies, IsNext}
-use Rattle.ad_diff.specs.Kinds.{IsNamedBoth, HoldAlike, AreTokensAlike, IsLike, IsLikeAt, IsOfKind, AreKinds, IsNextKind}
+use Rattle.ad_diff.specs.Kinds.{IsNamedBoth, HoldAlike, AreTokensAlike, IsLike, IsLikeAt, IsOfKind, AreKinds}
+use Rattle.ad_diff.specs.Kinds.{IsNextKind}
 use Rattle.ad_diff.specs.Holders.{listed, listed_if, Gains, token_in, AreHolders}
 use Rattle.ad_diff.specs.Frames.{bare_at, bares_on, all_bares, row_texts, base_at, HasBase, AreBases}
 use Rattle.ad_diff.proofs.Lists.{all_at, mapped_at, there_at, more_at, last_in, last_cases}
@@ -177,7 +179,8 @@ pub not_holder : {S : Type 0} (table : IndexMap SidValue (Vec ℕ) S) (parties :
 not_holder table parties first None place party all here none = refl
 not_holder table parties first (Some sid) place party all here none =
     elim (cases_Bool (holds (first_holder (token_in first party)) sid)) [
-      | inl is ↦ absurd (false≢true (sym none ∙ all place party sid (slice_get_within parties place party here) here is))
+      | inl is ↦ absurd (false≢true (sym none ∙ all place party sid (slice_get_within parties place party here) here
+          is))
       | inr not ↦ not
     ]
 

@@ -55,7 +55,8 @@ added_new frame old new column group are count =
           ap (λ (g : ℕ). group_lines frame new g place) own
           ∙ ap (λ (all : List Column). option_map_or (λ (c : Column). lines_at frame c place)
           (slice_get all (length old)) []) are
-          ∙ ap (λ (o : Option Column). option_map_or (λ (c : Column). lines_at frame c place) o []) (last_at old column);
+          ∙ ap (λ (o : Option Column). option_map_or (λ (c : Column). lines_at frame c place) o [])
+          (last_at old column);
     }
 
 -- ---- objects that are placed
@@ -112,7 +113,8 @@ pub row_by : (frame : Frame) (columns : List Column) (leaders : List ℕ) (place
 row_by frame columns leaders place n leader group same there all = subst (IsRow frame columns leaders place) (sym same)
     (record {
       within = omega (arith, slice_get_within leaders n leader there);
-      lines = λ i d lt. all i d lt ∙ sym (mapped_at (λ (l : ℕ). lines_at frame (get_or columns i d) l) leaders n leader []
+      lines = λ i d lt. all i d lt ∙ sym (mapped_at (λ (l : ℕ). lines_at frame (get_or columns i d) l) leaders n
+          leader []
           there);
     })
 
@@ -128,7 +130,8 @@ row_last frame columns old new place group are count =
           (ap (λ (all : List ℕ). slice_get all (length old)) are ∙ last_at old place) (λ i d lt. refl);
     }
 
-pub row_same : (frame : Frame) (columns : List Column) (leaders : List ℕ) (place group : ℕ) → IsRow frame columns leaders place group
+pub row_same : (frame : Frame) (columns : List Column) (leaders : List ℕ) (place group : ℕ)
+    → IsRow frame columns leaders place group
     → IsLed frame columns leaders leaders place group
 row_same frame columns leaders place group row = record { more = []; are = sym (append-nil leaders); row = row }
 
@@ -148,7 +151,8 @@ row_still frame columns old new more place group are row =
     }
 
 -- one more principal, with its group
-pub rows_more : (frame : Frame) (columns : List Column) (old new : List ℕ) (groups others : List Grouped) (place : ℕ) (g : Grouped)
+pub rows_more : (frame : Frame) (columns : List Column) (old new : List ℕ) (groups others : List Grouped) (place : ℕ)
+    (g : Grouped)
     → IsLed frame columns old new place g.group → AreRows frame columns old groups → place ≡ length groups
     → others ≡ groups ++ (g ∷ []) → AreRows frame columns new others
 rows_more frame columns old new groups others place g led rows here are i h there =

@@ -34,74 +34,75 @@ AreNodeMasks dir token own number class ids want masks = (place : ℕ) → place
     → IsMask want (node_granted (sd_at dir.objects number) token (own_sid dir own number) (tree_of dir.schema class ids)
     place) (get_or masks place 0)
 
-module _ (dir : Directory) (token : Token) (own : Bool) (number : ℕ) (class : ClassId) (ids : List AttrId) (want : ℕ) where
-  -- what is granted at the leaf of an attribute is what is granted on its path
-  leaf_grants : HasLeaves dir.schema class ids → LeafLaw → (i : ℕ) (id : AttrId) (bit : ℕ) → i < length ids
-      → slice_get ids i ≡ Some id
-      → node_granted (sd_at dir.objects number) token (own_sid dir own number) (tree_of dir.schema class ids)
-      (1 + length (sets_of dir.schema ids) + i) bit
-      ≡ grants_in dir token own number (path_of dir.schema class id) bit
-  leaf_grants has law i id bit within there =
-      let place = 1 + length (sets_of dir.schema ids) + i in
-      let inside : place < length (tree_of dir.schema class ids) = omega (arith, has.long) in
-      law (sd_at dir.objects number) token (own_sid dir own number) (tree_of dir.schema class ids) place bit inside
-      (has.leaf i within)
-      ∙ ap (λ (path : List Guid). granted (sd_at dir.objects number).owner (sd_at dir.objects number).dacl.entries
-      token (own_sid dir own number) path bit) (has.path i id there)
+module _ (dir : Directory) (token : Token) (own : Bool) (number : ℕ) (class : ClassId) (ids : List AttrId) (want : ℕ)
+  where
+    -- what is granted at the leaf of an attribute is what is granted on its path
+    leaf_grants : HasLeaves dir.schema class ids → LeafLaw → (i : ℕ) (id : AttrId) (bit : ℕ) → i < length ids
+        → slice_get ids i ≡ Some id
+        → node_granted (sd_at dir.objects number) token (own_sid dir own number) (tree_of dir.schema class ids)
+        (1 + length (sets_of dir.schema ids) + i) bit
+        ≡ grants_in dir token own number (path_of dir.schema class id) bit
+    leaf_grants has law i id bit within there =
+        let place = 1 + length (sets_of dir.schema ids) + i in
+        let inside : place < length (tree_of dir.schema class ids) = omega (arith, has.long) in
+        law (sd_at dir.objects number) token (own_sid dir own number) (tree_of dir.schema class ids) place bit inside
+        (has.leaf i within)
+        ∙ ap (λ (path : List Guid). granted (sd_at dir.objects number).owner (sd_at dir.objects number).dacl.entries
+        token (own_sid dir own number) path bit) (has.path i id there)
 
-  pub leaf_mask : HasLeaves dir.schema class ids → LeafLaw → (masks : List ℕ) → length masks
-      ≡ length (tree_of dir.schema class ids)
-      → AreNodeMasks dir token own number class ids want masks → (i : ℕ) (id : AttrId) → slice_get ids i ≡ Some id
-      → IsMask want (grants_in dir token own number (path_of dir.schema class id))
-      (get_or masks ((length masks - length ids) + i) 0)
-  leaf_mask has law masks long masked i id there =
-      let within : i < length ids = slice_get_within ids i id there in
-      let place = 1 + length (sets_of dir.schema ids) + i in
-      let inside : place < length (tree_of dir.schema class ids) = omega (arith, has.long) in
-      let same : (length masks - length ids) + i ≡ place = omega (arith, has.long, long) in
-      let mask = masked place inside in
-      rw same (record {
-        bits = λ bit lt. mask.bits bit lt ∙ ap (λ (b : Bool). mapped_has want bit && b)
-            (leaf_grants has law i id bit within there);
-      })
+    pub leaf_mask : HasLeaves dir.schema class ids → LeafLaw → (masks : List ℕ) → length masks
+        ≡ length (tree_of dir.schema class ids)
+        → AreNodeMasks dir token own number class ids want masks → (i : ℕ) (id : AttrId) → slice_get ids i ≡ Some id
+        → IsMask want (grants_in dir token own number (path_of dir.schema class id))
+        (get_or masks ((length masks - length ids) + i) 0)
+    leaf_mask has law masks long masked i id there =
+        let within : i < length ids = slice_get_within ids i id there in
+        let place = 1 + length (sets_of dir.schema ids) + i in
+        let inside : place < length (tree_of dir.schema class ids) = omega (arith, has.long) in
+        let same : (length masks - length ids) + i ≡ place = omega (arith, has.long, long) in
+        let mask = masked place inside in
+        rw same (record {
+          bits = λ bit lt. mask.bits bit lt ∙ ap (λ (b : Bool). mapped_has want bit && b)
+              (leaf_grants has law i id bit within there);
+        })
 
-  pub leaves_long : HasLeaves dir.schema class ids → (masks : List ℕ) → length masks
-      ≡ length (tree_of dir.schema class ids) → length ids ≤ length masks
-  leaves_long has masks long = omega (arith, has.long, long)
+    pub leaves_long : HasLeaves dir.schema class ids → (masks : List ℕ) → length masks
+        ≡ length (tree_of dir.schema class ids) → length ids ≤ length masks
+    leaves_long has masks long = omega (arith, has.long, long)
 
-  -- ---- of what a call answers
+    -- ---- of what a call answers
 
-  -- as the check of a tree says it
-  abbrev pub ChecksTree : {E : Type 0} → Result (Vec ℕ Global) E → List Node → Sd → Option SidValue → Type 0
-  ChecksTree r tree sd self = IfOk r (λ rights. (place bit : ℕ) → place < length tree → bit < 32
-      → right_at rights.items bit place ≡ (mapped_has want bit && node_granted sd token self tree place bit))
+    -- as the check of a tree says it
+    abbrev pub ChecksTree : {E : Type 0} → Result (Vec ℕ Global) E → List Node → Sd → Option SidValue → Type 0
+    ChecksTree r tree sd self = IfOk r (λ rights. (place bit : ℕ) → place < length tree → bit < 32
+        → right_at rights.items bit place ≡ (mapped_has want bit && node_granted sd token self tree place bit))
 
-  by_nodes : {E : Type 0} (r : Result (Vec ℕ Global) E) → ChecksTree r (tree_of dir.schema class ids)
-      (sd_at dir.objects number) (own_sid dir own number)
-      → IfOk r (λ masks. AreNodeMasks dir token own number class ids want masks.items)
-  by_nodes (Ok masks) given = λ place inside. record { bits = λ bit lt. given place bit inside lt }
-  by_nodes (Err e) given = tt
+    by_nodes : {E : Type 0} (r : Result (Vec ℕ Global) E) → ChecksTree r (tree_of dir.schema class ids)
+        (sd_at dir.objects number) (own_sid dir own number)
+        → IfOk r (λ masks. AreNodeMasks dir token own number class ids want masks.items)
+    by_nodes (Ok masks) given = λ place inside. record { bits = λ bit lt. given place bit inside lt }
+    by_nodes (Err e) given = tt
 
-  pub node_masks : {E : Type 0} (r : Result (Vec ℕ Global) E) (tree : List Node) (sd : Sd) (self : Option SidValue)
-      → tree ≡ tree_of dir.schema class ids
-      → sd ≡ sd_at dir.objects number → self ≡ own_sid dir own number → ChecksTree r tree sd self
-      → IfOk r (λ masks. AreNodeMasks dir token own number class ids want masks.items)
-  node_masks r tree sd self is_tree is_sd is_self given = by_nodes r
-      (subst (λ (t : List Node). ChecksTree r t (sd_at dir.objects number) (own_sid dir own number)) is_tree
-      (subst (λ (s : Sd). ChecksTree r tree s (own_sid dir own number)) is_sd
-      (subst (λ (o : Option SidValue). ChecksTree r tree sd o) is_self given)))
+    pub node_masks : {E : Type 0} (r : Result (Vec ℕ Global) E) (tree : List Node) (sd : Sd) (self : Option SidValue)
+        → tree ≡ tree_of dir.schema class ids
+        → sd ≡ sd_at dir.objects number → self ≡ own_sid dir own number → ChecksTree r tree sd self
+        → IfOk r (λ masks. AreNodeMasks dir token own number class ids want masks.items)
+    node_masks r tree sd self is_tree is_sd is_self given = by_nodes r
+        (subst (λ (t : List Node). ChecksTree r t (sd_at dir.objects number) (own_sid dir own number)) is_tree
+        (subst (λ (s : Sd). ChecksTree r tree s (own_sid dir own number)) is_sd
+        (subst (λ (o : Option SidValue). ChecksTree r tree sd o) is_self given)))
 
-  pub leaf_masks : {E : Type 0} (r : Result (Vec ℕ Global) E) → HasLeaves dir.schema class ids → LeafLaw
-      → IfOk r (λ masks. length masks.items ≡ length (tree_of dir.schema class ids))
-      → IfOk r (λ masks. AreNodeMasks dir token own number class ids want masks.items)
-      → IfOk r (λ masks. (i : ℕ) (id : AttrId) → slice_get ids i ≡ Some id
-      → IsMask want (grants_in dir token own number (path_of dir.schema class id))
-      (get_or masks.items ((length masks.items - length ids) + i) 0))
-  leaf_masks (Ok masks) has law long masked = leaf_mask has law masks.items long masked
-  leaf_masks (Err e) has law long masked = tt
+    pub leaf_masks : {E : Type 0} (r : Result (Vec ℕ Global) E) → HasLeaves dir.schema class ids → LeafLaw
+        → IfOk r (λ masks. length masks.items ≡ length (tree_of dir.schema class ids))
+        → IfOk r (λ masks. AreNodeMasks dir token own number class ids want masks.items)
+        → IfOk r (λ masks. (i : ℕ) (id : AttrId) → slice_get ids i ≡ Some id
+        → IsMask want (grants_in dir token own number (path_of dir.schema class id))
+        (get_or masks.items ((length masks.items - length ids) + i) 0))
+    leaf_masks (Ok masks) has law long masked = leaf_mask has law masks.items long masked
+    leaf_masks (Err e) has law long masked = tt
 
-  pub leaves_are_long : {E : Type 0} (r : Result (Vec ℕ Global) E) → HasLeaves dir.schema class ids
-      → IfOk r (λ masks. length masks.items ≡ length (tree_of dir.schema class ids))
-      → IfOk r (λ masks. length ids ≤ length masks.items)
-  leaves_are_long (Ok masks) has long = leaves_long has masks.items long
-  leaves_are_long (Err e) has long = tt
+    pub leaves_are_long : {E : Type 0} (r : Result (Vec ℕ Global) E) → HasLeaves dir.schema class ids
+        → IfOk r (λ masks. length masks.items ≡ length (tree_of dir.schema class ids))
+        → IfOk r (λ masks. length ids ≤ length masks.items)
+    leaves_are_long (Ok masks) has long = leaves_long has masks.items long
+    leaves_are_long (Err e) has long = tt

@@ -11,7 +11,8 @@ use Rattle.ad_diff.specs.Table.{row_of}
 
 -- ---- the text of columns
 
-pub row_step : (objects k principals : ℕ) (frame : Frame) (column : Column) (leaders : List ℕ) (before mid after line : List ℕ)
+pub row_step : (objects k principals : ℕ) (frame : Frame) (column : Column) (leaders : List ℕ)
+    (before mid after line : List ℕ)
     → k < length leaders
     → mid ≡ before ++ row_text objects 1 (map (λ (leader : ℕ). lines_at frame column leader) (take k leaders))
     → principals ≡ k + 1 → line ≡ lines_at frame column (get_or leaders k 0)

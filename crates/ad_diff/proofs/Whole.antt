@@ -32,19 +32,20 @@ pub whole : (before after : Directory) (parties : List Party) (frame : Frame) (c
     ++ (table_text 1 (map (λ (column : Column). row_of leaders (lines_at frame column)) columns)
     ++ (only_text (codes "only before ") before after ++ only_text (codes "only after ") after before)))
     → IsDiffText before after text
-whole before after parties frame columns objects groups leaders text same are placed rows they_are things_are is = record {
-  principals = groups;
-  objects = objects;
-  table = table_of frame columns leaders;
-  are_principals = they_are;
-  are_objects = things_are;
-  exact = exact_all before after parties frame columns objects groups leaders same are placed rows;
-  unlisted_objects = λ k. none_of_objects frame columns leaders k;
-  unlisted_principals = λ l. none_of_principals frame columns leaders l;
-  lines = is ∙ ap (λ (t : List ℕ). flat_map (principal_line after) groups ++ (flat_map (object_line after) objects
-      ++ (t ++ (only_text (codes "only before ") before after ++ only_text (codes "only after ") after before))))
-      (table_is frame columns leaders);
-}
+whole before after parties frame columns objects groups leaders text same are placed rows they_are things_are is
+    = record {
+      principals = groups;
+      objects = objects;
+      table = table_of frame columns leaders;
+      are_principals = they_are;
+      are_objects = things_are;
+      exact = exact_all before after parties frame columns objects groups leaders same are placed rows;
+      unlisted_objects = λ k. none_of_objects frame columns leaders k;
+      unlisted_principals = λ l. none_of_principals frame columns leaders l;
+      lines = is ∙ ap (λ (t : List ℕ). flat_map (principal_line after) groups ++ (flat_map (object_line after) objects
+          ++ (t ++ (only_text (codes "only before ") before after ++ only_text (codes "only after ") after before))))
+          (table_is frame columns leaders);
+    }
 
 -- ---- those of both are live, and principals
 

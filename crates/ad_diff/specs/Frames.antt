@@ -1,5 +1,6 @@
 -- Only for private contracts, invariants and proofs: the lines of kinds on families, and columns.
-use Rattle.std.specs.Prelude.{◌≡◌, ℕ, zero, suc, ◌<◌, Bool, true, false, nat_eq, Some, List, [], ◌++◌, map, get_or, length}
+use Rattle.std.specs.Prelude.{◌≡◌, ℕ, zero, suc, ◌<◌, Bool, true, false, nat_eq, Some, List, [], ◌++◌, map, get_or}
+use Rattle.std.specs.Prelude.{length}
 use Rattle.std.specs.Prelude.{slice_get}
 use Rattle.std.specs.Option.{option_map_or}
 use Rattle.std.specs.Global.{Vec}
@@ -36,7 +37,8 @@ row_texts rows = map (λ (row : Vec (Vec ℕ)). texts row.items) rows
 
 -- those of the principal at a place, by its kind
 abbrev pub base_at : Frame → ℕ → ℕ → List ℕ
-base_at frame family place = get_or (get_or (row_texts frame.rows.items) family []) (get_or frame.kinds.items place 0) []
+base_at frame family place = get_or (get_or (row_texts frame.rows.items) family []) (get_or frame.kinds.items place 0)
+    []
 
 -- they are those that each principal has on an object where own identifiers don't count
 abbrev pub HasBase : Directory → Directory → List Party → Frame → ℕ → Both → Type 0

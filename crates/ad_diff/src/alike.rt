@@ -1,4 +1,5 @@
-//! Which objects are alike: but for their own identifiers no principal gains or loses on one what it doesn't on the other.
+//! Which objects are alike: but for their own identifiers no principal gains or loses on one what it doesn't on the
+//! other.
 
 ghost use Rattle.std.specs.Prelude.{◌≡◌, true, IfSome};
 ghost use Rattle.ad_dir_model.specs.Objects.{is_live};

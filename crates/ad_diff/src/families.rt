@@ -46,7 +46,8 @@ fn begin(before: &Dir, after: &Dir, firsts: &mut Vec<Both>, o: Both) -> Result<u
     requires firsts { All (IsLiveBoth before.now after.now) firsts.now.items }
     requires live { IsLiveBoth before.now after.now o }
     ensures firsts { OnOk result (All (IsLiveBoth before.now after.now) firsts.new.items) }
-    ensures family { IfOk result (λ family. IsNext before.now after.now firsts.old.items firsts.new.items
+    ensures family { IfOk result (λ family. IsNext before.now after.now firsts.old.items
+        firsts.new.items
         family o) }
 {
     let _ = before;
@@ -67,7 +68,8 @@ fn family_of(
     requires firsts { All (IsLiveBoth before.now after.now) firsts.now.items }
     requires live { IsLiveBoth before.now after.now o }
     ensures firsts { OnOk result (All (IsLiveBoth before.now after.now) firsts.new.items) }
-    ensures family { IfOk result (λ family. IsNext before.now after.now firsts.old.items firsts.new.items
+    ensures family { IfOk result (λ family. IsNext before.now after.now firsts.old.items
+        firsts.new.items
         family o) }
 {
     if let Some(family) = hint {

@@ -1,5 +1,5 @@
-//! The principals in kinds: those of a kind hold alike the identifiers that are named, so they are granted alike where
-//! own identifiers don't count.
+//! The principals in kinds: those of a kind hold alike the identifiers that are named, so they are granted alike
+//! where own identifiers don't count.
 
 ghost use Rattle.std.specs.Prelude.{◌≡◌, ◌<◌, ◌+◌, ◌++◌, ◌∷◌, [], true, All, length, slice_get, IfOk, OnOk};
 ghost use Rattle.ad_access.specs.Holder.{first_holder, holds};
@@ -22,7 +22,8 @@ pub struct Kinds {
 
 // Whether both tokens hold the identifier, or none does.
 fn hold_same(a: &Token, b: &Token, sid: &Sid) -> bool
-    ensures { result ≡ true → holds (first_holder a.now) sid.now ≡ holds (first_holder b.now) sid.now }
+    ensures { result ≡ true → holds (first_holder a.now) sid.now ≡ holds (first_holder b.now)
+        sid.now }
 {
     let held = a.holds(sid);
     let other = b.holds(sid);
@@ -96,7 +97,8 @@ fn begin(
     place: usize,
 ) -> Result<u32, AllocError>
     requires { place < length parties.now }
-    ensures { IfOk result (IsNextKind named.now parties.now firsts.old.items firsts.new.items place) }
+    ensures { IfOk result (IsNextKind named.now parties.now firsts.old.items firsts.new.items
+        place) }
 {
     let _ = named;
     let _ = parties;
@@ -114,7 +116,8 @@ fn kind_of(
     place: usize,
 ) -> Result<u32, AllocError>
     requires { place < length parties.now }
-    ensures { IfOk result (IsNextKind named.now parties.now firsts.old.items firsts.new.items place) }
+    ensures { IfOk result (IsNextKind named.now parties.now firsts.old.items firsts.new.items
+        place) }
 {
     if let Some(kind) = hint {
         if is_of(named, parties, firsts.as_slice(), kind, &parties[place]) {

@@ -108,7 +108,8 @@ fn push_attributes(
     requires class { class.0 < length (classes_of dir.now.schema) }
     requires allowed { attrs.now ≡ allowed_attrs dir.now.schema class.0 }
     ensures { OnOk result (texts into.new.items ≡ texts into.old.items
-        ++ flat_map (attribute_labels dir.now.schema (grants_in dir.now token.now own number) class) attrs.now) }
+        ++ flat_map (attribute_labels dir.now.schema (grants_in dir.now token.now own number) class)
+        attrs.now) }
 {
     let masks = attr_masks(
         alloc,
@@ -246,7 +247,8 @@ fn push_rights(
 ) -> Result<(), AllocError>
     requires { is_live dir.now.objects number ≡ true }
     ensures { OnOk result (texts into.new.items ≡ texts into.old.items
-        ++ flat_map (right_labels dir.now.schema (grants_in dir.now token.now own number) class) rights.now) }
+        ++ flat_map (right_labels dir.now.schema (grants_in dir.now token.now own number) class)
+        rights.now) }
 {
     for right in rights {
         push_right(alloc, into, dir, token, number, own, class, right)?;

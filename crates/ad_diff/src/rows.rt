@@ -43,7 +43,8 @@ fn is_quiet_row(frame: &Frame, columns: &[Column], place: usize) -> bool
 
 // Whether both have the same lines in a column.
 fn same_lines(frame: &Frame, column: &Column, place: usize, other: usize) -> bool
-    ensures { result ≡ true → lines_at frame.now column.now place ≡ lines_at frame.now column.now other }
+    ensures { result ≡ true → lines_at frame.now column.now place ≡ lines_at frame.now column.now
+        other }
 {
     lines_at(frame, column, place) == lines_at(frame, column, other)
 }
@@ -134,8 +135,8 @@ fn mix_column(hashes: &mut [u64], number: usize, column: &Column) {
     }
 }
 
-// Of each principal a hash that those have in common which have the same lines: of one kind, and of others than its own
-// the same.
+// Of each principal a hash that those have in common which have the same lines: of one kind, and of others than its
+// own the same.
 fn hashes_of(alloc: Global, frame: &Frame, columns: &[Column]) -> Result<Vec<u64>, AllocError> {
     let mut hashes = kind_hashes(alloc, frame)?;
     'each: for number in 0..columns.len() {
@@ -164,7 +165,8 @@ fn join(
     requires { AreRows frame.now columns.now rows.now.leaders.items rows.now.groups.items }
     ensures members { OnOk result (members rows.new.groups.items
         ≡ members rows.old.groups.items ++ (principal ∷ [])) }
-    ensures rows { OnOk result (AreRows frame.now columns.now rows.new.leaders.items rows.new.groups.items) }
+    ensures rows { OnOk result (AreRows frame.now columns.now rows.new.leaders.items
+        rows.new.groups.items) }
 {
     let place = rows.groups.as_slice().len();
     let group = group_of(frame, columns, &mut rows.leaders, place, hint)?;
@@ -187,7 +189,8 @@ pub(crate) fn grouped(
     principals: &[Both],
 ) -> Result<Rows, AllocError>
     ensures members { IfOk result (λ rows. members rows.groups.items ≡ principals.now) }
-    ensures rows { IfOk result (λ rows. AreRows frame.now columns.now rows.leaders.items rows.groups.items) }
+    ensures rows { IfOk result (λ rows. AreRows frame.now columns.now rows.leaders.items
+        rows.groups.items) }
 {
     let hashes = hashes_of(alloc, frame, columns)?;
     let mut hints: IndexMap<u64, u32> = IndexMap::new(alloc);

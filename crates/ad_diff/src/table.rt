@@ -66,7 +66,8 @@ pub(crate) fn put_table(
     leaders: &[usize],
 ) -> Result<(), AllocError>
     ensures { OnOk result (into.new.items ≡ into.old.items
-        ++ table_text 1 (map (λ column. row_of leaders.now (lines_at frame.now column)) columns.now)) }
+        ++ table_text 1 (map (λ column. row_of leaders.now (lines_at frame.now column))
+        columns.now)) }
 {
     'each: for i in 0..columns.len() {
         let objects = number_of(i + 1)?;

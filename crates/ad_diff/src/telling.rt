@@ -44,7 +44,8 @@ fn text_of(
     requires objects { All (λ g. IsLiveBoth before.now after.now g.both) objects.now }
     ensures { IfOk result (λ text. text.items ≡ flat_map (principal_line after.now) principals.now
         ++ (flat_map (object_line after.now) objects.now
-        ++ (table_text 1 (map (λ column. row_of leaders.now (lines_at frame.now column)) columns.now)
+        ++ (table_text 1 (map (λ column. row_of leaders.now (lines_at frame.now column))
+        columns.now)
         ++ (only_text (codes "only before ") before.now after.now
         ++ only_text (codes "only after ") after.now before.now)))) }
 {
@@ -132,10 +133,10 @@ fn refusal(alloc: Global, before: &Dir, after: &Dir, fault: DiffFault) -> Result
     })
 }
 
-/// What each principal of two directories gains and loses on each object of both, by the tokens and the descriptors of
-/// each: lines of principals and of objects in numbered groups, and for a group of each the lines of what is gained
-/// (`+`) and lost (`-`); and a line for each object that stands in one directory alone. Or the line that names the
-/// first principal of both with more than 1,024 groups, of which directory.
+/// What each principal of two directories gains and loses on each object of both, by the tokens and the descriptors
+/// of each: lines of principals and of objects in numbered groups, and for a group of each the lines of what is
+/// gained (`+`) and lost (`-`); and a line for each object that stands in one directory alone. Or the line that names
+/// the first principal of both with more than 1,024 groups, of which directory.
 ///
 /// # Errors
 ///

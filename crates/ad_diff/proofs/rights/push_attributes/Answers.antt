@@ -37,7 +37,8 @@ each-preserved c =
     subst (λ (masks : List ℕ). IsMask 0x130 (grants (path_of c.args.dir.now.schema c.args.class attr))
     (get_or masks ((length masks - length c.args.attrs.now) + c.each.i) 0))
     (sym c.as_slice-masks.ensures.value) (c.in_ok-masks.ensures.granted c.each.i attr there) in
-    flat_more (attribute_labels c.args.dir.now.schema (grants_in c.args.dir.now c.args.token.now c.args.own c.args.number)
+    flat_more (attribute_labels c.args.dir.now.schema
+    (grants_in c.args.dir.now c.args.token.now c.args.own c.args.number)
     c.args.class) c.args.attrs.now c.each.i
     none (texts c.args.into.now.items) (texts c.each.into.items) (texts c.push_attribute.new.into.items)
     (masked_attribute c.schema.result.now attr mask) within c.each.invariant

@@ -7,7 +7,8 @@ use Rattle.ad_diff.specs.Frames.{lines_at}
 use Rattle.ad_diff.proofs.rows.is_quiet_row.Goals as goal
 
 pub loop-column-preserved : goal.loop-column-preserved
-loop-column-preserved c = All-more (λ (column : Column). lines_at c.args.frame.now column c.args.place ≡ []) c.args.columns.now
+loop-column-preserved c = All-more (λ (column : Column). lines_at c.args.frame.now column c.args.place ≡ [])
+    c.args.columns.now
     c.loop-column.column-index c.column-item.result c.loop-column-test.true c.loop-column.invariant
     (subst (λ (column : Column). lines_at c.args.frame.now column c.args.place ≡ []) c.column-item.is
     (c.has_none.ensures c.if-not-has_none.false))

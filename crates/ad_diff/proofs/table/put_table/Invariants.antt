@@ -8,5 +8,6 @@ use Rattle.ad_diff.proofs.table.put_table.Given as goal
 -- the columns so far
 abbrev pub invariant-each : goal.invariant-each
 invariant-each l =
-    l.into.items ≡ l.fn.into.items ++ table_text 1 (map (λ (column : Column). row_of l.leaders (lines_at l.frame column))
+    l.into.items ≡ l.fn.into.items ++ table_text 1
+    (map (λ (column : Column). row_of l.leaders (lines_at l.frame column))
     (take l.i l.columns))

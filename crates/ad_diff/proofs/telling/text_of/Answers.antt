@@ -12,7 +12,8 @@ returns c = five_put c.new-text.result.items c.put_principal_lines.new.into.item
     c.put_table.new.into.items c.put_only.new.into.items c.put_only-2.new.into.items
     (flat_map (principal_line c.args.after.now) c.args.principals.now)
     (flat_map (object_line c.args.after.now) c.args.objects.now)
-    (table_text 1 (map (λ (column : Column). row_of c.args.leaders.now (lines_at c.args.frame.now column)) c.args.columns.now))
+    (table_text 1 (map (λ (column : Column). row_of c.args.leaders.now (lines_at c.args.frame.now column))
+    c.args.columns.now))
     (only_text (codes "only before ") c.args.before.now c.args.after.now)
     (only_text (codes "only after ") c.args.after.now c.args.before.now)
     c.new-text.ensures.items c.in_ok-put_principal_lines.ensures c.in_ok-put_object_lines.ensures
