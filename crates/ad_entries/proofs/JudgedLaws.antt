@@ -25,17 +25,19 @@ use Rattle.ad_schema.specs.declared.line.SchemaRecord.{SchemaRecord}
 use Rattle.ad_schema.specs.Attributes.{attrs_of}
 use Rattle.ad_ids.specs.declared.guid.Guid.{Guid}
 use Rattle.ad_ldap.specs.MessageValue.{SearchValue}
-use Rattle.ad_dir_model.specs.Objects.{object_at, sd_at}
+use Rattle.ad_dir_model.specs.Objects.{is_live, object_at, sd_at}
 use Rattle.ad_dir_model.specs.Identity.{self_sid}
 use Rattle.ad_dir_model.specs.Directory.{Directory}
 use Rattle.ad_access_dir.specs.Sight.{is_granted}
 use Rattle.ad_entries.specs.declared.kinds.Own.{Own}
 use Rattle.ad_entries.specs.declared.kinds.Kind.{Kind}
+use Rattle.ad_entries.specs.declared.judged.Judged.{Judged}
 use Rattle.ad_entries.specs.Seen.{is_never_read, is_granted_on, is_readable}
 use Rattle.ad_entries.specs.Entry.{changing_attrs}
 use Rattle.ad_entries.specs.Kinds.{AnswersSo, IsOf}
 use Rattle.ad_entries.specs.Places.{is_asked_of, is_asked_at, is_readable_of, is_readable_at}
 use Rattle.ad_entries.specs.Verdicts.{AreTrue, KnowsOf}
+use Rattle.ad_entries.specs.Judged.{IsJudged}
 use Rattle.ad_constructed_dir.specs.Changing.{changing_of}
 use Rattle.ad_constructed_dir.proofs.AlikeLaws.{changing_so}
 
@@ -186,6 +188,12 @@ none_judged truth n place = elim (cases_lt place n) [
 ]
 
 -- ---- what is kept of kinds
+
+pub all_live : (dir : Directory) (token : Token) (search : SearchValue) (all : List Judged)
+    → AllByRecursion (IsJudged dir token search) all
+    → AllByRecursion (λ (one : Judged). is_live dir.objects one.kind.sample ≡ true) all
+all_live dir token search [] are = tt
+all_live dir token search (one ∷ others) are = (are.0.live, all_live dir token search others are.1)
 
 pub all_with : {A : Type 0} → (P : A → Type 0) (xs : List A) (x : A) → AllByRecursion P xs → P x
     → AllByRecursion P (xs ++ x ∷ [])

@@ -1,11 +1,13 @@
 //! What is judged in a search of the objects of each kind, once: which attributes may be read, those of them that an
 //! object shows, and what tells what a token may change.
 
-ghost use Rattle.std.specs.Prelude.{◌≡◌, ◌<◌, true, length, slice_index_or, IfOk, IfSome, OnOk};
+ghost use Rattle.std.specs.Prelude.{◌≡◌, ◌<◌, ℕ, true, length, slice_index_or, IfOk, IfSome, OnOk};
 ghost use Rattle.std.specs.List.{AllByRecursion};
-ghost use Rattle.ad_ldap.specs.MessageValue.{search_seen};
+ghost use Rattle.ad_ids.specs.declared.token.Token.{Token as Asker};
+ghost use Rattle.ad_ldap.specs.MessageValue.{SearchValue, search_seen};
 ghost use Rattle.ad_dir_model.specs.Objects.{is_live};
 ghost use Rattle.ad_dir_model.specs.Names.{rdns_of};
+ghost use Rattle.ad_dir_model.specs.Directory.{Directory};
 ghost use Rattle.ad_entries.specs.Seen.{parts_read, seen_of};
 ghost use Rattle.ad_entries.specs.Entry.{descriptor_given, entry_of};
 ghost use Rattle.ad_entries.specs.Given.{descriptor_seen, made_seen};
@@ -48,20 +50,15 @@ pub struct Kinds {
     pub judged: Vec<Judged>,
 }
 
-/// Where nothing was judged yet.
+/// Where nothing was judged yet, whoever asks.
 ///
 /// # Errors
 ///
 /// Out of memory.
-pub fn no_kinds(
-    alloc: Global,
-    dir: &Dir,
-    token: &Token,
-    search: &Search,
-) -> Result<Kinds, AllocError>
-    ensures { IfOk result (λ kinds. AreKinds dir.now token.now (search_seen search.now) kinds) }
+pub fn no_kinds(alloc: Global, dir: &Dir, search: &Search) -> Result<Kinds, AllocError>
+    ensures { IfOk result (λ kinds. (token : Asker) → AreKinds dir.now token
+        (search_seen search.now) kinds) }
 {
-    let _ = token;
     let asked = asked_of(alloc, dir.schema(), search.attrs.as_slice())?;
     Ok(Kinds {
         asked,
@@ -70,24 +67,15 @@ pub fn no_kinds(
 }
 
 // Where what was judged of a kind stands: of the last ones first.
-fn place_of(
-    judged: &[Judged],
-    dir: &Dir,
-    token: &Token,
-    search: &Search,
-    number: u32,
-    kind: Kind,
-) -> Option<usize>
-    requires judged { AllByRecursion (IsJudged dir.now token.now (search_seen search.now)) judged.now }
+fn place_of(judged: &[Judged], dir: &Dir, kind: Kind) -> Option<usize>
+    requires judged { AllByRecursion (λ one. is_live dir.now.objects one.kind.sample ≡ true)
+        judged.now }
     requires live { is_live dir.now.objects kind.sample ≡ true }
-    requires kind { IsOf dir.now token.now kind number }
     ensures within { IfSome result (λ place. place < length judged.now) }
-    ensures of { IfSome result (λ place. (d : Judged) → IsOf dir.now token.now
-        (slice_index_or judged.now place d).kind number) }
+    ensures of { IfSome result (λ place. (token : Asker) (number : ℕ) (d : Judged)
+        → IsOf dir.now token kind number
+        → IsOf dir.now token (slice_index_or judged.now place d).kind number) }
 {
-    let _ = token;
-    let _ = search;
-    let _ = number;
     let mut place = judged.len();
     'each: while place > 0 {
         place -= 1;
@@ -143,28 +131,18 @@ fn taken(
         judged.new.items) }
 {
     let kind = kind_of(dir, token, number);
-    match place_of(judged.as_slice(), dir, token, search, number, kind) {
+    match place_of(judged.as_slice(), dir, kind) {
         Some(place) => Ok(judged.swap_remove(place)),
         None => unjudged(alloc, dir, token, number, search, apart, kind),
     }
 }
 
 // Puts it back, up to so many kinds.
-fn put_back(
-    dir: &Dir,
-    token: &Token,
-    search: &Search,
-    one: Judged,
-    judged: &mut Vec<Judged>,
-) -> Result<(), AllocError>
-    requires one { IsJudged dir.now token.now (search_seen search.now) one }
-    requires judged { AllByRecursion (IsJudged dir.now token.now (search_seen search.now)) judged.old.items }
-    ensures { OnOk result (AllByRecursion (IsJudged dir.now token.now (search_seen search.now))
-        judged.new.items) }
+fn put_back(one: Judged, judged: &mut Vec<Judged>) -> Result<(), AllocError>
+    ensures { OnOk result ((dir : Directory) (token : Asker) (search : SearchValue)
+        → IsJudged dir token search one → AllByRecursion (IsJudged dir token search) judged.old.items
+        → AllByRecursion (IsJudged dir token search) judged.new.items) }
 {
-    let _ = dir;
-    let _ = token;
-    let _ = search;
     if judged.len() < MOST_KINDS {
         judged.push(one)?;
     }
@@ -225,7 +203,7 @@ pub fn places_judged(
     let apart = kinds.asked.apart;
     let mut one = taken(alloc, dir, token, number, search, apart, &mut kinds.judged)?;
     let places = places_by(alloc, dir, token, number, search, &kinds.asked, &mut one)?;
-    put_back(dir, token, search, one, &mut kinds.judged)?;
+    put_back(one, &mut kinds.judged)?;
     Ok(places)
 }
 
@@ -269,7 +247,7 @@ pub fn entry_judged(
         one.changing.as_slice(),
         apart.descriptor,
     )?;
-    put_back(dir, token, search, one, &mut kinds.judged)?;
+    put_back(one, &mut kinds.judged)?;
     Ok(made)
 }
 

@@ -5,7 +5,7 @@
 //! # Example
 //!
 //! ```text
-//! let mut kinds = ad_entries::no_kinds(alloc, &dir, &token, &search)?;
+//! let mut kinds = ad_entries::no_kinds(alloc, &dir, &search)?;
 //! let made = ad_entries::entry_judged(alloc, &dir, &token, number, &name, id, &search, flags, &mut kinds)?;
 //! ```
 //!

@@ -141,7 +141,7 @@ fn entries(
 {
     let list_mode = dir.list_mode();
     let mut last = no_parent();
-    let mut kinds = no_kinds(alloc, dir, token, search)?;
+    let mut kinds = no_kinds(alloc, dir, search)?;
     let mut joined = Joined::new(alloc);
     'each: for number in numbers {
         let stop = step(

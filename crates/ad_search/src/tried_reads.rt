@@ -291,7 +291,7 @@ fn reads_among(
 {
     let list_mode = dir.list_mode();
     let mut last = no_parent();
-    let mut kinds = no_kinds(alloc, dir, token, search)?;
+    let mut kinds = no_kinds(alloc, dir, search)?;
     let mut count = Count {
         given: 0,
         joined: 0,
