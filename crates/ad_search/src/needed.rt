@@ -16,7 +16,7 @@ ghost use Rattle.ad_search.specs.Needles.{IsNeedle};
 ghost use Rattle.ad_search.specs.Needed.{IsMet, HasMet, AreMet, IsNeededBy};
 
 use crate::indexed::{Sought, sought_of};
-use crate::needles::{Needle, may_show, may_show_some, needle_of, plain_named, steps_to};
+use crate::needles::{Needle, may_show, may_show_some, needle_of, plain_named};
 use ad_dir::Dir;
 use ad_ldap::{Filter, what_is_seen_of_filters};
 use ad_schema::AttrId;
@@ -169,34 +169,27 @@ pub(crate) fn need_of(alloc: Global, dir: &Dir, filter: &Filter) -> Result<Optio
 
 // ---- of an object
 
-/// So many steps along an object's attributes and values are gone before it is left to the filter, so that many values
-/// sent and many values stored don't take the one times the other.
-const MOST_STEPS: usize = 4_000;
+/// How many parts of what is needed an object is looked at for. One that may show these is left to the filter, so that
+/// many values sent and many values stored don't take the one times the other.
+const MAX_LOOKS: u32 = 16;
 
-// Whether one step more is left, which is taken.
-fn takes_step(steps: &mut usize) -> bool {
-    if *steps == 0 {
+// Whether one look more is left, which is taken.
+fn takes_look(looks: &mut u32) -> bool {
+    if *looks == 0 {
         return false;
     }
-    *steps -= 1;
+    *looks -= 1;
     true
-}
-
-// Takes the steps of a look at what the object stores of the attribute.
-fn take_look(dir: &Dir, number: u32, attr: AttrId, steps: &mut usize)
-    requires live { is_live dir.now.objects number ≡ true }
-{
-    *steps = steps.saturating_sub(steps_to(dir, number, attr));
 }
 
 // Whether an object may show one of these.
 #[cycle(look)]
-fn may_meet_one(dir: &Dir, number: u32, needs: &[Need], steps: &mut usize) -> bool
+fn may_meet_one(dir: &Dir, number: u32, needs: &[Need], looks: &mut u32) -> bool
     requires live { is_live dir.now.objects number ≡ true }
     ensures { IsFalse result → HasMet dir.now number needs.now → ⊥ }
 {
     'each: for need in needs {
-        if may_meet_within(dir, number, need, steps) {
+        if may_meet_within(dir, number, need, looks) {
             return true;
         }
     }
@@ -205,46 +198,40 @@ fn may_meet_one(dir: &Dir, number: u32, needs: &[Need], steps: &mut usize) -> bo
 
 // Whether it may show all of them.
 #[cycle(look)]
-fn may_meet_all(dir: &Dir, number: u32, needs: &[Need], steps: &mut usize) -> bool
+fn may_meet_all(dir: &Dir, number: u32, needs: &[Need], looks: &mut u32) -> bool
     requires live { is_live dir.now.objects number ≡ true }
     ensures { IsFalse result → AreMet dir.now number needs.now → ⊥ }
 {
     'each: for need in needs {
-        if !may_meet_within(dir, number, need, steps) {
+        if !may_meet_within(dir, number, need, looks) {
             return false;
         }
     }
     true
 }
 
-// Whether it may show what is needed, as far as these steps lead.
+// Whether it may show what is needed, as far as these looks tell.
 #[cycle(look)]
-fn may_meet_within(dir: &Dir, number: u32, need: &Need, steps: &mut usize) -> bool
+fn may_meet_within(dir: &Dir, number: u32, need: &Need, looks: &mut u32) -> bool
     requires live { is_live dir.now.objects number ≡ true }
     ensures { IsFalse result → IsMet dir.now number need.now → ⊥ }
 {
-    if !takes_step(steps) {
+    if !takes_look(looks) {
         return true;
     }
     match need {
-        Need::One(leaf) => {
-            take_look(dir, number, leaf.needle.attr, steps);
-            may_show(dir, number, &leaf.needle)
-        }
-        Need::Present(attr) => {
-            take_look(dir, number, *attr, steps);
-            may_show_some(dir, number, *attr)
-        }
-        Need::AnyOf(needs) => may_meet_one(dir, number, needs.as_slice(), steps),
-        Need::AllOf(needs) => may_meet_all(dir, number, needs.as_slice(), steps),
+        Need::One(leaf) => may_show(dir, number, &leaf.needle),
+        Need::Present(attr) => may_show_some(dir, number, *attr),
+        Need::AnyOf(needs) => may_meet_one(dir, number, needs.as_slice(), looks),
+        Need::AllOf(needs) => may_meet_all(dir, number, needs.as_slice(), looks),
     }
 }
 
-/// Whether an object may show what is needed, by a look at what it stores.
+/// Whether an object may show what is needed, by a few looks at what it stores.
 pub(crate) fn may_meet(dir: &Dir, number: u32, need: &Need) -> bool
     requires live { is_live dir.now.objects number ≡ true }
     ensures { IsFalse result → IsMet dir.now number need.now → ⊥ }
 {
-    let mut steps = MOST_STEPS;
-    may_meet_within(dir, number, need, &mut steps)
+    let mut looks = MAX_LOOKS;
+    may_meet_within(dir, number, need, &mut looks)
 }

@@ -129,14 +129,6 @@ fn any_may(stored: &[Stored], value: &Value) -> bool
     stored.iter().any(|own| may_have(own, value))
 }
 
-// How many attributes and values of an object a look at one attribute goes along, at most.
-pub(crate) fn steps_to(dir: &Dir, number: u32, attr: AttrId) -> usize
-    requires live { is_live dir.now.objects number ≡ true }
-{
-    let values = live_object(dir, number).values.as_slice();
-    values.len().saturating_add(stored_of(values, attr).len())
-}
-
 // Whether an object may show what is needed: by what it stores, unless the attribute shows its naming value.
 pub(crate) fn may_show(dir: &Dir, number: u32, needle: &Needle) -> bool
     requires live { is_live dir.now.objects number ≡ true }
