@@ -33,9 +33,11 @@ mod hex;
 mod inline;
 mod input;
 mod list;
+mod ranges;
 
 pub use bytes::Bytes;
 pub use few::Few;
 pub use hex::{hex_char, hex_value};
 pub use input::{Input, Short};
 pub use list::List;
+pub use ranges::{are_bytes, is_bytes};

@@ -1,7 +1,5 @@
 //! Laws of messages, as contracts of functions that do nothing.
 ghost use Rattle.std.specs.Prelude.{◌≡◌, List, ℕ};
-ghost use Rattle.std.specs.List.{AllByRecursion};
-ghost use Rattle.ad_bytes.specs.Reading.{IsBytes};
 ghost use Rattle.ad_ldap.specs.declared.filter.Filter as code;
 ghost use Rattle.ad_ldap.specs.declared.filter.Filters.{Filters as FiltersValue};
 ghost use Rattle.ad_ldap.specs.FilterValue.{filter_seen, filters_seen, filters_of};
@@ -9,8 +7,6 @@ ghost use Rattle.ad_ldap.specs.FilterValue as value;
 ghost use Rattle.ad_ldap.specs.MessageValue.{MessageValue};
 ghost use Rattle.ad_ldap.specs.Messages.{SpellsMessage};
 ghost use Rattle.ad_ldap.specs.Ranges.{HasRanges};
-
-use ad_bytes::Bytes;
 
 /// What is true of each message that has an encoding, so of each that is read: its number is from 1 to 2^31 - 1, a
 /// scope and an operation of a modify at most 2, a filter at most 64 deep, and each attribute of an add has a
@@ -26,18 +22,3 @@ pub fn what_is_seen_of_filters()
     ensures any { (filters : FiltersValue) → filter_seen (code.Or filters)
         ≡ value.Or (filters_of (filters_seen filters)) }
 {}
-
-fn are_bytes(bytes: &[u8])
-    ensures { IsBytes bytes.now }
-{
-    let _ = bytes;
-}
-
-/// Each value is a list of bytes.
-pub fn values_are_bytes(values: &[Bytes])
-    ensures { AllByRecursion IsBytes values.now }
-{
-    for value in values {
-        are_bytes(value.as_slice());
-    }
-}

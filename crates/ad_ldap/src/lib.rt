@@ -56,7 +56,7 @@ pub use fault::LdapFault;
 pub use filter::{Filter, Filters};
 pub use items::Item;
 pub use judging::settings;
-pub use laws::{values_are_bytes, what_a_message_has, what_is_seen_of_filters};
+pub use laws::{what_a_message_has, what_is_seen_of_filters};
 pub use message_reading::read_message;
 pub use reply::Reply;
 pub use reply_writing::write_reply;

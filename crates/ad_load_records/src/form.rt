@@ -3,24 +3,18 @@
 
 ghost use Rattle.std.specs.Prelude.{map};
 ghost use Rattle.std.specs.List.{AllByRecursion};
-ghost use Rattle.ad_bytes.specs.Reading.{IsBytes};
 ghost use Rattle.ad_load_records.specs.Good.{HasBytes, IsGoodRecord};
 ghost use Rattle.ad_load_records.specs.Seen.{held_field, seen};
 
 use crate::records::Record;
+use ad_bytes::is_bytes;
 use ad_ldif::LdifLine as HeldLine;
-
-fn are_bytes(bytes: &[u8])
-    ensures { IsBytes bytes.now }
-{
-    let _ = bytes;
-}
 
 fn lines_are_bytes(lines: &[HeldLine])
     ensures { AllByRecursion HasBytes (map held_field lines.now) }
 {
     for line in lines {
-        are_bytes(line.value());
+        is_bytes(line.value());
     }
 }
 

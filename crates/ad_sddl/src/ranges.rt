@@ -1,10 +1,10 @@
 //! That values have their ranges, which a contract can't see from outside. Each of these functions does nothing.
 
 ghost use Rattle.std.specs.Prelude.{◌<◌, ◌^◌};
-ghost use Rattle.ad_bytes.specs.Reading.{IsBytes};
 ghost use Rattle.ad_acl.specs.Writing.{IsEntry, IsGuidIf};
 
 use ad_acl::Ace;
+use ad_bytes::is_bytes;
 use ad_ids::Guid;
 
 fn flags_fit(flags: u8)
@@ -15,15 +15,11 @@ fn mask_fits(mask: u32)
     ensures { mask < 2 ^ 32 }
 {}
 
-fn are_bytes(bytes: &[u8])
-    ensures { IsBytes bytes.now }
-{}
-
 fn guid_has_its_ranges(guid: &Option<Guid>)
     ensures { IsGuidIf guid.now }
 {
     if let Some(guid) = guid {
-        are_bytes(&guid.bytes);
+        is_bytes(&guid.bytes);
     }
 }
 

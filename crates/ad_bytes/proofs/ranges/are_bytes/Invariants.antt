@@ -1,7 +1,7 @@
 use Rattle.std.proofs.Common.{drop}
 use Rattle.std.specs.List.{AllByRecursion}
 use Rattle.ad_bytes.specs.Reading.{IsBytes}
-use Rattle.ad_ldap.proofs.laws.values_are_bytes.Given as goal
+use Rattle.ad_bytes.proofs.ranges.are_bytes.Given as goal
 
 -- if the others are, all are
 abbrev pub invariant-loop-value : goal.invariant-loop-value
