@@ -46,7 +46,7 @@ pub use laws::{
     a_leaf_is_granted_where_its_path_is, an_inner_node_is_granted_where_its_children_are,
     the_own_identifier_counts_by_who_answers_to_it,
 };
-pub use matching::{is_about, is_inherit_only, matches};
+pub use matching::{is_about, is_inherit_only, is_spoken, matches};
 pub use tree::check_tree;
 pub use visible::sees;
 pub use well_known::{CREATOR_AUTHORITY, NT_AUTHORITY, OWNER_RIGHTS, PRINCIPAL_SELF};

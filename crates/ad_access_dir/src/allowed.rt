@@ -6,28 +6,29 @@ ghost use Rattle.ad_schema.specs.Classes.{classes_of};
 ghost use Rattle.ad_access_dir.specs.Allowed.{allowed_below, allowed_attrs};
 
 use ad_dir::Dir;
-use ad_schema::{AttrId, ClassId, records_are_few};
+use ad_schema::{AttrId, ClassId};
 use std::alloc::{AllocError, Global};
 
 /// The number of the schema's attributes.
 pub fn attr_count(dir: &Dir) -> u32
     ensures { result ≡ length (attrs_of dir.now.schema) }
 {
-    dir.schema().make_schema();
-    records_are_few();
-    dir.schema().attrs().len() as u32
+    ad_schema::attr_count(dir.schema())
 }
 
 /// The number of the schema's classes.
 pub fn class_count(dir: &Dir) -> u32
     ensures { result ≡ length (classes_of dir.now.schema) }
 {
-    dir.schema().make_schema();
-    records_are_few();
-    dir.schema().classes().len() as u32
+    ad_schema::class_count(dir.schema())
 }
 
-fn push_if(attrs: &mut Vec<AttrId>, wanted: bool, attr: AttrId) -> Result<(), AllocError>
+/// Puts the attribute after the others where it is wanted.
+///
+/// # Errors
+///
+/// Out of memory.
+pub fn push_if(attrs: &mut Vec<AttrId>, wanted: bool, attr: AttrId) -> Result<(), AllocError>
     ensures { OnOk result (attrs.new.items ≡ attrs.old.items
         ++ (if wanted then attr ∷ [] else [])) }
 {

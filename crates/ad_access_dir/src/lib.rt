@@ -30,7 +30,7 @@ mod masks;
 mod sight;
 mod visible;
 
-pub use allowed::{allowed_attrs, attr_count, class_count};
+pub use allowed::{allowed_attrs, attr_count, class_count, push_if};
 pub use masks::{attr_masks, tree_masks};
 pub use sight::{granted, grants};
 pub use visible::is_visible;

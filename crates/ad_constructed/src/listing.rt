@@ -9,26 +9,8 @@ ghost use Rattle.ad_constructed.specs.Names.{all_items};
 
 use crate::names::{is_child_listed, is_listed, push_if};
 use crate::rights::Rights;
-use ad_schema::{AttrId, ClassId, Schema, records_are_few};
+use ad_schema::{AttrId, ClassId, Schema, attr_count, class_count};
 use std::alloc::{AllocError, Global};
-
-// The number of attributes.
-fn attr_count(schema: &Schema) -> u32
-    ensures { result ≡ length (attrs_of schema.now) }
-{
-    schema.make_schema();
-    records_are_few();
-    schema.attrs().len() as u32
-}
-
-// The number of classes.
-fn class_count(schema: &Schema) -> u32
-    ensures { result ≡ length (classes_of schema.now) }
-{
-    schema.make_schema();
-    records_are_few();
-    schema.classes().len() as u32
-}
 
 fn push_attribute<R: Rights>(
     alloc: Global,

@@ -1,6 +1,6 @@
 //! Whether an attribute or a class is listed, one at a time.
 
-ghost use Rattle.std.specs.Prelude.{◌≡◌, ◌<◌, ◌==◌, ◌++◌, length, map, OnOk};
+ghost use Rattle.std.specs.Prelude.{◌≡◌, ◌<◌, ◌==◌, ◌++◌, length, OnOk};
 ghost use Rattle.ad_schema.specs.Attributes.{attrs_of};
 ghost use Rattle.ad_schema.specs.Classes.{classes_of, naming_of};
 ghost use Rattle.ad_schema.specs.Meaning.{is_computed};
@@ -8,23 +8,11 @@ ghost use Rattle.ad_constructed.specs.Listed.{name_if, is_object_sid, is_replace
 ghost use Rattle.ad_constructed.specs.Names.{all_items};
 
 use crate::rights::Rights;
-use ad_schema::{AttrId, AttrInfo, ClassId, RuleAttr, Schema};
-use ad_schema_classes::same_name;
+use ad_schema::{AttrId, AttrInfo, ClassId, RuleAttr, Schema, is_computed};
 use ad_schema_defaults::{is_schema_class, is_structural};
 use std::alloc::{AllocError, Global};
 
 // ---- attributes
-
-// What is made of the object itself, and its descriptor.
-#[tactic(auto, unfolding(ad_schema::specs::Meaning::is_computed))]
-fn is_computed(name: &[u8]) -> bool
-    ensures { result ≡ is_computed name.now }
-{
-    same_name(name, b"objectClass")
-        || same_name(name, b"distinguishedName")
-        || same_name(name, b"name")
-        || same_name(name, b"nTSecurityDescriptor")
-}
 
 fn is_naming(schema: &Schema, class: ClassId, attr: AttrId) -> bool
     requires { class.0 < length (classes_of schema.now) }

@@ -1,17 +1,14 @@
 -- The names of a schema's attributes are types of names' parts.
-use Rattle.std.proofs.Common.{◌≡◌, ℕ, zero, suc, Bool, inl, inr, true, false, ◌==◌, List, [], ◌∷◌, ◌++◌, map, get_or}
-use Rattle.std.proofs.Common.{Option, Some, None, Result, Ok, Err, unwrap_or, refl, sym, subst, ap, ◌∙◌}
+use Rattle.std.proofs.Common.{◌≡◌, ℕ, zero, suc, Bool, inl, inr, true, false, List, [], ◌∷◌, ◌++◌}
+use Rattle.std.proofs.Common.{Option, Some, None, Result, Ok, Err, refl, sym, subst}
 use Rattle.std.proofs.Common.{if◌then◌else◌}
 use Rattle.std.specs.Prelude.{slice_get, is_ok, not, ◌||◌}
-use Rattle.std.specs.Option.{option_map, option_map_or, option_or}
+use Rattle.std.specs.Option.{option_or}
 use Rattle.std.specs.List.{AllByRecursion, list_any}
-use Rattle.std.proofs.lemmas.Bool.{cases_Bool, and_parts, eqb-true}
-use Rattle.std.proofs.lemmas.List.Quantifiers.{position-Some}
-use Rattle.std.proofs.lemmas.Option.{none-some, same_Some, slice_get-map}
+use Rattle.std.proofs.lemmas.Bool.{cases_Bool, and_parts}
+use Rattle.std.proofs.lemmas.Option.{none-some, same_Some}
 use Rattle.ad_bytes.specs.Reading.{◌>>=◌}
 use Rattle.ad_dn.specs.AttributeType.{IsType, is_type}
-use Rattle.ad_schema_classes.specs.Names.{same_name, place_of}
-use Rattle.ad_schema.specs.declared.info.AttrId.{AttrId}
 use Rattle.ad_schema.specs.declared.line.SchemaKind.{SchemaKind}
 use Rattle.ad_schema.specs.declared.line.SchemaKind.TheVariants.{Attribute, Class, Right}
 use Rattle.ad_schema.specs.declared.line.Line.{Line}
@@ -20,15 +17,12 @@ use Rattle.ad_schema.specs.declared.fault.SchemaFault.{SchemaFault}
 use Rattle.ad_schema.specs.declared.field.Field.{Field}
 use Rattle.ad_schema.specs.declared.field.Field.TheVariants as field
 use Rattle.ad_schema.specs.declared.info.AttrInfo.{AttrInfo}
-use Rattle.ad_schema.specs.declared.info.ClassInfo.{ClassInfo}
 use Rattle.ad_schema.specs.Fields.{has, field_of, value_of, text_of, is_line_of}
 use Rattle.ad_schema.specs.Faults.{missing, is_bad, bad_line, bad_behind, bad_value}
-use Rattle.ad_schema.specs.Attributes.{lines_of, names_of, attrs_of, attr_info, attr_named}
-use Rattle.ad_schema.specs.Classes.{classes_of, naming_of}
+use Rattle.ad_schema.specs.Attributes.{lines_of, names_of, attrs_of}
 use Rattle.ad_schema.specs.Records.{none_of, checked, added}
 use Rattle.ad_schema.specs.Sound.{all_added, MakeSchema}
-use Rattle.ad_schema.proofs.LookupLemmas.{class_naming}
-use Rattle.ad_dir_model.specs.Attributes.{attr_name, is_named}
+use Rattle.ad_dir_objects.proofs.AttrNames.{named_at}
 
 -- ---- one record
 
@@ -134,64 +128,7 @@ at_place P [] i name all is = absurd (none-some name is)
 at_place P (x ∷ xs) zero name all is = subst P (same_Some x name is) all.0
 at_place P (x ∷ xs) (suc i) name all is = at_place P xs i name all.1 is
 
--- what is found at an attribute's place
-pub named_at : (records : List SchemaRecord) (attr : ℕ) (info : AttrInfo) → slice_get (attrs_of records) attr
-    ≡ Some info → slice_get (names_of Attribute records) attr ≡ Some info.name
-unfolding attrs_of names_of attr_info
-named_at records attr info is =
-    by_lines (slice_get (lines_of Attribute records) attr) refl
-  where
-    by_lines : (found : Option (List Line)) → slice_get (lines_of Attribute records) attr ≡ found
-        → slice_get (map (text_of field.DisplayName) (lines_of Attribute records)) attr ≡ Some info.name
-    by_lines None none = absurd (none-some info
-        (sym (ap (option_map attr_info) none) ∙ sym (slice_get-map attr_info (lines_of Attribute records) attr) ∙ is))
-    by_lines (Some lines) found =
-        let own : attr_info lines ≡ info = same_Some (attr_info lines) info
-        (sym (ap (option_map attr_info) found) ∙ sym (slice_get-map attr_info (lines_of Attribute records) attr)
-        ∙ is) in
-        slice_get-map (text_of field.DisplayName) (lines_of Attribute records) attr
-        ∙ ap (option_map (text_of field.DisplayName)) found ∙ ap (λ (i : AttrInfo). Some i.name) own
-
-pub name_at : (records : List SchemaRecord) (attr : ℕ) (info : AttrInfo) → slice_get (attrs_of records) attr
-    ≡ Some info → info.name ≡ attr_name records attr
-unfolding attr_name
-name_at records attr info is = sym (ap (λ (o : Option (List ℕ)). unwrap_or o []) (named_at records attr info is))
-
 pub type_at : (records : List SchemaRecord) (attr : ℕ) (info : AttrInfo) → MakeSchema records
     → slice_get (attrs_of records) attr ≡ Some info → IsType info.name
 type_at records attr info schema is = at_place IsType (names_of Attribute records) attr info.name
     (names_after [] records schema.added.added) (named_at records attr info is)
-
--- the naming attribute of a class
-pub naming_at : (records : List SchemaRecord) (class : ℕ) (info : ClassInfo) (attr : AttrInfo)
-    → slice_get (classes_of records) class ≡ Some info → slice_get (attrs_of records) info.naming.0 ≡ Some attr
-    → attr.name ≡ attr_name records (naming_of records class)
-naming_at records class info attr is at = name_at records info.naming.0 attr at
-    ∙ ap (attr_name records) (class_naming records class info is)
-
--- ---- an attribute that a name leads to
-
-got : (xs : List (List ℕ)) (i : ℕ) (x d : List ℕ) → slice_get xs i ≡ Some x → get_or xs i d ≡ x
-got [] i x d at = absurd (none-some x at)
-got (y ∷ ys) zero x d at = same_Some y x at
-got (y ∷ ys) (suc i) x d at = got ys i x d at
-
--- it has the name
-pub same_named : (records : List SchemaRecord) (name : List ℕ) (attr : ℕ) (info : AttrInfo)
-    → slice_get (attrs_of records) attr ≡ Some info → is_named records name attr ≡ true → same_name info.name name
-    ≡ true
-unfolding attr_named place_of
-same_named records name attr info is named = by_place (place_of (names_of Attribute records) name) refl named
-  where
-    by_place : (place : Option ℕ) → place_of (names_of Attribute records) name ≡ place
-        → option_map_or (λ (p : ℕ). p == attr)
-        (option_map (λ (id : AttrId). id.0) (option_map (λ (n : ℕ). record { 0 = n }) place)) false ≡ true
-        → same_name info.name name ≡ true
-    by_place None e t = absurd cc
-    by_place (Some p) e t =
-        let names : List (List ℕ) = names_of Attribute records in
-        let one : p ≡ attr = eqb-true p attr t in
-        let here : get_or names p info.name ≡ info.name = ap (λ (k : ℕ). get_or names k info.name) one
-        ∙ got names attr info.name info.name (named_at records attr info is) in
-        let passes = position-Some (λ (other : List ℕ). same_name other name) names p info.name e in
-        ap (λ (n : List ℕ). same_name n name) (sym here) ∙ passes.1

@@ -39,9 +39,10 @@ mod values;
 mod weight;
 
 pub use ad_dir_objects::{
-    Act, ActItem, Edit, Meta, Object, Stored, first_of, object_sid, sid_of, stored_of,
+    Act, ActItem, Edit, Meta, Object, Stored, digest_value, first_of, guid_of, is_named,
+    is_password, is_single, last_of, naming_name, object_sid, sid_of, stored_of,
 };
 pub use ad_dir_table::NameKey;
 pub use dir::Dir;
 pub use live::{class_of, live_object, live_sd, naming_of, parent_of};
-pub use shown::{is_named, is_naming};
+pub use shown::is_naming;

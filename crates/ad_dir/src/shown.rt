@@ -1,16 +1,13 @@
 //! The values that an object shows.
 
-ghost use Rattle.std.specs.Prelude.{◌≡◌, ◌<◌, ◌∷◌, ◌++◌, ◌==◌, ◌||◌, true, false, [], codes, map, reverse, length};
-ghost use Rattle.std.specs.Prelude.{slice_get, IfOk, OnOk};
-ghost use Rattle.std.specs.Option.{option_copied, option_map_or};
+ghost use Rattle.std.specs.Prelude.{◌≡◌, ◌<◌, ◌∷◌, ◌==◌, ◌||◌, true, [], map, reverse, length};
+ghost use Rattle.std.specs.Prelude.{IfOk};
 ghost use Rattle.ad_value.specs.declared.syntax.Syntax.TheVariants as syntax;
-ghost use Rattle.ad_schema.specs.Attributes.{attrs_of};
-ghost use Rattle.ad_schema.specs.Classes.{classes_of, naming_of, chain_of};
+ghost use Rattle.ad_schema.specs.Classes.{classes_of, chain_of};
 ghost use Rattle.ad_schema.specs.Meaning.{attr_is_back_link};
-ghost use Rattle.ad_dir_objects.specs.Seen.{stored_seen, held_seen};
+ghost use Rattle.ad_dir_objects.specs.Seen.{stored_seen};
 ghost use Rattle.ad_dir.specs.Kept.{AreLive};
-ghost use Rattle.ad_dir_model.specs.Object.{stored_in, links_in};
-ghost use Rattle.ad_dir_model.specs.Objects.{is_live, object_at};
+ghost use Rattle.ad_dir_model.specs.Objects.{is_live};
 ghost use Rattle.ad_dir_model.specs.Attributes.{is_named, syntax_at};
 ghost use Rattle.ad_dir_model.specs.Names.{name_text};
 ghost use Rattle.ad_dir_model.specs.Shown as shown;
@@ -18,10 +15,8 @@ ghost use Rattle.ad_dir_model.specs.Shown as shown;
 use crate::dir::Dir;
 use crate::live::live_object;
 use crate::names::dn_of;
-use ad_bytes::List;
-use ad_dir_objects::{Stored, stored_of};
-use ad_schema::{AttrId, AttrInfo, ClassId, Schema};
-use ad_schema_classes::same_name;
+use ad_dir_objects::{Stored, is_named, stored_of};
+use ad_schema::{AttrId, ClassId, Schema};
 use ad_value::{Syntax, Value, ValueFault, normal};
 use std::alloc::{AllocError, Global};
 
@@ -74,35 +69,6 @@ fn syntax_of(schema: &Schema, attr: AttrId) -> Syntax
     match schema.attrs().get(attr.0 as usize) {
         Some(info) => info.syntax,
         None => Syntax::Other,
-    }
-}
-
-fn attr_at(attrs: &[AttrInfo], place: usize) -> Option<&AttrInfo>
-    ensures { option_copied result ≡ slice_get attrs.now place }
-{
-    attrs.get(place)
-}
-
-// Whether the attribute has this name, without regard to case. Only then can the name lead to it.
-fn may_be_named(schema: &Schema, name: &[u8], attr: AttrId) -> bool
-    ensures { is_named schema.now name.now attr.0 ≡ true → result ≡ true }
-{
-    match attr_at(schema.attrs(), attr.0 as usize) {
-        Some(info) => same_name(info.name.as_slice(), name),
-        None => true,
-    }
-}
-
-/// Whether the attribute is the one that a name leads to.
-pub fn is_named(schema: &Schema, name: &[u8], attr: AttrId) -> bool
-    ensures { result ≡ is_named schema.now name.now attr.0 }
-{
-    if !may_be_named(schema, name, attr) {
-        return false;
-    }
-    match schema.attr(name) {
-        Some(id) => id.0 == attr.0,
-        None => false,
     }
 }
 

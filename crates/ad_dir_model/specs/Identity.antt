@@ -1,5 +1,5 @@
 -- Who objects are: their identifiers, and the domain's.
-use Rattle.std.specs.Prelude.{ℕ, Bool, false, Option, Some, None, List, find}
+use Rattle.std.specs.Prelude.{ℕ, ◌-◌, Bool, false, Option, Some, None, List, find, length, slice_get}
 use Rattle.std.specs.Option.{option_map, option_and_then}
 use Rattle.ad_ids.specs.SidValue.{SidValue, same_sid}
 use Rattle.ad_ids.specs.SidChild.{child_of}
@@ -42,3 +42,7 @@ is_sid sid (Some other) = same_sid other sid
 -- the object of an identifier
 unfoldable pub with_sid : Directory → SidValue → Option ℕ
 with_sid dir sid = option_map (λ o. o.number) (find (λ o. is_sid sid (sid_in dir.schema o)) dir.objects)
+
+-- the last of the numbers, none where there are none
+abbrev pub last_of : List ℕ → Option ℕ
+last_of numbers = slice_get numbers (length numbers - 1)

@@ -1,2 +1,4 @@
 pub mod Values
 pub mod Weights
+pub mod AttrNames
+pub mod ClassGuids

@@ -1,7 +1,7 @@
 //! What a directory is made of, apart from how it is kept: objects and their stored values, the counters, the
 //! edits, and changes that are asked for; and what objects weigh, and whether they are light enough, by the rule of
-//! `docs/profile/directory.md`, which `ad_dir_model`'s `Weight` defines. What represents what of the model is
-//! `Seen`.
+//! `docs/profile/directory.md`, which `ad_dir_model`'s `Weight` defines; and what the schema says of attributes and
+//! classes that rules name. What represents what of the model is `Seen`.
 //!
 //! # Example
 //!
@@ -26,6 +26,7 @@
 #![tactic(auto)]
 
 mod act;
+mod attributes;
 mod edit;
 mod object;
 mod object_copy;
@@ -33,7 +34,8 @@ mod sid;
 mod weight;
 
 pub use act::{Act, ActItem};
+pub use attributes::{digest_value, guid_of, is_named, is_password, is_single, naming_name};
 pub use edit::{Edit, Meta};
 pub use object::{Object, Stored};
-pub use sid::{first_of, object_sid, sid_of, stored_of};
+pub use sid::{first_of, last_of, object_sid, sid_of, stored_of};
 pub use weight::{MAX_WEIGHT, after_object, after_objects, are_light};

@@ -6,7 +6,7 @@ ghost use Rattle.ad_ids.specs.SidReading.{sid_at};
 ghost use Rattle.ad_ids.specs.SidOfText.{sid_of_text};
 ghost use Rattle.ad_value.specs.ValueOf.{sid_of, whole_sid};
 ghost use Rattle.ad_dir_model.specs.Object.{stored_in, first_plain};
-ghost use Rattle.ad_dir_model.specs.Identity.{sid_in};
+ghost use Rattle.ad_dir_model.specs.Identity.{last_of, sid_in};
 ghost use Rattle.ad_sd.specs.declared.parts.Sd.{Sd as SdValue};
 ghost use Rattle.ad_dir_objects.specs.Seen.{stored_seen, held_seen, object_seen};
 
@@ -93,4 +93,11 @@ pub fn object_sid(schema: &Schema, object: &Object) -> Option<Sid>
         Some(value) => sid_of(value.shown()),
         None => None,
     }
+}
+
+/// The last of some numbers, as of an identifier's sub-authorities; none where there are none. It takes no memory.
+pub fn last_of(numbers: &[u32]) -> Option<u32>
+    ensures { result ≡ last_of numbers.now }
+{
+    numbers.get(numbers.len().saturating_sub(1)).copied()
 }

@@ -9,6 +9,7 @@ ghost use Rattle.ad_dir_model.specs.Weight.{object_weight, objects_weight};
 ghost use Rattle.ad_dir_objects.specs.Left.{left_of};
 ghost use Rattle.ad_sd.specs.declared.parts.Sd.{Sd as SdValue};
 
+use crate::attributes::is_named;
 use crate::{Object, Stored};
 use ad_bytes::Few;
 use ad_schema::{AttrId, Schema};
@@ -51,15 +52,6 @@ fn after_values(left: usize, values: &[Stored]) -> Option<usize>
     Some(left)
 }
 
-fn is_admin_count(schema: &Schema, attr: AttrId) -> bool
-    ensures { result ≡ is_named schema.now (codes "adminCount") attr.0 }
-{
-    match schema.attr(b"adminCount") {
-        Some(place) => place.0 == attr.0,
-        None => false,
-    }
-}
-
 // Whether it is one value, and shows 1.
 fn is_only_one(values: &[Stored]) -> bool
     ensures { result ≡ is_only_one (map stored_seen values.now) }
@@ -79,7 +71,7 @@ fn counts_nothing(schema: &Schema, attr: AttrId, values: &[Stored]) -> bool
     if !is_only_one(values) {
         return false;
     }
-    is_admin_count(schema, attr)
+    is_named(schema, b"adminCount", attr)
 }
 
 fn after_held(schema: &Schema, left: usize, held: &(AttrId, Few<Stored>)) -> Option<usize>

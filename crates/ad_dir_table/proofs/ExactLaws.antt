@@ -9,7 +9,7 @@ use Rattle.ad_dir_model.specs.Objects.{object_of, Rise, put, removed}
 use Rattle.ad_dir_model.proofs.Finding.{of_number, of-put_same, of-put_other, of-removed_same, of-removed_other}
 use Rattle.ad_dir_model.proofs.Finding.{found_first, none_found}
 use Rattle.ad_dir_table.specs.Exact.{HasKey, IsExact}
-use Rattle.ad_dir_table.specs.KeyChanges.{IsOther, IsChange, Takes, Edits}
+use Rattle.ad_dir_table.specs.KeyChanges.{IsOther, IsChange, Removes, Edits}
 use Rattle.ad_dir_table.specs.Indexed.{was}
 
 nothing_of : (n : ℕ) (o : Object) → object_of [] n ≡ Some o → ⊥
@@ -159,7 +159,7 @@ module _ {V : Type 0} (told : (u v : V) → (u ≡ v) ⊎ (u ≡ v → ⊥)) (ke
       ]
 
   pub removed_exact : (at new : V → Option ℕ) (objects : List Object) (number : ℕ) → IsExact key at objects
-      → Takes (was key objects number) at new → IsExact key new (removed number objects)
+      → Removes (was key objects number) at new → IsExact key new (removed number objects)
   removed_exact at new objects number exact takes = record { each = each; only = only }
     where
       each : (n : ℕ) (x : Object) (v : V) → object_of (removed number objects) n ≡ Some x → key x ≡ Some v → new v

@@ -18,7 +18,7 @@ use Rattle.ad_dir_table.specs.declared.index.Index.{Index}
 use Rattle.ad_dir_table.specs.declared.name_key.NameKey.{NameKey}
 use Rattle.ad_dir_table.specs.NameKeys.{ChildName, same_child, same_child_laws, name_at}
 use Rattle.ad_dir_table.specs.Exact.{IsExact, name_of, sid_at}
-use Rattle.ad_dir_table.specs.KeyChanges.{Takes}
+use Rattle.ad_dir_table.specs.KeyChanges.{Removes}
 use Rattle.ad_dir_table.specs.Lists.{listed, Drops}
 use Rattle.ad_dir_table.specs.Indexed.{IsIndexed, HasOwnKeys, AreChanges, ShowSame, AreEdited, AreRemoved}
 use Rattle.ad_dir_table.proofs.MapLaws.{same_name, name_told, sid_told}
@@ -65,11 +65,11 @@ pub removed_indexed : (schema : List SchemaRecord) (old new : Index) (number : �
 removed_indexed schema old new number o sid objects rise live is gone indexed = record {
   names = removed_exact name_told name_of (name_at old.names.entries) (name_at new.names.entries) objects number
       indexed.names
-      (subst (λ k. Takes k (name_at old.names.entries) (name_at new.names.entries))
+      (subst (λ k. Removes k (name_at old.names.entries) (name_at new.names.entries))
       (sym (ap (option_and_then name_of) live)) gone.names);
   sids = removed_exact sid_told (sid_in schema) (sid_at old.sids.entries) (sid_at new.sids.entries) objects number
       indexed.sids
-      (subst (λ k. Takes k (sid_at old.sids.entries) (sid_at new.sids.entries))
+      (subst (λ k. Removes k (sid_at old.sids.entries) (sid_at new.sids.entries))
       (is ∙ sym (ap (option_and_then (sid_in schema)) live)) gone.sids);
   children = removed_lists number o objects (listed old.children.entries) (listed new.children.entries) rise live
       (subst (λ (n : ℕ). Drops (Some o.parent) n (listed old.children.entries) (listed new.children.entries))

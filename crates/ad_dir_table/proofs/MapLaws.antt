@@ -12,7 +12,7 @@ use Rattle.ad_ids.specs.SidValue.{SidValue, same_sid}
 use Rattle.ad_ids.proofs.SidLaws.{same_sid-Decides}
 use Rattle.ad_dir_table.specs.declared.name_key.NameKey.{NameKey}
 use Rattle.ad_dir_table.specs.NameKeys.{ChildName, same_child, same_child_laws, key_name, is_key, same_key, name_at}
-use Rattle.ad_dir_table.specs.KeyChanges.{Puts, Takes}
+use Rattle.ad_dir_table.specs.KeyChanges.{Inserts, Removes}
 
 pub if_ok : {A E : Type 0} {P Q : A → Type 0} (r : Result A E) → ((x : A) → P x → Q x) → IfOk r P → IfOk r Q
 if_ok (Ok x) f p = f x p
@@ -60,15 +60,15 @@ other_names name old new keeps v apart = keeps (is_key v) (name_test v) (names_a
 
 pub name_put : (to : Option NameKey) (key : NameKey) (number : ℕ) (old new : List (NameKey × ℕ)) → to ≡ Some key
     → name_at new (key_name key) ≡ Some number → KeepsOthers same_key (is_key (key_name key)) old new
-    → Puts (option_map key_name to) number (name_at old) (name_at new)
+    → Inserts (option_map key_name to) number (name_at old) (name_at new)
 name_put to key number old new is at keeps =
-    subst (λ (t : Option NameKey). Puts (option_map key_name t) number (name_at old) (name_at new)) (sym is) (record {
+    subst (λ (t : Option NameKey). Inserts (option_map key_name t) number (name_at old) (name_at new)) (sym is) (record {
       here = λ v e. subst (λ (n : ChildName). name_at new n ≡ Some number) (same_Some (key_name key) v e) at;
       others = λ v apart. other_names (key_name key) old new keeps v (λ e. apart (ap Some e));
     })
 
 pub name_taken : (name : ChildName) (old new : List (NameKey × ℕ)) → name_at new name ≡ None
-    → KeepsOthers same_key (is_key name) old new → Takes (Some name) (name_at old) (name_at new)
+    → KeepsOthers same_key (is_key name) old new → Removes (Some name) (name_at old) (name_at new)
 name_taken name old new at keeps = record {
   here = λ v e. subst (λ (n : ChildName). name_at new n ≡ None) (same_Some name v e) at;
   others = λ v apart. other_names name old new keeps v (λ e. apart (ap Some e));

@@ -13,7 +13,7 @@ use Rattle.ad_dir_table.specs.declared.change.Changes.{Changes}
 use Rattle.ad_dir_table.specs.declared.index.Index.{Index}
 use Rattle.ad_dir_table.specs.NameKeys.{key_name, name_at}
 use Rattle.ad_dir_table.specs.Exact.{IsExact, name_of, sid_at}
-use Rattle.ad_dir_table.specs.KeyChanges.{IsChange, Takes, Edits}
+use Rattle.ad_dir_table.specs.KeyChanges.{IsChange, Removes, Edits}
 use Rattle.ad_dir_table.specs.Lists.{listed, HasPlace, ListSame, Drops, Moves}
 
 -- naming values are UTF-8
@@ -70,6 +70,6 @@ pub record AreEdited (changes : Changes) (number : ℕ) (old new : Index) : Type
 
 -- the number of an object stands at none of its keys any more
 pub record AreRemoved (o : Object) (sid : Option SidValue) (old new : Index) : Type 0 where
-  pub names : Takes (name_of o) (name_at old.names.entries) (name_at new.names.entries)
-  pub sids : Takes sid (sid_at old.sids.entries) (sid_at new.sids.entries)
+  pub names : Removes (name_of o) (name_at old.names.entries) (name_at new.names.entries)
+  pub sids : Removes sid (sid_at old.sids.entries) (sid_at new.sids.entries)
   pub children : Drops (Some o.parent) o.number (listed old.children.entries) (listed new.children.entries)

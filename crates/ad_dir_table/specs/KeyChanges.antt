@@ -17,17 +17,17 @@ abbrev pub IsChange : {V : Type 0} → Option V → Option V → Option V → Op
 IsChange was now to from = IsKept was now to from ⊎ IsOther was now to from
 
 -- the number stands at the key, if there is one, and all else stays
-pub record Puts {V : Type 0} (to : Option V) (number : ℕ) (old new : V → Option ℕ) : Type 0 where
+pub record Inserts {V : Type 0} (to : Option V) (number : ℕ) (old new : V → Option ℕ) : Type 0 where
   pub here : (v : V) → to ≡ Some v → new v ≡ Some number
   pub others : (v : V) → (to ≡ Some v → ⊥) → new v ≡ old v
 
 -- nothing stands at the key, if there is one, and all else stays
-pub record Takes {V : Type 0} (from : Option V) (old new : V → Option ℕ) : Type 0 where
+pub record Removes {V : Type 0} (from : Option V) (old new : V → Option ℕ) : Type 0 where
   pub here : (v : V) → from ≡ Some v → new v ≡ None
   pub others : (v : V) → (from ≡ Some v → ⊥) → new v ≡ old v
 
 -- the number is put at the one key, and what stands at the other taken out
 pub record Edits {V : Type 0} (to from : Option V) (number : ℕ) (old new : V → Option ℕ) : Type 0 where
   pub mid : V → Option ℕ
-  pub puts : Puts to number old mid
-  pub takes : Takes from mid new
+  pub puts : Inserts to number old mid
+  pub takes : Removes from mid new

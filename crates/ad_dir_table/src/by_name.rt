@@ -11,7 +11,7 @@ ghost use Rattle.ad_dir_objects.specs.Seen.{object_seen};
 ghost use Rattle.ad_dir_table.specs.Entry.{objects_in};
 ghost use Rattle.ad_dir_table.specs.NameKeys.{key_name, name_at};
 ghost use Rattle.ad_dir_table.specs.Exact.{name_of};
-ghost use Rattle.ad_dir_table.specs.KeyChanges.{IsChange, Puts, Takes};
+ghost use Rattle.ad_dir_table.specs.KeyChanges.{IsChange, Inserts, Removes};
 ghost use Rattle.ad_dir_table.specs.Indexed.{AreNamed, was};
 
 use crate::Objects;
@@ -88,10 +88,10 @@ pub(crate) fn name_change(
     }
 }
 
-/// Puts a number under a key, if there is one, where there is room.
+/// Inserts a number under a key, if there is one, where there is room.
 pub(crate) fn put_name(names: &mut Names, to: Option<NameKey>, number: u32)
     requires { 0 < spare names.old }
-    ensures { Puts (option_map key_name to) number (name_at names.old.entries)
+    ensures { Inserts (option_map key_name to) number (name_at names.old.entries)
         (name_at names.new.entries) }
 {
     if let Some(key) = to {
@@ -102,9 +102,9 @@ pub(crate) fn put_name(names: &mut Names, to: Option<NameKey>, number: u32)
     }
 }
 
-/// Takes out what stands under a key, if there is one.
+/// Removes out what stands under a key, if there is one.
 pub(crate) fn take_name(names: &mut Names, from: Option<NameKey>)
-    ensures { Takes (option_map key_name from) (name_at names.old.entries)
+    ensures { Removes (option_map key_name from) (name_at names.old.entries)
         (name_at names.new.entries) }
 {
     if let Some(key) = from {
@@ -112,10 +112,10 @@ pub(crate) fn take_name(names: &mut Names, from: Option<NameKey>)
     }
 }
 
-/// Takes out what stands under the name of an object. It takes no memory.
+/// Removes out what stands under the name of an object. It takes no memory.
 pub(crate) fn take_name_of(names: &mut Names, object: &Object)
     requires { IsUtf8 object.now.name }
-    ensures { (sd : SdValue) → Takes (name_of (object_seen object.now sd))
+    ensures { (sd : SdValue) → Removes (name_of (object_seen object.now sd))
         (name_at names.old.entries) (name_at names.new.entries) }
 {
     match str::from_utf8(object.name.as_slice()) {

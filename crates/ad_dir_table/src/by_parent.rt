@@ -30,7 +30,7 @@ fn up_to(numbers: &[u32], number: u32) -> usize
     numbers.partition_point(|n| *n <= number)
 }
 
-// Puts a number where it belongs, where there is room.
+// Inserts a number where it belongs, where there is room.
 fn put_number(numbers: &mut Vec<u32>, number: u32)
     requires rise { RiseFrom 0 numbers.old.items }
     requires room { vec_len numbers.old < vec_capacity numbers.old }
@@ -43,7 +43,7 @@ fn put_number(numbers: &mut Vec<u32>, number: u32)
     }
 }
 
-// Takes a number out.
+// Removes a number out.
 fn take_number(numbers: &mut Vec<u32>, number: u32)
     requires { RiseFrom 0 numbers.old.items }
     ensures { numbers.new.items ≡ without_number number numbers.old.items }
@@ -127,7 +127,7 @@ pub(crate) fn make_place_if(
     }
 }
 
-/// Puts a number under a parent, if there is one, where there is room.
+/// Inserts a number under a parent, if there is one, where there is room.
 pub(crate) fn add_child(children: &mut Children, to: Option<u32>, number: u32)
     requires place { HasPlace to children.old.entries }
     requires rise { ListsRise children.old.entries }
@@ -141,7 +141,7 @@ pub(crate) fn add_child(children: &mut Children, to: Option<u32>, number: u32)
     }
 }
 
-// Takes a number out under a parent.
+// Removes a number out under a parent.
 fn take_child(children: &mut Children, parent: u32, number: u32)
     requires { ListsRise children.old.entries }
     ensures { Drops (Some parent) number (listed children.old.entries)
@@ -161,7 +161,7 @@ fn drop_empty(children: &mut Children, parent: u32)
     }
 }
 
-/// Takes a number out under a parent, if there is one. It takes no memory.
+/// Removes a number out under a parent, if there is one. It takes no memory.
 pub(crate) fn drop_child(children: &mut Children, from: Option<u32>, number: u32)
     requires { ListsRise children.old.entries }
     ensures { Drops from number (listed children.old.entries) (listed children.new.entries) }

@@ -9,7 +9,7 @@ ghost use Rattle.ad_dir_model.specs.Identity.{sid_in};
 ghost use Rattle.ad_dir_objects.specs.Seen.{object_seen};
 ghost use Rattle.ad_dir_table.specs.Entry.{objects_in, HaveTheirSids};
 ghost use Rattle.ad_dir_table.specs.Exact.{sid_at};
-ghost use Rattle.ad_dir_table.specs.KeyChanges.{IsChange, Puts, Takes};
+ghost use Rattle.ad_dir_table.specs.KeyChanges.{IsChange, Inserts, Removes};
 ghost use Rattle.ad_dir_table.specs.Indexed.{was};
 
 use crate::Objects;
@@ -63,10 +63,10 @@ pub(crate) fn sid_change(schema: &Schema, objects: &Objects, object: &Object) ->
     }
 }
 
-/// Puts a number under an identifier, if there is one, where there is room.
+/// Inserts a number under an identifier, if there is one, where there is room.
 pub(crate) fn put_sid(sids: &mut Sids, to: Option<Sid>, number: u32)
     requires { 0 < spare sids.old }
-    ensures { Puts to number (sid_at sids.old.entries) (sid_at sids.new.entries) }
+    ensures { Inserts to number (sid_at sids.old.entries) (sid_at sids.new.entries) }
 {
     if let Some(sid) = to {
         match sids.insert(sid, number) {
@@ -76,9 +76,9 @@ pub(crate) fn put_sid(sids: &mut Sids, to: Option<Sid>, number: u32)
     }
 }
 
-/// Takes out what stands under an identifier, if there is one. It takes no memory.
+/// Removes out what stands under an identifier, if there is one. It takes no memory.
 pub(crate) fn take_sid(sids: &mut Sids, from: Option<&Sid>)
-    ensures { Takes (option_copied from.entry) (sid_at sids.old.entries) (sid_at sids.new.entries) }
+    ensures { Removes (option_copied from.entry) (sid_at sids.old.entries) (sid_at sids.new.entries) }
 {
     if let Some(sid) = from {
         let _was = sids.swap_remove(sid);

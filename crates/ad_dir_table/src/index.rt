@@ -89,7 +89,7 @@ pub fn make_room(alloc: Global, index: &mut Index, parent: Option<u32>) -> Resul
     make_place_if(alloc, &mut index.children, parent)
 }
 
-/// Puts a number under new keys, for which there is room, and takes it out under old ones.
+/// Inserts a number under new keys, for which there is room, and takes it out under old ones.
 pub fn edit(index: &mut Index, changes: Changes, number: u32)
     requires room { HasRoom changes.parents.to index.old }
     requires rise { ListsRise index.old.children.entries }
@@ -110,7 +110,7 @@ pub fn edit(index: &mut Index, changes: Changes, number: u32)
     drop_child(&mut index.children, parents.from, number);
 }
 
-/// Takes the number of an object out under all its keys. It takes no memory.
+/// Removes the number of an object out under all its keys. It takes no memory.
 pub fn take_out(index: &mut Index, object: &Object, sid: Option<&Sid>)
     requires named { IsUtf8 object.now.name }
     requires rise { ListsRise index.old.children.entries }

@@ -126,7 +126,7 @@ fn id_of(was: Option<Shelf>) -> Option<SdId>
     }
 }
 
-/// Puts an object in the place of the one that has its number, or else where its number belongs. Answers the id that
+/// Inserts an object in the place of the one that has its number, or else where its number belongs. Answers the id that
 /// the one before has named.
 pub(crate) fn put(
     alloc: Global,
@@ -166,7 +166,7 @@ pub(crate) fn set_id(objects: &mut BTreeMap<u32, Shelf>, number: u32, id: SdId) 
     }
 }
 
-/// Takes the object of a number out. Answers the id that it has named.
+/// Removes the object of a number out. Answers the id that it has named.
 pub(crate) fn take(objects: &mut BTreeMap<u32, Shelf>, number: u32) -> Option<SdId>
     ensures entries { objects.new.entries ≡ remove_entry (is_at (nat_cmp number))
         objects.old.entries }

@@ -137,7 +137,7 @@ impl Objects {
         kept::numbers(alloc, &self.parts.kept)
     }
 
-    /// Puts an object with the normal bytes of its descriptor in the place of the one that has its number, or else
+    /// Inserts an object with the normal bytes of its descriptor in the place of the one that has its number, or else
     /// where its number belongs. There are fewer than 2^32 - 1 objects. The new bytes are put before the old ones are
     /// given back.
     ///
@@ -176,7 +176,7 @@ impl Objects {
         parts::put_sd(&mut self.parts, number, bytes)
     }
 
-    /// Takes the object of a number out. It takes no memory.
+    /// Removes the object of a number out. It takes no memory.
     pub fn remove(&mut self, number: u32)
         ensures removed { objects_in self.new.entries
             ≡ removed number (objects_in self.old.entries) }

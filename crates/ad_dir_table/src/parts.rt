@@ -125,7 +125,7 @@ pub(crate) fn is_pooled(parts: &Parts)
     parts.pool.is_one();
 }
 
-/// Puts an object with the normal bytes of its descriptor in the place of the one that has its number, or else where
+/// Inserts an object with the normal bytes of its descriptor in the place of the one that has its number, or else where
 /// its number belongs.
 ///
 /// # Errors
@@ -186,7 +186,7 @@ pub(crate) fn put_sd(parts: &mut Parts, number: u32, bytes: &[u8]) -> Result<(),
     Ok(())
 }
 
-/// Takes the object of a number out. It takes no memory.
+/// Removes the object of a number out. It takes no memory.
 pub(crate) fn remove(parts: &mut Parts, number: u32)
     requires kept { IsKept parts.old }
     ensures kept { IsKept parts.new }

@@ -16,7 +16,7 @@ pub(crate) fn bytes_at(pool: &SdPool, id: SdId) -> &[u8]
     pool.bytes(id)
 }
 
-/// Puts bytes, while ids and sharers are left: their id gets one sharer more.
+/// Inserts bytes, while ids and sharers are left: their id gets one sharer more.
 ///
 /// # Errors
 ///

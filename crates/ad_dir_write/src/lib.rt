@@ -25,5 +25,5 @@
 mod object;
 mod queue;
 
-pub use object::{guid_of, is_another};
+pub use object::is_another;
 pub use queue::{copied, mark_if};

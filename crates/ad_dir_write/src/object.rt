@@ -1,24 +1,12 @@
-//! The descriptor that an object is to have.
+//! Whether an object's descriptor is another.
 
-ghost use Rattle.std.specs.Prelude.{◌≡◌, ◌<◌, true, not, length};
-ghost use Rattle.ad_schema.specs.Classes.{classes_of};
+ghost use Rattle.std.specs.Prelude.{◌≡◌, true, not};
 ghost use Rattle.ad_sd.specs.Normal.{SpellsNormal};
 ghost use Rattle.ad_sd.specs.declared.parts.Sd.{Sd as SdValue};
 ghost use Rattle.ad_dir_model.specs.Objects.{sd_at, is_live};
-ghost use Rattle.ad_dir_model.specs.Inheritance.{guid_at};
 ghost use Rattle.ad_dir_model.specs.SameSd.{same_sd};
 
 use ad_dir::{Dir, live_sd};
-use ad_ids::Guid;
-use ad_schema::{ClassId, Schema};
-
-/// The GUID of a class of the schema.
-pub fn guid_of(schema: &Schema, class: ClassId) -> Guid
-    requires { class.0 < length (classes_of schema.now) }
-    ensures { result ≡ guid_at schema.now class.0 }
-{
-    schema.class_info(class).guid
-}
 
 /// Whether these normal bytes are those of another descriptor than a live object has.
 pub fn is_another(dir: &Dir, number: u32, bytes: &[u8]) -> bool

@@ -1,5 +1,6 @@
 pub mod Mapped
 pub mod Ranges
+pub mod SidRanges
 pub mod Domain
 pub mod Stores
 pub mod ReadBack

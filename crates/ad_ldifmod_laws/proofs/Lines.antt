@@ -32,7 +32,7 @@ use Rattle.ad_ldifmod.specs.Lists.{Step, or_bad, changed, number_named, step_of}
 use Rattle.ad_ldifmod.specs.declared.fault.GrantKind.{GrantKind}
 use Rattle.ad_ldifmod.specs.declared.fault.GrantKind.TheVariants as kind
 use Rattle.ad_ldifmod_laws.proofs.Mapped.{map_some}
-use Rattle.ad_ldifmod_laws.proofs.Ranges.{parts_are}
+use Rattle.ad_ldifmod_laws.proofs.SidRanges.{parts_are}
 
 -- ---- own entries: those with their ranges that don't say that they were inherited
 

@@ -1,35 +1,26 @@
 -- Names part by part, and lists of what is seen.
 use Rattle.std.proofs.Common.{◌≡◌, ℕ, suc, ◌+◌, ◌<◌, ◌≤◌, Bool, true, false, cond, Option, Some, None, List, []}
-use Rattle.std.proofs.Common.{◌∷◌, length, map, get_or, drop, refl, sym, ap, subst, ◌∙◌}
-use Rattle.std.specs.Prelude.{slice_get, position, nat_lt, not, unwrap_or, find, codes, ◌==◌, ◌||◌, if◌then◌else◌}
+use Rattle.std.proofs.Common.{◌∷◌, length, map, get_or, drop, refl, ap, ◌∙◌}
+use Rattle.std.specs.Prelude.{slice_get, position, nat_lt, not, find, codes, ◌==◌, ◌||◌, if◌then◌else◌}
 use Rattle.std.specs.Option.{option_map, option_map_or, option_and_then}
 use Rattle.std.specs.List.{list_any, prefix_len}
-use Rattle.std.proofs.lemmas.Bool.{ne_eqb}
 use Rattle.std.proofs.lemmas.List.{drop_all, length-map}
-use Rattle.std.proofs.lemmas.Option.{slice_get-map}
 use Rattle.ad_dn.specs.declared.rdn.Rdn.{Rdn}
-use Rattle.ad_schema.specs.declared.line.SchemaKind.TheVariants.{Attribute}
-use Rattle.ad_schema.specs.declared.line.Line.{Line}
 use Rattle.ad_schema.specs.declared.line.SchemaRecord.{SchemaRecord}
 use Rattle.ad_schema.specs.declared.field.Field.TheVariants as field
-use Rattle.ad_schema.specs.declared.info.AttrInfo.{AttrInfo}
-use Rattle.ad_schema.specs.declared.info.ClassInfo.{ClassInfo}
-use Rattle.ad_schema.specs.Fields.{text_of}
 use Rattle.ad_schema.specs.declared.info.AttrId.{AttrId}
 use Rattle.ad_schema.specs.declared.meaning.RuleAttr.TheVariants.{ObjectSid}
-use Rattle.ad_schema.specs.Attributes.{lines_of, names_of, attrs_of, attr_info, attr_named}
+use Rattle.ad_schema.specs.Attributes.{attrs_of, attr_named}
 use Rattle.ad_schema.specs.Meaning.{attr_of_rule, if_counts, counts}
-use Rattle.ad_schema.specs.Classes.{classes_of, naming_of}
-use Rattle.ad_schema.proofs.LookupLemmas.{class_naming}
-use Rattle.ad_schema_classes.specs.Names.{same_name, place_of}
-use Rattle.ad_dir_model.specs.Attributes.{attr_name, is_named, rule_place, object_sid}
+use Rattle.ad_schema_classes.specs.Names.{same_name}
+use Rattle.ad_dir_model.specs.Attributes.{attr_name, rule_place, object_sid}
 use Rattle.ad_dir_model.specs.Names.{same_rdn}
 use Rattle.ad_load_objects.specs.declared.drafts.Given.{Given as HeldGiven}
 use Rattle.ad_load_objects.specs.Drafts.{Given, same_names, is_given, first_given}
 use Rattle.ad_load_objects.specs.Seen.{given_seen}
 use Rattle.ad_load_records.proofs.Inverting.{and_true}
 use Rattle.ad_load_records.proofs.Lists.{cut}
-use Rattle.ad_load_objects.proofs.Places.{found_at}
+use Rattle.ad_dir_objects.proofs.AttrNames.{named_other}
 
 -- ---- what is seen of each
 
@@ -90,54 +81,7 @@ pub given_none : (given : List HeldGiven) (i attr : ℕ) → length given ≤ i
 unfolding first_given
 given_none given i attr le = ap (λ (gs : List HeldGiven). first_given (map given_seen gs) attr) (drop_all i given le)
 
--- ---- the name of an attribute
-
-pub name_at : (schema : List SchemaRecord) (place : ℕ) (attr : AttrInfo) → slice_get (attrs_of schema) place
-    ≡ Some attr → attr.name ≡ attr_name schema place
-unfolding attrs_of names_of attr_name attr_info
-name_at schema place attr is = by (slice_get (lines_of Attribute schema) place) refl
-  where
-    by : (found : Option (List Line)) → slice_get (lines_of Attribute schema) place ≡ found
-        → attr.name ≡ unwrap_or (slice_get (map (text_of field.DisplayName) (lines_of Attribute schema)) place) []
-    by None e =
-        let none : None ≡ Some attr = sym (slice_get-map attr_info (lines_of Attribute schema) place
-        ∙ ap (option_map attr_info) e) ∙ is in
-        absurd cc
-    by (Some lines) e =
-        let some : Some (attr_info lines) ≡ Some attr
-        = sym (slice_get-map attr_info (lines_of Attribute schema) place ∙ ap (option_map attr_info) e) ∙ is in
-        let same : attr_info lines ≡ attr = cc in
-        ap (λ (a : AttrInfo). a.name) (sym same)
-        ∙ sym (ap (λ (o : Option (List ℕ)). unwrap_or o [])
-        (slice_get-map (text_of field.DisplayName) (lines_of Attribute schema) place
-        ∙ ap (option_map (text_of field.DisplayName)) e))
-
-pub naming_name_is : (schema : List SchemaRecord) (class : ℕ) (info : ClassInfo) (attr : AttrInfo)
-    → slice_get (classes_of schema) class ≡ Some info → slice_get (attrs_of schema) info.naming.0 ≡ Some attr
-    → attr.name ≡ attr_name schema (naming_of schema class)
-naming_name_is schema class info attr one two = name_at schema info.naming.0 attr two
-    ∙ ap (attr_name schema) (class_naming schema class info one)
-
 -- ---- an attribute whose own name is another isn't the one of a name
-
-pub named_other : (schema : List SchemaRecord) (name : List ℕ) (attr : ℕ) → same_name (attr_name schema attr) name
-    ≡ false → is_named schema name attr ≡ false
-unfolding attr_named attr_name place_of
-named_other schema name attr other = by (place_of (names_of Attribute schema) name) refl
-  where
-    by : (found : Option ℕ) → place_of (names_of Attribute schema) name ≡ found
-        → option_map_or (λ (place : ℕ). place == attr)
-        (option_map (λ (id : AttrId). id.0) (option_map (λ (n : ℕ). record { 0 = n }) found)) false ≡ false
-    by None e = refl
-    by (Some p) e =
-        let at = found_at (λ (o : List ℕ). same_name o name) (names_of Attribute schema) p e in
-        ne_eqb p attr (λ (same : p ≡ attr).
-        let there : slice_get (names_of Attribute schema) attr ≡ Some at.0
-        = subst (λ (n : ℕ). slice_get (names_of Attribute schema) n ≡ Some at.0) same at.1 in
-        let is : at.0 ≡ unwrap_or (slice_get (names_of Attribute schema) attr) []
-        = ap (λ (o : Option (List ℕ)). unwrap_or o []) (sym there) in
-        let both : true ≡ false = sym at.2 ∙ ap (λ (o : List ℕ). same_name o name) is ∙ other in
-        absurd cc)
 
 pub sid_other : (schema : List SchemaRecord) (attr : ℕ) → same_name (attr_name schema attr) (codes "objectSid") ≡ false
     → option_map_or (λ (place : ℕ). place == attr) (object_sid schema) false ≡ false

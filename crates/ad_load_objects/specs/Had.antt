@@ -53,5 +53,5 @@ PutsUnless had g old new again = MatchOption again
 abbrev pub is_had : Bool → Given → List Given → Bool
 is_had single g given = list_any (is_same_given single g.attr g.value) given
 
-abbrev pub Puts : Bool → Given → List Given → List Given → Option HeldGiven → Type 0
-Puts single g old new again = PutsUnless (is_had single g old) g old new again
+abbrev pub PutsOnce : Bool → Given → List Given → List Given → Option HeldGiven → Type 0
+PutsOnce single g old new again = PutsUnless (is_had single g old) g old new again

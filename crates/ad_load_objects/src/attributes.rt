@@ -4,7 +4,7 @@
 ghost use Rattle.std.specs.Prelude.{◌≡◌, ◌<◌, ◌==◌, length, false};
 ghost use Rattle.std.specs.Option.{option_map_or};
 ghost use Rattle.ad_schema.specs.Attributes.{attrs_of};
-ghost use Rattle.ad_dir_model.specs.Attributes.{attr_name, is_named, is_password, object_sid};
+ghost use Rattle.ad_dir_model.specs.Attributes.{attr_name, object_sid};
 
 use ad_schema::{AttrId, RuleAttr, Schema};
 use ad_schema_classes::same_name;
@@ -15,27 +15,6 @@ fn own_name(schema: &Schema, attr: AttrId) -> &[u8]
     ensures { result.now ≡ attr_name schema.entry.now attr.0 }
 {
     schema.attr_info(attr).name.as_slice()
-}
-
-// Whether the attribute is the one that is found by the name.
-fn is_found(schema: &Schema, attr: AttrId, name: &[u8]) -> bool
-    ensures { result ≡ is_named schema.now name.now attr.0 }
-{
-    match schema.attr(name) {
-        Some(place) => place.0 == attr.0,
-        None => false,
-    }
-}
-
-/// Whether values of this attribute are kept as their digests.
-pub(crate) fn is_password(schema: &Schema, attr: AttrId) -> bool
-    requires { attr.0 < length (attrs_of schema.now) }
-    ensures { result ≡ is_password schema.now attr.0 }
-{
-    if !same_name(own_name(schema, attr), b"unicodePwd") {
-        return false;
-    }
-    is_found(schema, attr, b"unicodePwd")
 }
 
 // Whether the rules find this attribute where they ask for identifiers.

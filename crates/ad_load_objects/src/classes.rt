@@ -10,6 +10,7 @@ ghost use Rattle.ad_load_objects.specs.Found.{AreFound};
 ghost use Rattle.ad_load_objects.specs.Objects.{with_class, classes_named, class_of, is_named_by};
 
 use crate::found::{Found, class_named};
+use ad_dir_objects::naming_name;
 use ad_dn::Rdns;
 use ad_load_records::{HeldLine, LoadCause, LoadFault, bad};
 use ad_schema::{ClassId, Schema};
@@ -91,15 +92,6 @@ pub(crate) fn class_of(
         return Err(bad(line, LoadCause::Class));
     }
     Ok(class)
-}
-
-// The name of the class's naming attribute.
-fn naming_name(schema: &Schema, class: ClassId) -> &[u8]
-    requires { class.0 < length (classes_of schema.now) }
-    ensures { result.now ≡ attr_name schema.entry.now (naming_of schema.entry.now class.0) }
-{
-    let naming = schema.class_info(class).naming;
-    schema.attr_info(naming).name.as_slice()
 }
 
 /// Whether a name begins with the naming attribute of the class.

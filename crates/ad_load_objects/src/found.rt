@@ -78,7 +78,7 @@ fn entry_at<'a>(found: &'a [Found], place: usize, name: &[u8]) -> Option<&'a Fou
     None
 }
 
-// Puts something at a place, where there is such a place.
+// PutsOnce something at a place, where there is such a place.
 #[tactic(auto, using(crate::proofs::Places::all_set))]
 fn put_at(found: &mut Vec<Found>, place: usize, one: Found)
     ensures { (schema : List SchemaRecord) → AreFound schema found.old.items → IsFound schema one

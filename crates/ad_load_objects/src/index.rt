@@ -155,7 +155,7 @@ pub(crate) fn is_sid_used(schema: &Schema, drafts: &Drafts, sid: Option<&Sid>) -
     }
 }
 
-// Puts an identifier, where there is one, with the others.
+// PutsOnce an identifier, where there is one, with the others.
 fn note_sid(sids: &mut IndexSet<Sid>, sid: Option<Sid>) -> Result<(), AllocError>
     ensures { OnOk result (sids.new.keys ≡ with_sid sids.old.keys sid) }
 {
@@ -165,7 +165,7 @@ fn note_sid(sids: &mut IndexSet<Sid>, sid: Option<Sid>) -> Result<(), AllocError
     Ok(())
 }
 
-/// Puts an object after the others, by the keys of its name and of its place.
+/// PutsOnce an object after the others, by the keys of its name and of its place.
 pub(crate) fn push(schema: &Schema, drafts: &mut Drafts, one: Keyed) -> Result<(), AllocError>
     requires few { length drafts.old.items.items ≤ most_lines }
     requires indexed { IsIndexed drafts.old }

@@ -3,7 +3,7 @@
 ghost use Rattle.std.specs.Prelude.{◌≡◌, ◌++◌, ◌∷◌, [], None, map, IfOk, IfSome};
 ghost use Rattle.std.specs.List.{list_any};
 ghost use Rattle.ad_load_objects.specs.Drafts.{is_given};
-ghost use Rattle.ad_load_objects.specs.Had.{AreHad, Puts, is_had};
+ghost use Rattle.ad_load_objects.specs.Had.{AreHad, PutsOnce, is_had};
 ghost use Rattle.ad_load_objects.specs.Objects.{is_same_given};
 ghost use Rattle.ad_load_objects.specs.Seen.{given_seen};
 
@@ -71,7 +71,7 @@ fn is_given(given: &[Given], attr: AttrId) -> bool
 }
 
 fn push_few(items: &mut Vec<Given>, single: bool, one: Given) -> Result<Option<Given>, AllocError>
-    ensures { IfOk result (Puts single (given_seen one) (map given_seen items.old.items)
+    ensures { IfOk result (PutsOnce single (given_seen one) (map given_seen items.old.items)
         (map given_seen items.new.items)) }
 {
     if is_among(items.as_slice(), single, &one) {
@@ -91,7 +91,7 @@ fn push_known(
     one: Given,
 ) -> Result<Option<Given>, AllocError>
     requires { AreHad (map given_seen items.old.items) known.old }
-    ensures put { IfOk result (Puts single (given_seen one) (map given_seen items.old.items)
+    ensures put { IfOk result (PutsOnce single (given_seen one) (map given_seen items.old.items)
         (map given_seen items.new.items)) }
     ensures had { IfOk result (λ again. again ≡ None → AreHad (map given_seen items.new.items)
         known.new) }
@@ -112,7 +112,7 @@ fn push_many(
     one: Given,
 ) -> Result<(Option<Given>, Option<Had>), AllocError>
     requires { AreHad (map given_seen items.old.items) known }
-    ensures put { IfOk result (λ both. Puts single (given_seen one) (map given_seen items.old.items)
+    ensures put { IfOk result (λ both. PutsOnce single (given_seen one) (map given_seen items.old.items)
         (map given_seen items.new.items) both.0) }
     ensures had { IfOk result (λ both. IfSome both.1 (AreHad (map given_seen items.new.items))) }
 {
@@ -133,7 +133,7 @@ fn push(
     one: Given,
 ) -> Result<Option<Given>, AllocError>
     requires { IfSome had.old (AreHad (map given_seen items.old.items)) }
-    ensures put { IfOk result (Puts single (given_seen one) (map given_seen items.old.items)
+    ensures put { IfOk result (PutsOnce single (given_seen one) (map given_seen items.old.items)
         (map given_seen items.new.items)) }
     ensures had { IfSome had.new (AreHad (map given_seen items.new.items)) }
 {
@@ -179,7 +179,7 @@ impl Values {
         is_of_one(self.items.as_slice(), &self.had, attr)
     }
 
-    /// Puts a value after the others, or gives it back where it is there already. Of an attribute with one value
+    /// PutsOnce a value after the others, or gives it back where it is there already. Of an attribute with one value
     /// each is.
     pub(crate) fn push(
         &mut self,
@@ -187,7 +187,7 @@ impl Values {
         single: bool,
         one: Given,
     ) -> Result<Option<Given>, AllocError>
-        ensures { IfOk result (Puts single (given_seen one) self.old self.new) }
+        ensures { IfOk result (PutsOnce single (given_seen one) self.old self.new) }
     {
         push(alloc, &mut self.items, &mut self.had, single, one)
     }

@@ -2,12 +2,10 @@
 
 ghost use Rattle.std.specs.Prelude.{◌≡◌, ◌<◌, ◌==◌, map, length, codes, false, IfOk, OnOk};
 ghost use Rattle.ad_schema_classes.specs.Names.{same_name};
-ghost use Rattle.sha2.specs.Sha256.{sha256};
 ghost use Rattle.ad_bytes.specs.Reading.{GivesUnless, or_fault};
 ghost use Rattle.ad_sd.specs.Reading.{sd_of};
 ghost use Rattle.ad_schema.specs.Attributes.{attrs_of};
 ghost use Rattle.ad_schema.specs.Classes.{classes_of, naming_of};
-ghost use Rattle.ad_value.specs.Value.{as_shown};
 ghost use Rattle.ad_load_records.specs.declared.fault.LoadCause.TheVariants as cause;
 ghost use Rattle.ad_load_records.specs.Faults.{at, is_memory};
 ghost use Rattle.ad_load_records.specs.Seen.{bytes_of, held_field};
@@ -21,19 +19,19 @@ ghost use Rattle.ad_load_objects.specs.Found.{AreFound};
 ghost use Rattle.ad_load_objects.specs.Seen.{given_seen};
 ghost use Rattle.ad_load_objects.specs.KeptSeen.{kept_seen};
 
-use crate::attributes::{is_of_sids, is_password};
+use crate::attributes::is_of_sids;
 use crate::drafts::{Drafts, Given};
 use crate::found::{Found, attr_of};
 use crate::index::is_sid_used;
 use crate::kept_values::Values;
 use crate::repeated::{ReadSd, read_again};
 use ad_bytes::Bytes;
-use ad_dir_objects::sid_of;
+use ad_dir_objects::{digest_value, is_password, is_single, sid_of};
 use ad_load_records::{HeldLine, LoadCause, LoadFault, bad};
 use ad_schema::{AttrId, ClassId, Schema};
 use ad_schema_classes::same_name;
 use ad_sd::{NormalSd, SdFault};
-use ad_value::{Value, ValueFault, digest, normal};
+use ad_value::{Value, ValueFault, normal};
 use std::alloc::{AllocError, Global};
 use std::rc::Rc;
 
@@ -124,14 +122,6 @@ fn is_naming(schema: &Schema, class: ClassId, attr: AttrId) -> bool
     schema.class_info(class).naming.0 == attr.0
 }
 
-// A value that is shown and compared by the digest of these bytes.
-fn digest_of(alloc: Global, bytes: &[u8]) -> Result<Value, AllocError>
-    ensures { IfOk result (λ value. value ≡ as_shown (sha256 bytes.now)) }
-{
-    let hash = digest(bytes);
-    Value::as_shown(alloc, &hash)
-}
-
 #[tactic(auto, unfolding(crate::specs::Objects::value_of, ad_dir_model::specs::Attributes::syntax_at))]
 fn value_of(
     alloc: Global,
@@ -144,7 +134,7 @@ fn value_of(
         (value_of schema.now attr.0 (held_field field.now)) }
 {
     if is_password(schema, attr) {
-        return Ok(digest_of(alloc, field.value())?);
+        return Ok(digest_value(alloc, field.value())?);
     }
     match normal(alloc, schema.attr_info(attr).syntax, field.value()) {
         Ok(value) => Ok(value),
@@ -153,15 +143,7 @@ fn value_of(
     }
 }
 
-#[tactic(auto, unfolding(ad_dir_model::specs::Attributes::is_single))]
-fn is_single(schema: &Schema, attr: AttrId) -> bool
-    requires { attr.0 < length (attrs_of schema.now) }
-    ensures { result ≡ is_single schema.now attr.0 }
-{
-    schema.attr_info(attr).single
-}
-
-// Puts a value after the others, or gives it back where it is one too many.
+// PutsOnce a value after the others, or gives it back where it is one too many.
 fn put_value(
     alloc: Global,
     schema: &Schema,

@@ -20,7 +20,7 @@ use Rattle.ad_rows_write.specs.Rows.{HasBody, Shows, AreRowsOf}
 use Rattle.ad_rows.specs.Taking.{Parts, AreAll, no_parts, with_rows, schema_among}
 use Rattle.ad_rows_write.proofs.Again.{pairs_are}
 use Rattle.ad_rows.proofs.Fixed.{one_table}
-use Rattle.ad_rows_write.proofs.InOrder.{whole_stands}
+use Rattle.ad_rows_write.proofs.InOrderWhole.{whole_stands}
 use Rattle.ad_rows.proofs.Sorted.{same_rows}
 use Rattle.ad_rows.proofs.Sweep.{all_taken, schema_found}
 

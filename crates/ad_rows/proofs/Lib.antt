@@ -10,7 +10,6 @@ pub mod Following
 pub mod Growing
 pub mod Loops
 pub mod Once
-pub mod OwnNames
 pub mod Reread
 pub mod Schemas
 pub mod Sorted

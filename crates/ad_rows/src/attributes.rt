@@ -8,7 +8,7 @@ ghost use Rattle.ad_bytes.specs.Reading.{GivesUnless, ReadsUnless, many_at};
 ghost use Rattle.ad_value.specs.Value.{as_shown};
 ghost use Rattle.ad_value.specs.ValueOf.{normal_or_fault};
 ghost use Rattle.ad_schema.specs.Attributes.{attrs_of};
-ghost use Rattle.ad_dir_model.specs.Attributes.{attr_name, is_named, syntax_at};
+ghost use Rattle.ad_dir_model.specs.Attributes.{is_named, syntax_at};
 ghost use Rattle.ad_dir_model.specs.Soundness.{IsHeld, IsPlainValue, IsStored};
 ghost use Rattle.ad_dir_objects.specs.Seen.{held_seen, stored_seen};
 ghost use Rattle.ad_rows.specs.Form.{value_by};
@@ -17,9 +17,8 @@ ghost use Rattle.ad_rows.specs.Parsing.{link_of, stored_at, stored_of, values_at
 
 use crate::parsing::{BodyFault, both, text};
 use ad_bytes::{Few, Input, List};
-use ad_dir::Stored;
+use ad_dir::{Stored, is_password};
 use ad_schema::{AttrId, Schema};
-use ad_schema_classes::same_name;
 use ad_value::{Syntax, Value, ValueFault, normal};
 use std::alloc::{AllocError, Global};
 
@@ -61,35 +60,6 @@ fn normal_value(alloc: Global, syntax: Syntax, bytes: &[u8]) -> Result<(Value, b
         Err(ValueFault::Memory) => Err(AllocError),
         Err(_) => Ok((Value::as_shown(alloc, bytes)?, false)),
     }
-}
-
-// The name of an attribute.
-fn own_name(schema: &Schema, attr: AttrId) -> &[u8]
-    requires { attr.0 < length (attrs_of schema.now) }
-    ensures { result.now ≡ attr_name schema.entry.now attr.0 }
-{
-    schema.attr_info(attr).name.as_slice()
-}
-
-// Whether the attribute is the one that is found by the name.
-fn is_found(schema: &Schema, attr: AttrId, name: &[u8]) -> bool
-    ensures { result ≡ is_named schema.now name.now attr.0 }
-{
-    match schema.attr(name) {
-        Some(place) => place.0 == attr.0,
-        None => false,
-    }
-}
-
-// Whether values of the attribute are digests. Its own name is looked at first, since to look a name up takes longer.
-fn is_password(schema: &Schema, attr: AttrId) -> bool
-    requires { attr.0 < length (attrs_of schema.now) }
-    ensures { result ≡ is_named schema.now (codes "unicodePwd") attr.0 }
-{
-    if !same_name(own_name(schema, attr), b"unicodePwd") {
-        return false;
-    }
-    is_found(schema, attr, b"unicodePwd")
 }
 
 // A value that is no link, and whether it is one of the attribute.

@@ -15,7 +15,7 @@ ghost use Rattle.ad_rows.specs.Taking.{parts_of};
 
 use crate::all_rows::{take_all, views_of};
 use crate::fault::{RowsFault, of_soundness};
-use crate::taking::{Taken, are_bytes, schema_of};
+use crate::taking::{Taken, rows_are_bytes, schema_of};
 use ad_dir::{Dir, Meta};
 use ad_rows_sound::{Entry, judge};
 use ad_schema::Schema;
@@ -109,7 +109,7 @@ fn read_rows(alloc: Global, rows: &[RowIn<'_>]) -> Result<Dir, RowsFault>
     requires { AreListed rows.now }
     ensures { IsReading (table_of rows.now) result }
 {
-    are_bytes(rows);
+    rows_are_bytes(rows);
     let schema = schema_of(alloc, rows)?;
     let mut taken = take_all(alloc, schema.as_ref(), rows)?;
     of_taken(alloc, schema, &mut taken)

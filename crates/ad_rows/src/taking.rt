@@ -4,8 +4,7 @@ ghost use Rattle.std.specs.Prelude.{◌≡◌, ◌-◌, ◌^◌, ◌<◌, [], tr
 ghost use Rattle.std.specs.Prelude.{IfOk, OnOk};
 ghost use Rattle.std.specs.List.{AllByRecursion};
 ghost use Rattle.std.specs.Option.{option_copied};
-ghost use Rattle.ad_bytes.specs.Reading.{GivesUnless, IsBytes};
-ghost use Rattle.ad_dir_objects.specs.Seen.{meta_seen};
+ghost use Rattle.ad_bytes.specs.Reading.{GivesUnless};
 ghost use Rattle.ad_schema.specs.Records.{added, finished};
 ghost use Rattle.ad_rows.specs.Reading.{IsStillTaken, first_bad};
 ghost use Rattle.ad_rows.specs.Taking.{HasBytes, bad_row, body_of, fault_of, in_place, is_behind, is_memory};
@@ -15,6 +14,7 @@ ghost use Rattle.ad_rows.specs.Taking.{with_object, with_pending, with_record, w
 
 use crate::fault::RowFault;
 use crate::parsing::{self, BodyFault};
+use ad_bytes::is_bytes;
 use ad_dir::Meta;
 use ad_rows_sound::Entry;
 use ad_schema::{Builder, Schema, SchemaFault, SchemaRecord};
@@ -40,12 +40,6 @@ pub(crate) struct Taken {
     pub meta: Option<Meta>,
 }
 
-fn is_bytes(bytes: &[u8])
-    ensures { IsBytes bytes.now }
-{
-    let _ = bytes;
-}
-
 fn has_bytes(row: &RowIn<'_>)
     ensures { HasBytes row.now }
 {
@@ -55,7 +49,7 @@ fn has_bytes(row: &RowIn<'_>)
 }
 
 /// What the bodies of rows hold are bytes.
-pub(crate) fn are_bytes(rows: &[RowIn<'_>])
+pub(crate) fn rows_are_bytes(rows: &[RowIn<'_>])
     ensures { AllByRecursion HasBytes rows.now }
 {
     for row in rows {

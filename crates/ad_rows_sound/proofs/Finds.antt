@@ -1,8 +1,8 @@
 -- What is found among objects that were read.
 use Rattle.std.proofs.Common.{◌≡◌, ◌∙◌, ◌⊎◌, ℕ, zero, suc, ◌+◌, ◌<◌, ◌≤◌, Bool, true, false, ◌==◌, if◌then◌else◌}
-use Rattle.std.proofs.Common.{List, [], ◌∷◌, ◌++◌, map, take, drop, length, get_or, Option, Some, None, refl, sym, ap}
+use Rattle.std.proofs.Common.{List, [], ◌∷◌, ◌++◌, map, take, drop, length, get_or, Some, None, refl, sym, ap}
 use Rattle.std.proofs.Common.{subst, arith, inl, inr}
-use Rattle.std.specs.Prelude.{slice_get, nat_eq, option_map, unwrap_or}
+use Rattle.std.specs.Prelude.{slice_get, nat_eq}
 use Rattle.std.specs.List.{AllByRecursion}
 use Rattle.std.specs.Str.{bytes_eq, IsUtf8, is_utf8}
 use Rattle.std.proofs.lemmas.Str.{IsUtf8-from_is_utf8, is_utf8-from_IsUtf8}
@@ -21,16 +21,7 @@ use Rattle.ad_dir_model.specs.Object.{Object}
 use Rattle.ad_dir_model.specs.Objects.{object_of}
 use Rattle.ad_dir_model.specs.Limits.{max_depth}
 use Rattle.ad_dir_model.specs.Tree.{IsAtDepth, IsPlaced}
-use Rattle.ad_dir_model.specs.Inheritance.{guid_at}
-use Rattle.ad_ids.specs.declared.guid.Guid.{Guid}
 use Rattle.ad_sd.specs.Normal.{SpellsNormal, normal_bytes}
-use Rattle.ad_schema.specs.declared.line.Line.{Line}
-use Rattle.ad_schema.specs.declared.line.SchemaKind.TheVariants.{Attribute, Class}
-use Rattle.ad_schema.specs.declared.line.SchemaRecord.{SchemaRecord}
-use Rattle.ad_schema.specs.declared.info.ClassInfo.{ClassInfo}
-use Rattle.ad_schema.specs.Attributes.{no_guid, names_of, lines_of}
-use Rattle.ad_schema.specs.Classes.{classes_of, class_info, class_infos, class_guid, class_guids, superclasses}
-use Rattle.ad_schema.specs.Classes.{own_namings, cn_of}
 
 abbrev pub Entry : Type 0
 Entry = ObjectIn × Sd
@@ -177,21 +168,7 @@ placed_nowhere parent at counter number further past placed =
     let within = placed.within in
     omega (arith, sum, within, past)
 
--- ---- GUIDs and descriptors
-
-guids : (above own : List (Option ℕ)) (cn n : ℕ) (lines : List (List Line)) (i : ℕ) → slice_get (map class_guid lines)
-    i ≡ option_map (λ (info : ClassInfo). info.guid) (slice_get (class_infos above own cn n lines) i)
-unfolding class_infos class_info
-guids above own cn n [] i = refl
-guids above own cn n (l ∷ lines) zero = refl
-guids above own cn n (l ∷ lines) (suc i) = guids above own cn (n + 1) lines i
-
-pub guid_is : (schema : List SchemaRecord) (class : ℕ) → guid_at schema class
-    ≡ unwrap_or (option_map (λ (info : ClassInfo). info.guid) (slice_get (classes_of schema) class)) no_guid
-unfolding guid_at class_guids classes_of
-guid_is schema class = ap (λ (found : Option Guid). unwrap_or found no_guid)
-    (guids (superclasses schema) (own_namings schema) (cn_of (names_of Attribute schema)) 0 (lines_of Class schema)
-    class)
+-- ---- descriptors
 
 -- a descriptor has one normal encoding
 pub one_spelling : (a b : Sd) (x y : List ℕ) → SpellsNormal a x → SpellsNormal b y → a ≡ b → x ≡ y

@@ -1,5 +1,5 @@
 -- The parts of a directory, and what is asked of them one by one.
-use Rattle.std.specs.Prelude.{◌≡◌, ◌⊎◌, ℕ, ◌<◌, ◌-◌, ◌^◌, ◌==◌, Bool, true, false, Option, Some, List, ◌++◌, length}
+use Rattle.std.specs.Prelude.{◌≡◌, ◌⊎◌, ℕ, ◌<◌, ◌-◌, ◌^◌, ◌==◌, Bool, true, false, Option, Some, List, ◌++◌}
 use Rattle.std.specs.Prelude.{slice_get}
 use Rattle.std.specs.Option.{option_map_or, option_and_then}
 use Rattle.ad_ids.specs.SidValue.{SidValue}
@@ -70,10 +70,6 @@ abbrev pub HasSid : List SchemaRecord → Object → Type 0
 HasSid schema o = (sid : SidValue) → sid_in schema o ≡ Some sid → IsSid sid
 
 -- ---- counters
-
--- the last of some numbers
-abbrev pub last_of : List ℕ → Option ℕ
-last_of numbers = slice_get numbers (length numbers - 1)
 
 -- the number is below the next one, and so is the last one of an identifier that is the domain's with one number more
 pub record IsCounted (schema : List SchemaRecord) (domain : Option SidValue) (meta : Meta) (o : Object) : Type 0 where

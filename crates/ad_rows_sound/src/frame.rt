@@ -1,21 +1,19 @@
 //! Whether the schema, the counters and the limits of what was read are sound.
 
-ghost use Rattle.std.specs.Prelude.{◌≡◌, ◌↔◌, ◌≤◌, ◌<◌, ℕ, true, Some, None, length, map, nat_le, IsTrue, IfOk};
-ghost use Rattle.std.specs.Option.{option_copied, option_and_then};
+ghost use Rattle.std.specs.Prelude.{◌≡◌, ◌↔◌, ◌<◌, ℕ, true, Some, None, IsTrue, IfOk};
+ghost use Rattle.std.specs.Option.{option_copied};
 ghost use Rattle.std.specs.List.{AllByRecursion, list_all};
 ghost use Rattle.ad_ids.specs.SidChild.{child_of};
-ghost use Rattle.ad_ids.specs.SidValue.{SidValue};
 ghost use Rattle.ad_dn.specs.Text.{rdns_text};
 ghost use Rattle.ad_schema.specs.Classes.{classes_of};
-ghost use Rattle.ad_dir_model.specs.Limits.{max_text, max_weight};
+ghost use Rattle.ad_dir_model.specs.Limits.{max_text};
 ghost use Rattle.ad_dir_model.specs.Soundness.{default_reads, is_short, is_short_record};
-ghost use Rattle.ad_dir_model.specs.Weight.{objects_weight};
 ghost use Rattle.ad_dir_objects.specs.Seen.{meta_seen, objects_of, object_seen};
 ghost use Rattle.ad_sd.specs.declared.parts.Sd.{Sd as SdValue};
-ghost use Rattle.ad_rows_sound.specs.Parts.{IsCounted, last_of};
+ghost use Rattle.ad_rows_sound.specs.Parts.{IsCounted};
 
 use crate::finding::Entry;
-use ad_dir::{Meta, Object, object_sid};
+use ad_dir::{Meta, Object, last_of, object_sid};
 use ad_dn::Dn;
 use ad_ids::Sid;
 use ad_schema::{ClassInfo, Line, Schema, SchemaRecord};
@@ -52,12 +50,6 @@ pub(crate) fn defaults_read(
         }
     }
     Ok(true)
-}
-
-fn last_of(numbers: &[u32]) -> Option<u32>
-    ensures { result ≡ last_of numbers.now }
-{
-    numbers.get(numbers.len().saturating_sub(1)).copied()
 }
 
 // Whether an identifier is the domain's with this number more.

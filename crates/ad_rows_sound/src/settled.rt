@@ -1,15 +1,15 @@
 //! Whether an object has what its parent passes down. Siblings mostly have the same descriptors, so the last object
 //! that has it is kept, and what its like has isn't computed again.
 
-ghost use Rattle.std.specs.Prelude.{◌≡◌, ◌↔◌, slice_get, IsTrue, IfOk};
-ghost use Rattle.std.specs.Option.{option_copied};
+ghost use Rattle.std.specs.Prelude.{◌≡◌, ◌↔◌, IsTrue, IfOk};
 ghost use Rattle.ad_inherit.specs.Whole.{whole};
 ghost use Rattle.ad_dir_model.specs.Inheritance.{guid_at};
 
 use crate::finding::Entry;
+use ad_dir::guid_of;
 use ad_ids::Guid;
 use ad_inherit::whole;
-use ad_schema::{ClassId, ClassInfo, Schema};
+use ad_schema::Schema;
 use ad_sd::{NormalSd, Sd, no_normal_bytes_begin_others};
 use std::alloc::{AllocError, Global};
 
@@ -32,22 +32,6 @@ pub(crate) fn is_sd(alloc: Global, own: &NormalSd, sd: &Sd) -> Result<bool, Allo
 {
     let other = NormalSd::of(alloc, sd)?;
     Ok(are_same(own, &other))
-}
-
-fn class_at(classes: &[ClassInfo], place: usize) -> Option<&ClassInfo>
-    ensures { option_copied result ≡ slice_get classes.now place }
-{
-    classes.get(place)
-}
-
-// The GUID of a class; where there is no class at the place, one of zeros.
-fn guid_of(schema: &Schema, class: ClassId) -> Guid
-    ensures { result ≡ guid_at schema.now class.0 }
-{
-    match class_at(schema.classes(), class.0 as usize) {
-        Some(info) => info.guid,
-        None => Guid { bytes: [0; 16] },
-    }
 }
 
 /// The descriptors of a parent and of an object below it, of this class, that has what the parent passes down.

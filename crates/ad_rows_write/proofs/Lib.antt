@@ -1,5 +1,6 @@
 pub mod Again
 pub mod InOrder
+pub mod InOrderWhole
 pub mod Noted
 pub mod Putting
 pub mod Written

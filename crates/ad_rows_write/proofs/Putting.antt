@@ -5,10 +5,10 @@ use Rattle.std.proofs.lemmas.List.{append-nil, length-map, take_more}
 use Rattle.ad_bytes.specs.Numbers.{SpellsBe}
 use Rattle.ad_bytes.specs.Reading.{StartsWith, SpellsEach}
 use Rattle.ad_rows_write.specs.Body.{SpellsList}
-use Rattle.ad_rows_write.specs.Puts.{Puts}
+use Rattle.ad_rows_write.specs.Appends.{Appends}
 
 pub puts_then : {A : Type 0} (Spells : A → List ℕ → Type 0) (x : A) (Follows : List ℕ → Type 0) (old mid new : List ℕ)
-    → Puts (Spells x) old mid → Puts Follows mid new → Puts (StartsWith Spells x Follows) old new
+    → Appends (Spells x) old mid → Appends Follows mid new → Appends (StartsWith Spells x Follows) old new
 puts_then Spells x Follows old mid new first second = (
   first.0 ++ second.0,
   record { front = first.0; behind = second.0; parts = refl; spelled = first.1; follows = second.1 },
@@ -16,11 +16,11 @@ puts_then Spells x Follows old mid new first second = (
 )
 
 -- all of a body
-pub puts_all : (Spells : List ℕ → Type 0) (body : List ℕ) → Puts Spells [] body → Spells body
+pub puts_all : (Spells : List ℕ → Type 0) (body : List ℕ) → Appends Spells [] body → Spells body
 puts_all Spells body puts = subst Spells (sym puts.2) puts.1
 
 -- nothing of a list
-pub each_none : {A : Type 0} (Spells : A → List ℕ → Type 0) (old : List ℕ) → Puts (SpellsEach Spells []) old old
+pub each_none : {A : Type 0} (Spells : A → List ℕ → Type 0) (old : List ℕ) → Appends (SpellsEach Spells []) old old
 each_none Spells old = ([], refl, sym (append-nil old))
 
 each_push : {A : Type 0} (Spells : A → List ℕ → Type 0) (xs : List A) (x : A) (text more : List ℕ)
@@ -42,7 +42,7 @@ each_push Spells (first ∷ xs) x text more each one = record {
 }
 
 each_more : {A : Type 0} (Spells : A → List ℕ → Type 0) (xs : List A) (x : A) (old mid new : List ℕ)
-    → Puts (SpellsEach Spells xs) old mid → Puts (Spells x) mid new → Puts (SpellsEach Spells (xs ++ x ∷ [])) old new
+    → Appends (SpellsEach Spells xs) old mid → Appends (Spells x) mid new → Appends (SpellsEach Spells (xs ++ x ∷ [])) old new
 each_more Spells xs x old mid new so_far one = (
   so_far.0 ++ one.0,
   each_push Spells xs x so_far.0 one.0 so_far.1 one.1,
@@ -51,15 +51,15 @@ each_more Spells xs x old mid new so_far one = (
 
 -- one value more of a slice
 pub each_at : {A : Type 0} (Spells : A → List ℕ → Type 0) (xs : List A) (i : ℕ) (x : A) (old mid new : List ℕ) → i
-    < length xs → x ≡ get_or xs i x → Puts (SpellsEach Spells (take i xs)) old mid → Puts (Spells x) mid new
-    → Puts (SpellsEach Spells (take (i + 1) xs)) old new
+    < length xs → x ≡ get_or xs i x → Appends (SpellsEach Spells (take i xs)) old mid → Appends (Spells x) mid new
+    → Appends (SpellsEach Spells (take (i + 1) xs)) old new
 each_at Spells xs i x old mid new less is so_far one =
-    subst (λ (l : List _). Puts (SpellsEach Spells l) old new)
+    subst (λ (l : List _). Appends (SpellsEach Spells l) old new)
     (ap (λ y. take i xs ++ y ∷ []) is ∙ sym (take_more xs i x less))
     (each_more Spells (take i xs) x old mid new so_far one)
 
-pub puts_weaker : (P Q : List ℕ → Type 0) (old new : List ℕ) → ((text : List ℕ) → P text → Q text) → Puts P old new
-    → Puts Q old new
+pub puts_weaker : (P Q : List ℕ → Type 0) (old new : List ℕ) → ((text : List ℕ) → P text → Q text) → Appends P old new
+    → Appends Q old new
 puts_weaker P Q old new f puts = (puts.0, f puts.0 puts.1, puts.2)
 
 -- values that are seen as others
@@ -86,8 +86,8 @@ list_mapped Spells f xs text list = record {
 }
 
 pub puts_mapped : {A B : Type 0} (Spells : B → List ℕ → Type 0) (f : A → B) (xs ys : List A) (old new : List ℕ) → xs
-    ≡ ys → Puts (SpellsList (λ x. Spells (f x)) xs) old new → Puts (SpellsList Spells (map f ys)) old new
+    ≡ ys → Appends (SpellsList (λ x. Spells (f x)) xs) old new → Appends (SpellsList Spells (map f ys)) old new
 puts_mapped Spells f xs ys old new same puts =
-    subst (λ (l : List _). Puts (SpellsList Spells (map f l)) old new) same
+    subst (λ (l : List _). Appends (SpellsList Spells (map f l)) old new) same
     (puts_weaker (SpellsList (λ x. Spells (f x)) xs) (SpellsList Spells (map f xs)) old new
     (list_mapped Spells f xs) puts)

@@ -4,4 +4,4 @@ pub mod Rows
 -- only for private contracts, invariants and proofs
 pub mod Listing
 pub mod Noted
-pub mod Puts
+pub mod Appends

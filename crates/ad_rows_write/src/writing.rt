@@ -7,7 +7,7 @@ ghost use Rattle.ad_dir_model.specs.Object.{link};
 ghost use Rattle.ad_dir_objects.specs.Seen.{stored_seen, held_seen};
 ghost use Rattle.ad_rows_write.specs.Body.{SpellsText, SpellsList, SpellsStored, SpellsHeld, SpellsPending};
 ghost use Rattle.ad_rows_write.specs.Body.{SpellsLine, SpellsRecord, kind_byte};
-ghost use Rattle.ad_rows_write.specs.Puts.{Puts};
+ghost use Rattle.ad_rows_write.specs.Appends.{Appends};
 
 use ad_bytes::Few;
 use ad_dir::Stored;
@@ -18,7 +18,7 @@ use std::alloc::AllocError;
 /// A number in four bytes.
 #[tactic(auto, unfolding(ad_bytes::specs::Numbers::be_bytes))]
 pub(crate) fn put4(into: &mut Vec<u8>, number: u32) -> Result<(), AllocError>
-    ensures { OnOk result (Puts (SpellsBe 4 number) into.old.items into.new.items) }
+    ensures { OnOk result (Appends (SpellsBe 4 number) into.old.items into.new.items) }
 {
     into.extend_from_slice(&number.to_be_bytes())
 }
@@ -26,21 +26,21 @@ pub(crate) fn put4(into: &mut Vec<u8>, number: u32) -> Result<(), AllocError>
 /// A number in eight bytes.
 #[tactic(auto, unfolding(ad_bytes::specs::Numbers::be_bytes))]
 pub(crate) fn put8(into: &mut Vec<u8>, number: u64) -> Result<(), AllocError>
-    ensures { OnOk result (Puts (SpellsBe 8 number) into.old.items into.new.items) }
+    ensures { OnOk result (Appends (SpellsBe 8 number) into.old.items into.new.items) }
 {
     into.extend_from_slice(&number.to_be_bytes())
 }
 
 /// Bytes as they are.
 pub(crate) fn put_bytes(into: &mut Vec<u8>, bytes: &[u8]) -> Result<(), AllocError>
-    ensures { OnOk result (Puts (λ text. text ≡ bytes.now) into.old.items into.new.items) }
+    ensures { OnOk result (Appends (λ text. text ≡ bytes.now) into.old.items into.new.items) }
 {
     into.extend_from_slice(bytes)
 }
 
 /// A text or a value, after its length.
 pub(crate) fn put_text(into: &mut Vec<u8>, bytes: &[u8]) -> Result<(), AllocError>
-    ensures { OnOk result (Puts (SpellsText bytes.now) into.old.items into.new.items) }
+    ensures { OnOk result (Appends (SpellsText bytes.now) into.old.items into.new.items) }
 {
     put8(into, bytes.len() as u64)?;
     put_bytes(into, bytes)
@@ -48,7 +48,7 @@ pub(crate) fn put_text(into: &mut Vec<u8>, bytes: &[u8]) -> Result<(), AllocErro
 
 // The number of a link, after its length.
 fn put_link(into: &mut Vec<u8>, number: u32) -> Result<(), AllocError>
-    ensures { OnOk result (Puts (SpellsStored (link number)) into.old.items into.new.items) }
+    ensures { OnOk result (Appends (SpellsStored (link number)) into.old.items into.new.items) }
 {
     put8(into, 4)?;
     put4(into, number)
@@ -59,14 +59,14 @@ pub(crate) trait Part {
     /// The texts that encode it.
     ghost Spells: { Self → List ℕ → Type 0 };
 
-    /// Puts it after what is there.
+    /// Appends it after what is there.
     fn put(&self, into: &mut Vec<u8>) -> Result<(), AllocError>
-        ensures { OnOk result (Puts (Spells self.now) into.old.items into.new.items) };
+        ensures { OnOk result (Appends (Spells self.now) into.old.items into.new.items) };
 }
 
 // The items of a list, one after the other.
 fn put_each<T: Part>(into: &mut Vec<u8>, items: &[T]) -> Result<(), AllocError>
-    ensures { OnOk result (Puts (SpellsEach T.Spells items.now) into.old.items into.new.items) }
+    ensures { OnOk result (Appends (SpellsEach T.Spells items.now) into.old.items into.new.items) }
 {
     for item in items {
         item.put(into)?;
@@ -76,7 +76,7 @@ fn put_each<T: Part>(into: &mut Vec<u8>, items: &[T]) -> Result<(), AllocError>
 
 /// A list, after its count.
 pub(crate) fn put_list<T: Part>(into: &mut Vec<u8>, items: &[T]) -> Result<(), AllocError>
-    ensures { OnOk result (Puts (SpellsList T.Spells items.now) into.old.items into.new.items) }
+    ensures { OnOk result (Appends (SpellsList T.Spells items.now) into.old.items into.new.items) }
 {
     put8(into, items.len() as u64)?;
     put_each(into, items)
@@ -131,7 +131,7 @@ fn kind_byte(kind: SchemaKind) -> u8
 }
 
 fn put_kind(into: &mut Vec<u8>, kind: SchemaKind) -> Result<(), AllocError>
-    ensures { OnOk result (Puts (SpellsByte (kind_byte kind)) into.old.items into.new.items) }
+    ensures { OnOk result (Appends (SpellsByte (kind_byte kind)) into.old.items into.new.items) }
 {
     into.push(kind_byte(kind))?;
     Ok(())
@@ -139,7 +139,7 @@ fn put_kind(into: &mut Vec<u8>, kind: SchemaKind) -> Result<(), AllocError>
 
 /// A record of the schema.
 pub(crate) fn put_record(into: &mut Vec<u8>, record: &SchemaRecord) -> Result<(), AllocError>
-    ensures { OnOk result (Puts (SpellsRecord «record».now) into.old.items into.new.items) }
+    ensures { OnOk result (Appends (SpellsRecord «record».now) into.old.items into.new.items) }
 {
     put_kind(into, record.kind)?;
     put_list(into, record.lines.as_slice())

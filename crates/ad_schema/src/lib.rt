@@ -27,6 +27,7 @@
 
 mod builder;
 mod classes;
+mod counts;
 mod fault;
 mod field;
 mod finish;
@@ -46,11 +47,12 @@ mod schema;
 pub use ad_bytes::Bytes;
 pub use ad_schema_classes::a_class_set_is_the_least;
 pub use builder::Builder;
+pub use counts::{attr_count, class_count};
 pub use fault::SchemaFault;
 pub use guids::Guids;
 pub use info::{AttrId, AttrInfo, ClassId, ClassInfo, RightInfo};
 pub use laws::{chains_end, names_are_distinct, records_are_few};
 pub use line::{Line, SchemaKind, SchemaRecord};
 pub use lines::Lines;
-pub use meaning::RuleAttr;
+pub use meaning::{RuleAttr, is_computed};
 pub use schema::Schema;

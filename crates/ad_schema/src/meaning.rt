@@ -67,7 +67,7 @@ fn is_link(info: &AttrInfo) -> bool
 
 /// Whether an attribute of this name is made of the object itself.
 #[tactic(auto, unfolding(crate::specs::Meaning::is_computed))]
-fn is_computed(name: &[u8]) -> bool
+pub fn is_computed(name: &[u8]) -> bool
     ensures { result ≡ is_computed name.now }
 {
     same_name(name, b"objectClass")

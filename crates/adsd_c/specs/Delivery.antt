@@ -8,8 +8,8 @@ use Rattle.adsd_c.specs.Refusal.{answered, no_memory, no_room, code_of, place_of
 
 -- The number of the bytes is told. With room for them they stand at the buffer's start, and what is after them stays.
 -- With less the code says so, and all of the buffer stays.
-abbrev pub Puts : List ℕ → ℕ → List ℕ → List ℕ → ℕ → Type 0
-Puts bytes code old new size =
+abbrev pub Fills : List ℕ → ℕ → List ℕ → List ℕ → ℕ → Type 0
+Fills bytes code old new size =
     (size ≡ length bytes)
     × (length bytes ≤ length old → (code ≡ answered) × (new ≡ bytes ++ drop (length bytes) old))
     × (length old < length bytes → (code ≡ no_room) × (new ≡ old))
@@ -19,7 +19,7 @@ abbrev pub Refuses : Refusal → ℕ → List ℕ → List ℕ → ℕ → Type 
 Refuses fault code old new size = (code ≡ code_of fault) × (new ≡ old) × (size ≡ place_of fault)
 
 abbrev pub Answers : Result (List ℕ) Refusal → ℕ → List ℕ → List ℕ → ℕ → Type 0
-Answers (Ok bytes) code old new size = Puts bytes code old new size
+Answers (Ok bytes) code old new size = Fills bytes code old new size
 Answers (Err fault) code old new size = Refuses fault code old new size
 
 -- the answer, or that memory ran out

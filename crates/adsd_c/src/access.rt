@@ -175,7 +175,7 @@ fn clear(masks: &mut [u32])
     masks.fill(0);
 }
 
-// Puts the masks at the start of those of the caller, where there is room for them.
+// Fills the masks at the start of those of the caller, where there is room for them.
 fn put_masks(found: &[u32], masks: &mut [u32]) -> u32
     requires { AreNone masks.old }
     ensures { PutsEach found.now result masks.new }

@@ -4,16 +4,16 @@ ghost use Rattle.std.specs.Prelude.{ℕ, List, Result};
 ghost use Rattle.ad_bytes.specs.Reading.{GivesUnless};
 ghost use Rattle.adsd_c.specs.declared.refusal.Refusal.{Refusal as RefusalValue};
 ghost use Rattle.adsd_c.specs.Refusal.{is_memory};
-ghost use Rattle.adsd_c.specs.Delivery.{Puts, Refuses, Delivers};
+ghost use Rattle.adsd_c.specs.Delivery.{Fills, Refuses, Delivers};
 
 use crate::refusal::{Refusal, code_of, place_of};
 
 /// There is too little room for the answer.
 pub(crate) const NO_ROOM: u32 = 2;
 
-// Puts the bytes at the start of the buffer, where there is room for them, and tells how many they are.
+// Fills the bytes at the start of the buffer, where there is room for them, and tells how many they are.
 fn put(bytes: &[u8], out: &mut [u8], size: &mut usize) -> u32
-    ensures { Puts bytes.now result out.old out.new size.new }
+    ensures { Fills bytes.now result out.old out.new size.new }
 {
     *size = bytes.len();
     if out.len() < bytes.len() {

@@ -37,7 +37,7 @@ fn above_at(chain: &[usize], level: u32) -> Result<Option<usize>, Refusal>
     Ok(Some(chain[level - 1]))
 }
 
-// Puts the node after the others.
+// Fills the node after the others.
 fn put_node(nodes: &mut Vec<Node>, next: &TypeNode, above: Option<usize>) -> Result<(), AllocError>
     ensures { OnOk result (nodes.new.items ≡ nodes.old.items ++ node_below next.now above ∷ []) }
 {

@@ -1,6 +1,6 @@
 //! Edits that are asked first whether they may be made: what a directory asks of each, judged while a test runs.
 
-ghost use Rattle.std.specs.Prelude.{◌≡◌, ℕ, ◌<◌, ◌≤◌, ◌-◌, ◌^◌, true, false, map, filter_map, IsTrue, IfOk};
+ghost use Rattle.std.specs.Prelude.{◌≡◌, ℕ, ◌<◌, ◌≤◌, ◌-◌, ◌^◌, true, false, map, IsTrue, IfOk};
 ghost use Rattle.std.specs.List.{AllByRecursion};
 ghost use Rattle.ad_sd.specs.declared.parts.Sd.{Sd as SdValue};
 ghost use Rattle.ad_dir_model.specs.Object.{Held as HeldOf, linked, names};
@@ -15,9 +15,10 @@ ghost use Rattle.ad_dir.specs.Conditions.{MayPut, MayRemove};
 use crate::content::{Held, is_content};
 use ad_dir::Dir;
 use ad_dir_objects::{Edit, Object, Stored, object_sid};
+use ad_dir_write::copied;
 use ad_dn::is_value;
 use ad_sd::NormalSd;
-use prop_queue::{Pending, Queue};
+use prop_queue::Pending;
 use std::alloc::{AllocError, AllocGlobal, Global};
 use std::process::Abort;
 use std::test::*;
@@ -236,21 +237,6 @@ fn all_spare(dir: &Dir, numbers: &[u32], number: u32) -> bool
         }
     }
     true
-}
-
-// The same list in memory of its own.
-fn copied(alloc: Global, queue: &Queue) -> Result<Queue, AllocError>
-    ensures { IfOk result (λ copy. copy ≡ queue.now) }
-{
-    let len = queue.len();
-    let mut entries = Vec::with_capacity(alloc, len)?;
-    for i in 0..len {
-        match queue.at(i) {
-            Some(entry) => entries.push(entry)?,
-            None => unreachable!(),
-        }
-    }
-    Ok(Queue::of(entries))
 }
 
 fn is_of(pending: &[Pending], number: u32) -> bool

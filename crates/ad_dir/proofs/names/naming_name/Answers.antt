@@ -1,6 +1,7 @@
 use Rattle.std.proofs.Common.{◌∙◌, sym, subst}
 use Rattle.ad_dn.specs.AttributeType.{IsType}
-use Rattle.ad_dir.proofs.SchemaNames.{naming_at, type_at}
+use Rattle.ad_dir_objects.proofs.AttrNames.{naming_at}
+use Rattle.ad_dir.proofs.SchemaNames.{type_at}
 use Rattle.ad_dir.proofs.names.naming_name.Goals as goal
 
 pub returns-clause-name : goal.returns-clause-name

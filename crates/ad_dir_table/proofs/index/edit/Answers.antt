@@ -2,7 +2,7 @@ use Rattle.std.proofs.Common.{Option, subst}
 use Rattle.ad_ids.specs.SidValue.{SidValue}
 use Rattle.ad_dir_table.specs.NameKeys.{name_at}
 use Rattle.ad_dir_table.specs.Exact.{sid_at}
-use Rattle.ad_dir_table.specs.KeyChanges.{Takes}
+use Rattle.ad_dir_table.specs.KeyChanges.{Removes}
 use Rattle.ad_dir_table.specs.Lists.{listed}
 use Rattle.ad_dir_table.proofs.NumberLaws.{lists_rise_more}
 use Rattle.ad_dir_table.proofs.index.edit.Goals as goal
@@ -18,7 +18,7 @@ returns c = record {
   sids = record {
     mid = sid_at c.put_sid.new.sids.entries;
     puts = c.put_sid.ensures;
-    takes = subst (λ (from : Option SidValue). Takes from (sid_at c.put_sid.new.sids.entries)
+    takes = subst (λ (from : Option SidValue). Removes from (sid_at c.put_sid.new.sids.entries)
         (sid_at c.take_sid.new.sids.entries)) c.as_ref.ensures.value c.take_sid.ensures;
   };
   children = record {

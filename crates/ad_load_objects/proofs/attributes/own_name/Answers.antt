@@ -1,5 +1,5 @@
 use Rattle.std.proofs.Common.{◌∙◌}
-use Rattle.ad_load_objects.proofs.Names.{name_at}
+use Rattle.ad_dir_objects.proofs.AttrNames.{name_at}
 use Rattle.ad_load_objects.proofs.attributes.own_name.Goals as goal
 
 pub returns : goal.returns

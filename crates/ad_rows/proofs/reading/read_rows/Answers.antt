@@ -22,7 +22,7 @@ returns-in_err-taken c =
     let p = err_from_is_err_and c.from_residual-in_err-taken.result c.from_residual-in_err-taken.ensures.1 in
     let schema = c.as_ref.ensures.value ∙ c.in_ok-schema.ensures.schema in
     refused_so (table_of rows) c.in_err-taken.field-0.0 p.0 c.from_residual-in_err-taken.result p.1 p.2
-    (row_answered rows (option_copied c.as_ref.result) c.in_err-taken.field-0.0 c.requires c.are_bytes.ensures
+    (row_answered rows (option_copied c.as_ref.result) c.in_err-taken.field-0.0 c.requires c.rows_are_bytes.ensures
     schema c.in_err-taken.ensures.parts)
 
 pub returns : goal.returns
@@ -32,5 +32,5 @@ returns c =
     let taken = c.in_ok-taken.taken in
     read_so (table_of rows) c.of_taken.result
     (all_answered rows (parts_of taken) c.in_ok-schema.schema (option_copied c.as_ref.result) taken.bad taken.last
-    c.of_taken.result c.requires c.are_bytes.ensures
+    c.of_taken.result c.requires c.rows_are_bytes.ensures
     schema (c.as_ref.ensures.value ∙ schema) c.in_ok-taken.ensures.parts c.in_ok-taken.ensures.taken c.of_taken.ensures)

@@ -1,7 +1,7 @@
 use Rattle.std.proofs.Common.{◌∙◌, sym, ap}
 use Rattle.std.specs.Prelude.{option_map}
 use Rattle.ad_sd.specs.Seen.{seen}
-use Rattle.ad_rows_write.proofs.InOrder.{described}
+use Rattle.ad_rows_write.proofs.InOrderWhole.{described}
 use Rattle.ad_rows_write.proofs.listing.described_row.Goals as goal
 
 pub returns : goal.returns

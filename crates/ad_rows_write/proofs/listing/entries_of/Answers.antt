@@ -1,5 +1,5 @@
 use Rattle.std.proofs.Common.{◌∙◌, sym}
-use Rattle.ad_rows_write.proofs.InOrder.{taken_more, all_taken}
+use Rattle.ad_rows_write.proofs.InOrderWhole.{taken_more, all_taken}
 use Rattle.ad_rows_write.proofs.listing.entries_of.Goals as goal
 
 pub loop-entry-preserved : goal.loop-entry-preserved

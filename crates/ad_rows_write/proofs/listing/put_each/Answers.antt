@@ -2,7 +2,8 @@ use Rattle.std.proofs.Common.{◌+◌, take, get_or}
 use Rattle.ad_dir_model.specs.Objects.{object_at}
 use Rattle.ad_rows_write.specs.Body.{SpellsObject}
 use Rattle.ad_rows_write.specs.Listing.{objects_at}
-use Rattle.ad_rows_write.proofs.InOrder.{adds_push, objects_longer, live_at_place, itself}
+use Rattle.ad_rows_write.proofs.InOrder.{adds_push}
+use Rattle.ad_rows_write.proofs.InOrderWhole.{objects_longer, live_at_place, itself}
 use Rattle.ad_rows_write.proofs.listing.put_each.Goals as goal
 
 pub object_row-requires : goal.object_row-requires

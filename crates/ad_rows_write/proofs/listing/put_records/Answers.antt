@@ -1,7 +1,8 @@
 use Rattle.std.proofs.Common.{◌+◌, take}
 use Rattle.ad_rows_write.specs.Body.{SpellsRecord}
 use Rattle.ad_rows_write.specs.Listing.{counted}
-use Rattle.ad_rows_write.proofs.InOrder.{adds_push, counted_longer}
+use Rattle.ad_rows_write.proofs.InOrder.{adds_push}
+use Rattle.ad_rows_write.proofs.InOrderWhole.{counted_longer}
 use Rattle.ad_rows_write.proofs.listing.put_records.Goals as goal
 
 pub loop-i-preserved : goal.loop-i-preserved

@@ -3,7 +3,7 @@ use Rattle.ad_dir_objects.specs.Seen.{meta_seen}
 use Rattle.ad_rows_sound.specs.Parts.{dir_of}
 use Rattle.ad_rows_write.specs.Body.{SpellsQueue, SpellsMeta}
 use Rattle.ad_rows_write.specs.Listing.{IsRowAt}
-use Rattle.ad_rows_write.proofs.InOrder.{whole_stands}
+use Rattle.ad_rows_write.proofs.InOrderWhole.{whole_stands}
 use Rattle.ad_rows_write.proofs.listing.put_rest.Goals as goal
 
 pub returns : goal.returns

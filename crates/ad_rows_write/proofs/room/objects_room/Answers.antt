@@ -1,4 +1,4 @@
-use Rattle.ad_rows_write.proofs.InOrder.{live_at_place}
+use Rattle.ad_rows_write.proofs.InOrderWhole.{live_at_place}
 use Rattle.ad_rows_write.proofs.room.objects_room.Goals as goal
 
 pub object_room-requires : goal.object_room-requires

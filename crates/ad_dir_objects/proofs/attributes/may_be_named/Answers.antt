@@ -3,8 +3,8 @@ use Rattle.std.specs.Prelude.{slice_get}
 use Rattle.ad_schema_classes.specs.Names.{same_name}
 use Rattle.ad_schema.specs.Attributes.{attrs_of}
 use Rattle.ad_schema.specs.declared.info.AttrInfo.{AttrInfo}
-use Rattle.ad_dir.proofs.SchemaNames.{same_named}
-use Rattle.ad_dir.proofs.shown.may_be_named.Goals as goal
+use Rattle.ad_dir_objects.proofs.AttrNames.{same_named}
+use Rattle.ad_dir_objects.proofs.attributes.may_be_named.Goals as goal
 
 pub returns-in-Some : goal.returns-in-Some
 returns-in-Some c = λ named.

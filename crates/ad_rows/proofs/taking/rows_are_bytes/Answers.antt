@@ -3,7 +3,7 @@ use Rattle.std.specs.Prelude.{All}
 use Rattle.std.proofs.lemmas.List.Elements.{All-more, recursion_from_All}
 use Rattle.row_store.specs.declared.row.Row.{Row}
 use Rattle.ad_rows.specs.Taking.{HasBytes}
-use Rattle.ad_rows.proofs.taking.are_bytes.Goals as goal
+use Rattle.ad_rows.proofs.taking.rows_are_bytes.Goals as goal
 
 pub loop-row-preserved : goal.loop-row-preserved
 loop-row-preserved c = All-more HasBytes c.args.rows.now c.loop-row.row-index c.row-item.result c.loop-row-test.true

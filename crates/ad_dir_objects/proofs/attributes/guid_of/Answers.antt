@@ -3,8 +3,8 @@ use Rattle.std.specs.Prelude.{slice_get, option_map, unwrap_or}
 use Rattle.std.specs.Option.{option_copied}
 use Rattle.ad_schema.specs.declared.info.ClassInfo.{ClassInfo}
 use Rattle.ad_schema.specs.Attributes.{no_guid}
-use Rattle.ad_rows_sound.proofs.Finds.{guid_is}
-use Rattle.ad_rows_sound.proofs.settled.guid_of.Goals as goal
+use Rattle.ad_dir_objects.proofs.ClassGuids.{guid_is}
+use Rattle.ad_dir_objects.proofs.attributes.guid_of.Goals as goal
 
 pub returns-in-Some : goal.returns-in-Some
 returns-in-Some c =

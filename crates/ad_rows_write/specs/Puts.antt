@@ -1,6 +1,0 @@
--- What a writer appends.
-use Rattle.std.specs.Prelude.{◌≡◌, ℕ, List, ◌++◌}
-
--- a text of this form was appended
-abbrev pub Puts : (List ℕ → Type 0) → List ℕ → List ℕ → Type 0
-Puts Spells old new = (text : List ℕ) × Spells text × (new ≡ old ++ text)
