@@ -12,11 +12,19 @@ class Crate:
     def __init__(self, house, name):
         self.clauses = {}
         self.names = {name}
+        fields = {}
+        for file, specs in house.specs.items():
+            if file.split("/")[0] == name:
+                for item, its in specs.fields.items():
+                    fields.setdefault(item, set()).update(its)
         for file, code in house.code.items():
             if file.split("/")[0] != name:
                 continue
             for function, head in code.functions():
-                named = re.findall(r"\bensures (?:\* ?)?(\w+) \{", head)
+                named = set(re.findall(r"\bensures (?:\* ?)?(\w+) \{", head))
+                # A contract that is one record has the record's fields as its clauses.
+                for record in re.findall(r"\bensures (?:\* ?)?\{ *(\w+)", head):
+                    named |= fields.get(record, set())
                 self.clauses.setdefault(function, set()).update(named)
             self.names.update(re.findall(r"\b(?:struct|enum|trait|const|type|mod|fn|static) (\w+)", code.text))
             self.names.update(re.findall(r"^    (?:pub )?(\w+)(?:[:,({]| \{)", code.text, re.M))

@@ -1,16 +1,27 @@
 -- Whole calls on a log.
-use Rattle.std.proofs.Common.{◌≡◌, false, ◌⊎◌, inl, inr, ℕ, ◌+◌, ◌≤◌, List, [], ◌∷◌, Option, Some, None, sym, subst}
+use Rattle.std.proofs.Common.{◌≡◌, true, false, ◌⊎◌, inl, inr, ⊎_elim, ℕ, ◌+◌, ◌≤◌, List, [], ◌∷◌, Option, Some, None}
+use Rattle.std.proofs.Common.{◌++◌, ◌↔◌, length, refl, sym, ap, subst, Result, Ok, Err}
 use Rattle.std.specs.Option.{IfSome}
+use Rattle.std.specs.Result.{IsErrOf}
 use Rattle.site_io.specs.Told.{BothTold, StaysTold}
 use Rattle.site_io.specs.Disk.{Images, GoesOn, LeavesSame}
+use Rattle.site_io.specs.Counts.{HasRisen}
+use Rattle.site_io.specs.Outside.{TouchesSlots}
+use Rattle.site_io.specs.declared.site.Site.{Ghosts}
+use Rattle.gate_log.specs.Changed.{IsAppended, IsRewritten}
+use Rattle.gate_log.specs.Counts.{first_with, behind_with}
+use Rattle.gate_log.specs.Faults.{OnlySpent}
 use Rattle.gate_log.specs.Layout.{snapshot_end}
 use Rattle.gate_log.specs.Moments.{Leaves, LastsWhole, Began}
 use Rattle.gate_log.specs.Rewriting.{is_two, Prepared}
-use Rattle.gate_log.specs.Store.{other, HasBodies, OldOrWhole, Rests}
+use Rattle.gate_log.specs.Store.{other, HasBodies, OldOrNew, OldOrWhole, Rests}
 use Rattle.gate_log.specs.StoreOfLog.{RestsIn, StandsIn}
+use Rattle.gate_log.specs.declared.fault.LogFault.{LogFault}
+use Rattle.gate_log.specs.declared.fault.LogFault.TheVariants.{Spent, Site, Memory}
 use Rattle.gate_log.specs.declared.log.Log.{Log}
 use Rattle.gate_log.specs.declared.version.Version.TheVariants.{Two}
 use Rattle.gate_log.proofs.Images.{held_whole, rests_has}
+use Rattle.gate_log.proofs.Outside.{touches_not}
 use Rattle.gate_log.proofs.Runs.{and_then, as_begun, no_step, leaves_weaker}
 
 -- nothing was done
@@ -107,3 +118,161 @@ rewritten_in log log' body (Some held) (Some mid) (Some after) (Some last) told 
     let now = subst (λ i. Rests log.version log.live log.generation log.end log.other_open i bodies) (sym told)
     rests.rests in
     is last (switched log.end bodies (ready log.end bodies now))
+
+-- ---- what a call answers
+
+-- where nothing is done, an earlier call failed, or there was no memory
+abbrev pub NotDone : LogFault → Log → Type 0
+NotDone e log = ((e ≡ Spent) × (log.spent ≡ true)) ⊎ ((e ≡ Memory) × (log.spent ≡ false))
+
+not_spent : {T : Type 0} (e : LogFault) (log : Log) → NotDone e log → IsErrOf {T = T} (Err e) Spent ↔ log.spent ≡ true
+not_spent e log (inl is) = (λ _. is.1, λ _. ap (λ (f : LogFault). Err f) is.0)
+not_spent e log (inr is) = (λ never. absurd (cc (never, is.0)), λ spent. absurd (cc (spent, is.1)))
+
+not_site : {T : Type 0} (e : LogFault) (log : Log) → NotDone e log → IsErrOf {T = T} (Err e) Site → ⊥
+not_site e log (inl is) never = cc (never, is.0)
+not_site e log (inr is) never = cc (never, is.0)
+
+not_others : {T : Type 0} (e : LogFault) (log : Log) → NotDone e log → OnlySpent {T = T} (Err e)
+not_others e log (inl is) = (λ never. cc (never, is.0), λ never. cc (never, is.0), λ never. cc (never, is.0))
+not_others e log (inr is) = (λ never. cc (never, is.0), λ never. cc (never, is.0), λ never. cc (never, is.0))
+
+module _ {S : Type 0} (s : Ghosts S) where
+  pub not_appended : {T : Type 0} (x : S) (log : Log) (body : List ℕ) (e : LogFault) (result : Result T LogFault)
+      → result ≡ Err e → NotDone e log → StandsIn log (s.reads x) (s.now x) (s.left x)
+      → ((t : ℕ) (images : Images) (out : List ℕ) → s.left x t images out → t ≤ s.now x)
+      → IsAppended s x x log log body result
+  not_appended {T = T} x log body e result is may stands until =
+      subst (λ (r : Result T LogFault). IsAppended s x x log log body r) (sym is) (record {
+        stands = stands;
+        added = tt;
+        every_crash = tt;
+        any_moment = nothing_done log (λ bodies. OldOrNew bodies body) (s.reads x) (s.now x) (s.left x) until;
+        counts = tt;
+        kept = λ _. (refl, refl);
+        generation = refl;
+        version = refl;
+        spent = not_spent e log may;
+        marks = (λ spent. inl spent, ⊎_elim (λ spent. spent) (λ never. absurd (not_site e log may never)));
+        nothing = λ _. (refl, refl);
+        faults = not_others e log may;
+        outside = touches_not s x until;
+        cause = λ never. absurd (not_site e log may never);
+      })
+
+  pub not_rewritten : {T : Type 0} (x : S) (log : Log) (body : List ℕ) (e : LogFault) (result : Result T LogFault)
+      → result ≡ Err e → NotDone e log → StandsIn log (s.reads x) (s.now x) (s.left x)
+      → ((t : ℕ) (images : Images) (out : List ℕ) → s.left x t images out → t ≤ s.now x)
+      → IsRewritten s x x log log body result
+  not_rewritten {T = T} x log body e result is may stands until =
+      subst (λ (r : Result T LogFault). IsRewritten s x x log log body r) (sym is) (record {
+        stands = stands;
+        rewritten = tt;
+        every_crash = tt;
+        any_moment = nothing_done log (λ bodies. OldOrWhole bodies body) (s.reads x) (s.now x) (s.left x) until;
+        counts = tt;
+        kept = λ _. (refl, refl);
+        generation = tt;
+        version = tt;
+        spent = not_spent e log may;
+        marks = (λ spent. inl spent, ⊎_elim (λ spent. spent) (λ never. absurd (not_site e log may never)));
+        nothing = λ _. (refl, refl);
+        faults = not_others e log may;
+        outside = touches_not s x until;
+        cause = λ never. absurd (not_site e log may never);
+      })
+
+  -- the site failed
+  pub failed_rewrite : {T : Type 0} {after : Log} (x y : S) (log : Log) (made body : List ℕ) → made ≡ body
+      → log.spent ≡ false → after.spent ≡ true → IfSome (s.reads x) (λ held. (bodies : List (List ℕ)) → RestsIn log held bodies
+      → Leaves (s.now x) (s.now y) (s.left x) (s.left y) (λ images. Began (s.now x) (s.left x) images
+      ⊎ OldOrWhole bodies made images)) → (after.first ≡ log.first) × (after.behind ≡ log.behind)
+      → TouchesSlots s x y → HasRisen (s.slot_faults x) (s.slot_faults y)
+      → IsRewritten {T = T} s x y log after body (Err Site)
+  failed_rewrite x y log made body is unspent spent moments kept outside risen = record {
+    stands = λ never. absurd (cc (never, spent));
+    rewritten = tt;
+    every_crash = tt;
+    any_moment = subst (λ (b : List ℕ). IfSome (s.reads x) (λ held. (bodies : List (List ℕ)) → RestsIn log held bodies
+        → Leaves (s.now x) (s.now y) (s.left x) (s.left y) (λ images. Began (s.now x) (s.left x) images
+        ⊎ OldOrWhole bodies b images))) is moments;
+    counts = tt;
+    kept = λ _. kept;
+    generation = tt;
+    version = tt;
+    spent = (λ never. absurd (cc never), λ never. absurd (cc (never, unspent)));
+    marks = (λ _. inr refl, λ _. spent);
+    nothing = ⊎_elim (λ never. absurd (cc never)) (λ never. absurd (cc never));
+    faults = (λ never. cc never, λ never. cc never, λ never. cc never);
+    outside = outside;
+    cause = λ _. risen;
+  }
+
+  -- the body was added
+  pub done_append : {T : Type 0} (x y : S) (log after : Log) (body : List ℕ) (t : T) → log.spent ≡ false
+      → StandsIn log (s.reads x) (s.now x) (s.left x)
+      → BothTold (s.reads x) (s.reads y) (λ before held. (bodies : List (List ℕ)) → RestsIn log before bodies
+      → RestsIn after held (bodies ++ body ∷ [])) → LastsWhole (s.reads y) (s.now y) (s.left y)
+      → IfSome (s.reads x) (λ held. (bodies : List (List ℕ)) → RestsIn log held bodies
+      → Leaves (s.now x) (s.now y) (s.left x) (s.left y) (λ images. Began (s.now x) (s.left x) images
+      ⊎ OldOrNew bodies body images))
+      → (after.first ≡ first_with log.first (length body))
+      × (after.behind ≡ behind_with log.first log.behind (length body))
+      → after.generation ≡ log.generation → after.version ≡ log.version → after.spent ≡ log.spent
+      → TouchesSlots s x y → IsAppended s x y log after body (Ok t)
+  done_append x y log after body t unspent stands added lasts moments counts generation version spent outside = record {
+    stands = stands_after log after (λ bodies. bodies ++ body ∷ []) (s.reads x) (s.reads y) (s.now x) (s.now y)
+        (s.left x) (s.left y) unspent stands added lasts;
+    added = added;
+    every_crash = every_crash log after (λ bodies. bodies ++ body ∷ []) (s.reads x) (s.reads y) (s.now y) (s.left y)
+        added lasts;
+    any_moment = moments;
+    counts = counts;
+    kept = λ never. absurd (cc never);
+    generation = generation;
+    version = version;
+    spent = (λ never. absurd (cc never), λ never. absurd (cc (never, unspent)));
+    marks = (
+      λ never. absurd (cc (never, unspent, spent)),
+      λ never. absurd (⊎_elim (λ a. cc (a, unspent))
+          (λ b. cc b) never),
+    );
+    nothing = ⊎_elim (λ never. absurd (cc never)) (λ never. absurd (cc never));
+    faults = (λ never. cc never, λ never. cc never, λ never. cc never);
+    outside = outside;
+    cause = λ never. absurd (cc never);
+  }
+
+  -- the body took the place of all
+  pub done_rewrite : {T : Type 0} (x y : S) (log after : Log) (body : List ℕ) (t : T) → log.spent ≡ false
+      → StandsIn log (s.reads x) (s.now x) (s.left x)
+      → BothTold (s.reads x) (s.reads y) (λ before held. (bodies : List (List ℕ)) → RestsIn log before bodies
+      → RestsIn after held (body ∷ [])) → LastsWhole (s.reads y) (s.now y) (s.left y)
+      → IfSome (s.reads x) (λ held. (bodies : List (List ℕ)) → RestsIn log held bodies
+      → Leaves (s.now x) (s.now y) (s.left x) (s.left y) (λ images. Began (s.now x) (s.left x) images
+      ⊎ OldOrWhole bodies body images)) → (after.first ≡ Some (length body)) × (after.behind ≡ 0)
+      → after.generation ≡ log.generation + 1 → after.version ≡ Two → after.spent ≡ log.spent → TouchesSlots s x y
+      → IsRewritten s x y log after body (Ok t)
+  done_rewrite x y log after body t unspent stands rewritten lasts moments counts generation version spent outside =
+      record {
+        stands = stands_after log after (λ bodies. body ∷ []) (s.reads x) (s.reads y) (s.now x) (s.now y) (s.left x)
+            (s.left y) unspent stands rewritten lasts;
+        rewritten = rewritten;
+        every_crash = every_crash log after (λ bodies. body ∷ []) (s.reads x) (s.reads y) (s.now y) (s.left y)
+            rewritten lasts;
+        any_moment = moments;
+        counts = counts;
+        kept = λ never. absurd (cc never);
+        generation = generation;
+        version = version;
+        spent = (λ never. absurd (cc never), λ never. absurd (cc (never, unspent)));
+        marks = (
+          λ never. absurd (cc (never, unspent, spent)),
+          λ never. absurd (⊎_elim (λ a. cc (a, unspent))
+              (λ b. cc b) never),
+        );
+        nothing = ⊎_elim (λ never. absurd (cc never)) (λ never. absurd (cc never));
+        faults = (λ never. cc never, λ never. cc never, λ never. cc never);
+        outside = outside;
+        cause = λ never. absurd (cc never);
+      }

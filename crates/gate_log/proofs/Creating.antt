@@ -1,16 +1,22 @@
 -- Making a store.
 use Rattle.std.proofs.Common.{◌≡◌, ℕ, ◌+◌, ◌<◌, ◌^◌, List, [], ◌∷◌, ◌++◌, length, length-append, Option, Some, None}
-use Rattle.std.proofs.Common.{false, sym, ◌∙◌, ap, subst, arith}
+use Rattle.std.proofs.Common.{false, sym, ◌∙◌, ap, subst, arith, ◌⊎◌, inl, inr, ⊎_elim, Ok}
 use Rattle.std.specs.Option.{IfSome}
 use Rattle.site_io.specs.Told.{BothTold}
 use Rattle.site_io.specs.Disk.{Images}
+use Rattle.site_io.specs.Outside.{OnlyLooks}
+use Rattle.site_io.specs.declared.site.Site.{Ghosts}
 use Rattle.site_io.specs.declared.slot.Slot.TheVariants.{A, B}
+use Rattle.gate_log.specs.Created.{HasBytes, IsBegun, IsCreated}
 use Rattle.gate_log.specs.Layout.{head, recorded, snapshot, snapshot_end, Fresh, HasRecords}
 use Rattle.gate_log.specs.Moments.{LastsWhole}
 use Rattle.gate_log.proofs.Images.{held_whole, rests_has}
 use Rattle.gate_log.specs.Steps.{Puts}
 use Rattle.gate_log.specs.Store.{IsClosed, HasBodies, Rests}
+use Rattle.gate_log.specs.declared.log.Log.{Log}
 use Rattle.gate_log.specs.declared.version.Version.TheVariants.{Two}
+use Rattle.gate_log.proofs.Opening.{and_told}
+use Rattle.gate_log.proofs.Outside.{looks_touch, touches_on}
 use Rattle.gate_log.proofs.Slots.{put_closed, put_fresh, put_opened}
 
 abbrev pub BothClosed : Images → Type 0
@@ -67,3 +73,32 @@ length_snapshot generation body = omega (
   length-append (head 2 generation ++ 1 ∷ recorded body) (0 ∷ []),
   length-append (head 2 generation) (1 ∷ recorded body),
 )
+
+-- ---- whole calls
+
+no_bytes : (held : Images) → (length held.a ≡ 0) × (length held.b ≡ 0) → HasBytes held → ⊥
+no_bytes held empty (inl lt) = omega (arith, empty.0, lt)
+no_bytes held empty (inr lt) = omega (arith, empty.1, lt)
+
+module _ {S : Type 0} (s : Ghosts S) where
+  -- the store was made
+  pub done_create : {E : Type 0} (x y z : S) (body : List ℕ) (log : Log) → OnlyLooks s x y
+      → IfSome (s.reads x) (λ held. (length held.a ≡ 0) × (length held.b ≡ 0))
+      → IsBegun {E = E} s y z body (Ok log) → IsCreated s x z body (Ok log)
+  done_create x y z body log looks empty begun = record {
+    created = begun.created;
+    stands = begun.stands;
+    every_crash = begun.every_crash;
+    generation = begun.generation;
+    counts = begun.counts;
+    unspent = begun.unspent;
+    empty = empty;
+    taken = λ never. absurd cc;
+    taken_only = and_told (λ held. (length held.a ≡ 0) × (length held.b ≡ 0))
+        (λ held. (length held.a ≡ 0) × (length held.b ≡ 0)) (λ held. HasBytes held → _ ⊎ _) (s.reads x) empty empty
+        (λ held none again bytes. absurd (no_bytes held none bytes));
+    unwritten = ⊎_elim (λ never. absurd cc) (λ never. absurd cc);
+    faults = (λ never. cc never, λ never. cc never, λ never. cc never);
+    outside = touches_on s x y z (looks_touch s x y looks) begun.outside;
+    cause = λ never. absurd cc;
+  }

@@ -17,3 +17,4 @@ pub mod Opening
 pub mod Outside
 pub mod Single
 pub mod Refusing
+pub mod Resuming

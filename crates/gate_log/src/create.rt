@@ -1,16 +1,13 @@
 //! Making a store.
 
-ghost use Rattle.std.specs.Prelude.{◌≡◌, ◌⊎◌, ◌<◌, ◌≤◌, ◌^◌, ◌∷◌, [], ℕ, List, false, length, drop, IfSome, IfOk};
-ghost use Rattle.std.specs.Prelude.{OnOk, IsErr, IsErrOf, MatchBool};
+ghost use Rattle.std.specs.Prelude.{◌≡◌, ◌⊎◌, ◌<◌, ◌≤◌, ◌^◌, ◌∷◌, [], false, length, drop, IfSome, IfOk};
+ghost use Rattle.std.specs.Prelude.{OnOk, IsErr, MatchBool};
 ghost use Rattle.site_io.specs.Counts.{HasRisen};
-ghost use Rattle.site_io.specs.Told.{StaysTold};
-ghost use Rattle.site_io.specs.Disk.{LeavesSame};
 ghost use Rattle.site_io.specs.declared.slot.Slot.TheVariants.{A};
 ghost use Rattle.gate_log.specs.Layout.{snapshot, snapshot_end};
 ghost use Rattle.gate_log.specs.Moments.{LastsWhole};
-ghost use Rattle.gate_log.specs.Faults.{OnlyTaken};
 ghost use Rattle.site_io.specs.Outside.{OnlyLooks, TouchesSlots};
-ghost use Rattle.gate_log.specs.Store.{IsClosed, HasBodies, Rests};
+ghost use Rattle.gate_log.specs.Store.{IsClosed, Rests};
 ghost use Rattle.gate_log.specs.declared.version.Version.TheVariants.{Two};
 
 use crate::layout::snapshot_end;
@@ -50,7 +47,7 @@ pub(crate) fn fill<S: Site>(site: &mut S, body: &[u8], bytes: &[u8]) -> Result<(
 }
 
 impl Log {
-    ghost use Rattle.gate_log.specs.StoreOfLog.{RestsIn, StandsIn};
+    ghost use Rattle.gate_log.specs.Created.{IsBegun, IsCreated};
 
     /// Makes a store of one body in two empty slots. At Ok each crash from then on leaves a store that has that
     /// body alone. A crash before that may leave anything in the slots.
@@ -60,31 +57,7 @@ impl Log {
     /// `Taken` where a slot isn't empty, and `Memory` where there is no memory, before anything is written. `Site`
     /// where the site failed, which its count tells.
     pub fn create<S: Site>(alloc: Global, site: &mut S, body: &[u8]) -> Result<Log, LogFault>
-        ensures created { IfOk result
-            (λ log. IfSome (S.reads site.new) (λ held. RestsIn log held (body.now ∷ []))) }
-        ensures stands { IfOk result
-            (λ log. StandsIn log (S.reads site.new) (S.now site.new) (S.left site.new)) }
-        ensures every_crash { OnOk result (IfSome (S.reads site.new) (λ held.
-            (images : _) (out : List ℕ) → S.left site.new (S.now site.new) images out
-            → HasBodies images (body.now ∷ []))) }
-        ensures generation { IfOk result (λ log. (log.generation ≡ 1) × (log.version ≡ Two)) }
-        ensures counts { IfOk result
-            (λ log. (log.first ≡ Some (length body.now)) × (log.behind ≡ 0)) }
-        ensures unspent { IfOk result (λ log. log.spent ≡ false) }
-        ensures empty { OnOk result
-            (IfSome (S.reads site.old) (λ held. (length held.a ≡ 0) × (length held.b ≡ 0))) }
-        ensures taken { IsErrOf result LogFault.Taken → IfSome (S.reads site.old)
-            (λ held. (0 < length held.a) ⊎ (0 < length held.b)) }
-        ensures taken_only { IfSome (S.reads site.old)
-            (λ held. (0 < length held.a) ⊎ (0 < length held.b)
-            → IsErrOf result LogFault.Taken ⊎ IsErrOf result LogFault.Site) }
-        ensures unwritten { (IsErrOf result LogFault.Taken ⊎ IsErrOf result LogFault.Memory)
-            → StaysTold (S.reads site.old) (S.reads site.new) × LeavesSame (S.now site.old)
-            (S.left site.old) (S.left site.new) }
-        ensures faults { OnlyTaken result }
-        ensures outside { TouchesSlots S.Site site.old site.new }
-        ensures cause { IsErrOf result LogFault.Site → HasRisen (S.slot_faults site.old)
-            (S.slot_faults site.new) }
+        ensures { IsCreated S.Site site.old site.new body.now result }
     {
         if !are_empty(site)? {
             return Err(LogFault::Taken);
@@ -100,32 +73,7 @@ impl Log {
     /// Those of [`create`](Log::create).
     pub fn create_in<S: Site>(alloc: Global, site: &mut S, bytes: Vec<u8>) -> Result<Log, LogFault>
         requires { 22 ≤ length bytes.items }
-        ensures created { IfOk result
-            (λ log. IfSome (S.reads site.new)
-            (λ held. RestsIn log held (drop 22 bytes.items ∷ []))) }
-        ensures stands { IfOk result
-            (λ log. StandsIn log (S.reads site.new) (S.now site.new) (S.left site.new)) }
-        ensures every_crash { OnOk result (IfSome (S.reads site.new) (λ held.
-            (images : _) (out : List ℕ) → S.left site.new (S.now site.new) images out
-            → HasBodies images (drop 22 bytes.items ∷ []))) }
-        ensures generation { IfOk result (λ log. (log.generation ≡ 1) × (log.version ≡ Two)) }
-        ensures counts { IfOk result (λ log. (log.first ≡ Some (length (drop 22 bytes.items)))
-            × (log.behind ≡ 0)) }
-        ensures unspent { IfOk result (λ log. log.spent ≡ false) }
-        ensures empty { OnOk result
-            (IfSome (S.reads site.old) (λ held. (length held.a ≡ 0) × (length held.b ≡ 0))) }
-        ensures taken { IsErrOf result LogFault.Taken → IfSome (S.reads site.old)
-            (λ held. (0 < length held.a) ⊎ (0 < length held.b)) }
-        ensures taken_only { IfSome (S.reads site.old)
-            (λ held. (0 < length held.a) ⊎ (0 < length held.b)
-            → IsErrOf result LogFault.Taken ⊎ IsErrOf result LogFault.Site) }
-        ensures unwritten { (IsErrOf result LogFault.Taken ⊎ IsErrOf result LogFault.Memory)
-            → StaysTold (S.reads site.old) (S.reads site.new) × LeavesSame (S.now site.old)
-            (S.left site.old) (S.left site.new) }
-        ensures faults { OnlyTaken result }
-        ensures outside { TouchesSlots S.Site site.old site.new }
-        ensures cause { IsErrOf result LogFault.Site → HasRisen (S.slot_faults site.old)
-            (S.slot_faults site.new) }
+        ensures { IsCreated S.Site site.old site.new (drop 22 bytes.items) result }
     {
         if !are_empty(site)? {
             return Err(LogFault::Taken);
@@ -137,19 +85,7 @@ impl Log {
     // Makes a store in two slots, whatever they hold. The bytes are those of a slot with this body behind its gate.
     fn begin<S: Site>(alloc: Global, site: &mut S, body: &[u8], bytes: &[u8]) -> Result<Log, Failed>
         requires { bytes.now ≡ snapshot 1 body.now }
-        ensures created { IfOk result
-            (λ log. IfSome (S.reads site.new) (λ held. RestsIn log held (body.now ∷ []))) }
-        ensures stands { IfOk result
-            (λ log. StandsIn log (S.reads site.new) (S.now site.new) (S.left site.new)) }
-        ensures every_crash { OnOk result (IfSome (S.reads site.new) (λ held.
-            (images : _) (out : List ℕ) → S.left site.new (S.now site.new) images out
-            → HasBodies images (body.now ∷ []))) }
-        ensures generation { IfOk result (λ log. (log.generation ≡ 1) × (log.version ≡ Two)) }
-        ensures counts { IfOk result
-            (λ log. (log.first ≡ Some (length body.now)) × (log.behind ≡ 0)) }
-        ensures unspent { IfOk result (λ log. log.spent ≡ false) }
-        ensures outside { TouchesSlots S.Site site.old site.new }
-        ensures cause { IsErr result → HasRisen (S.slot_faults site.old) (S.slot_faults site.new) }
+        ensures { IsBegun S.Site site.old site.new body.now result }
     {
         clear(site)?;
         fill(site, body, bytes)?;

@@ -1,8 +1,8 @@
 //! A log of bodies in two slots.
 
-ghost use Rattle.std.specs.Prelude.{◌≡◌, ◌⊎◌, ◌^◌, ◌↔◌, ◌++◌, ◌∷◌, [], List, ℕ, ◌+◌, ◌<◌, length, true, false, ◌≤◌};
+ghost use Rattle.std.specs.Prelude.{◌≡◌, ◌⊎◌, ◌^◌, ◌++◌, ◌∷◌, [], List, ℕ, ◌+◌, ◌<◌, length, true, false, ◌≤◌};
 ghost use Rattle.std.specs.Prelude.{drop};
-ghost use Rattle.std.specs.Prelude.{IfSome, OnOk, IsErr, IsErrOf, unwrap_or};
+ghost use Rattle.std.specs.Prelude.{IfSome, OnOk, IsErr, unwrap_or};
 ghost use Rattle.gate_log.specs.Counts.{Counts, first_with, behind_with};
 ghost use Rattle.gate_log.specs.declared.version.Version.TheVariants.{One, Two};
 
@@ -40,11 +40,10 @@ pub struct Log {
 impl Log {
     ghost use Rattle.site_io.specs.Counts.{HasRisen};
     ghost use Rattle.site_io.specs.Told.{BothTold};
+    ghost use Rattle.gate_log.specs.Changed.{IsAppended, IsRewritten, IsSynced};
     ghost use Rattle.gate_log.specs.Moments.{Leaves, LastsWhole, Began};
-    ghost use Rattle.site_io.specs.Disk.{Images};
-    ghost use Rattle.site_io.specs.Outside.{OnlyLooks, TouchesSlots};
-    ghost use Rattle.gate_log.specs.Faults.{OnlySite, OnlySpent};
-    ghost use Rattle.gate_log.specs.Store.{number_of, HasBodies, OldOrNew, OldOrWhole};
+    ghost use Rattle.site_io.specs.Outside.{TouchesSlots};
+    ghost use Rattle.gate_log.specs.Store.{number_of, OldOrNew, OldOrWhole};
     ghost use Rattle.gate_log.specs.StoreOfLog.{RestsIn, StandsIn};
     ghost use Rattle.gate_log.specs.Layout.{recorded, snapshot};
 
@@ -94,23 +93,7 @@ impl Log {
     /// before.
     pub fn sync<S: Site>(&mut self, site: &mut S) -> Result<(), LogFault>
         requires { StandsIn self.old (S.reads site.old) (S.now site.old) (S.left site.old) }
-        ensures stands { StandsIn self.new (S.reads site.new) (S.now site.new) (S.left site.new) }
-        ensures lasts { OnOk result
-            (LastsWhole (S.reads site.new) (S.now site.new) (S.left site.new)) }
-        ensures bodies { (held : Images) (bodies : List (List ℕ)) → RestsIn self.old held bodies
-            → RestsIn self.new held bodies }
-        ensures counts { (self.new.first ≡ self.old.first) × (self.new.behind ≡ self.old.behind) }
-        ensures generation { self.new.generation ≡ self.old.generation }
-        ensures version { self.new.version ≡ self.old.version }
-        ensures spent { IsErrOf result LogFault.Spent ↔ self.old.spent ≡ true }
-        ensures marks { self.new.spent ≡ true ↔ (self.old.spent ≡ true)
-            ⊎ IsErrOf result LogFault.Site }
-        ensures nothing { IsErrOf result LogFault.Spent → (self.new ≡ self.old)
-            × (site.new ≡ site.old) }
-        ensures faults { OnlySite result }
-        ensures outside { OnlyLooks S.Site site.old site.new }
-        ensures cause { IsErrOf result LogFault.Site → HasRisen (S.slot_faults site.old)
-            (S.slot_faults site.new) }
+        ensures { IsSynced S.Site site.old site.new self.old self.new result }
     {
         if self.spent {
             return Err(LogFault::Spent);
@@ -132,35 +115,7 @@ impl Log {
     /// there is no memory, before anything is written.
     pub fn append<S: Site>(&mut self, site: &mut S, body: &[u8]) -> Result<(), LogFault>
         requires { StandsIn self.old (S.reads site.old) (S.now site.old) (S.left site.old) }
-        ensures stands { StandsIn self.new (S.reads site.new) (S.now site.new) (S.left site.new) }
-        ensures added { OnOk result (BothTold (S.reads site.old) (S.reads site.new) (λ before after.
-            (bodies : List (List ℕ)) → RestsIn self.old before bodies
-            → RestsIn self.new after (bodies ++ body.now ∷ []))) }
-        ensures every_crash { OnOk result
-            (IfSome (S.reads site.old)
-            (λ held. (bodies : List (List ℕ)) → RestsIn self.old held bodies
-            → (images : _) (out : List ℕ) → S.left site.new (S.now site.new) images out
-            → HasBodies images (bodies ++ body.now ∷ []))) }
-        ensures any_moment { IfSome (S.reads site.old)
-            (λ held. (bodies : List (List ℕ)) → RestsIn self.old held bodies
-            → Leaves (S.now site.old) (S.now site.new) (S.left site.old) (S.left site.new)
-            (λ images. Began (S.now site.old) (S.left site.old) images ⊎ OldOrNew bodies body.now
-            images)) }
-        ensures counts { OnOk result ((self.new.first ≡ first_with self.old.first (length body.now))
-            × (self.new.behind ≡ behind_with self.old.first self.old.behind (length body.now))) }
-        ensures kept { IsErr result → (self.new.first ≡ self.old.first)
-            × (self.new.behind ≡ self.old.behind) }
-        ensures generation { self.new.generation ≡ self.old.generation }
-        ensures version { self.new.version ≡ self.old.version }
-        ensures spent { IsErrOf result LogFault.Spent ↔ self.old.spent ≡ true }
-        ensures marks { self.new.spent ≡ true ↔ (self.old.spent ≡ true)
-            ⊎ IsErrOf result LogFault.Site }
-        ensures nothing { (IsErrOf result LogFault.Spent ⊎ IsErrOf result LogFault.Memory)
-            → (self.new ≡ self.old) × (site.new ≡ site.old) }
-        ensures faults { OnlySpent result }
-        ensures outside { TouchesSlots S.Site site.old site.new }
-        ensures cause { IsErrOf result LogFault.Site → HasRisen (S.slot_faults site.old)
-            (S.slot_faults site.new) }
+        ensures { IsAppended S.Site site.old site.new self.old self.new body.now result }
     {
         if self.spent {
             return Err(LogFault::Spent);
@@ -220,36 +175,7 @@ impl Log {
     pub fn rewrite<S: Site>(&mut self, site: &mut S, body: &[u8]) -> Result<(), LogFault>
         requires stands { StandsIn self.old (S.reads site.old) (S.now site.old) (S.left site.old) }
         requires below { self.old.generation + 1 < 2 ^ 64 }
-        ensures stands { StandsIn self.new (S.reads site.new) (S.now site.new) (S.left site.new) }
-        ensures rewritten { OnOk result
-            (BothTold (S.reads site.old) (S.reads site.new) (λ before after.
-            (bodies : List (List ℕ)) → RestsIn self.old before bodies
-            → RestsIn self.new after (body.now ∷ []))) }
-        ensures every_crash { OnOk result
-            (IfSome (S.reads site.old)
-            (λ held. (bodies : List (List ℕ)) → RestsIn self.old held bodies
-            → (images : _) (out : List ℕ) → S.left site.new (S.now site.new) images out
-            → HasBodies images (body.now ∷ []))) }
-        ensures any_moment { IfSome (S.reads site.old)
-            (λ held. (bodies : List (List ℕ)) → RestsIn self.old held bodies
-            → Leaves (S.now site.old) (S.now site.new) (S.left site.old) (S.left site.new)
-            (λ images. Began (S.now site.old) (S.left site.old) images ⊎ OldOrWhole bodies body.now
-            images)) }
-        ensures counts { OnOk result
-            ((self.new.first ≡ Some (length body.now)) × (self.new.behind ≡ 0)) }
-        ensures kept { IsErr result → (self.new.first ≡ self.old.first)
-            × (self.new.behind ≡ self.old.behind) }
-        ensures generation { OnOk result (self.new.generation ≡ self.old.generation + 1) }
-        ensures version { OnOk result (self.new.version ≡ Two) }
-        ensures spent { IsErrOf result LogFault.Spent ↔ self.old.spent ≡ true }
-        ensures marks { self.new.spent ≡ true ↔ (self.old.spent ≡ true)
-            ⊎ IsErrOf result LogFault.Site }
-        ensures nothing { (IsErrOf result LogFault.Spent ⊎ IsErrOf result LogFault.Memory)
-            → (self.new ≡ self.old) × (site.new ≡ site.old) }
-        ensures faults { OnlySpent result }
-        ensures outside { TouchesSlots S.Site site.old site.new }
-        ensures cause { IsErrOf result LogFault.Site → HasRisen (S.slot_faults site.old)
-            (S.slot_faults site.new) }
+        ensures { IsRewritten S.Site site.old site.new self.old self.new body.now result }
     {
         if self.spent {
             return Err(LogFault::Spent);
@@ -271,36 +197,8 @@ impl Log {
         requires room { 22 ≤ length bytes.items }
         requires stands { StandsIn self.old (S.reads site.old) (S.now site.old) (S.left site.old) }
         requires below { self.old.generation + 1 < 2 ^ 64 }
-        ensures stands { StandsIn self.new (S.reads site.new) (S.now site.new) (S.left site.new) }
-        ensures rewritten { OnOk result
-            (BothTold (S.reads site.old) (S.reads site.new) (λ before after.
-            (bodies : List (List ℕ)) → RestsIn self.old before bodies
-            → RestsIn self.new after (drop 22 bytes.items ∷ []))) }
-        ensures every_crash { OnOk result
-            (IfSome (S.reads site.old)
-            (λ held. (bodies : List (List ℕ)) → RestsIn self.old held bodies
-            → (images : _) (out : List ℕ) → S.left site.new (S.now site.new) images out
-            → HasBodies images (drop 22 bytes.items ∷ []))) }
-        ensures any_moment { IfSome (S.reads site.old)
-            (λ held. (bodies : List (List ℕ)) → RestsIn self.old held bodies
-            → Leaves (S.now site.old) (S.now site.new) (S.left site.old) (S.left site.new)
-            (λ images. Began (S.now site.old) (S.left site.old) images
-            ⊎ OldOrWhole bodies (drop 22 bytes.items) images)) }
-        ensures counts { OnOk result ((self.new.first ≡ Some (length (drop 22 bytes.items)))
-            × (self.new.behind ≡ 0)) }
-        ensures kept { IsErr result → (self.new.first ≡ self.old.first)
-            × (self.new.behind ≡ self.old.behind) }
-        ensures generation { OnOk result (self.new.generation ≡ self.old.generation + 1) }
-        ensures version { OnOk result (self.new.version ≡ Two) }
-        ensures spent { IsErrOf result LogFault.Spent ↔ self.old.spent ≡ true }
-        ensures marks { self.new.spent ≡ true ↔ (self.old.spent ≡ true)
-            ⊎ IsErrOf result LogFault.Site }
-        ensures nothing { (IsErrOf result LogFault.Spent ⊎ IsErrOf result LogFault.Memory)
-            → (self.new ≡ self.old) × (site.new ≡ site.old) }
-        ensures faults { OnlySpent result }
-        ensures outside { TouchesSlots S.Site site.old site.new }
-        ensures cause { IsErrOf result LogFault.Site → HasRisen (S.slot_faults site.old)
-            (S.slot_faults site.new) }
+        ensures { IsRewritten S.Site site.old site.new self.old self.new (drop 22 bytes.items)
+            result }
     {
         if self.spent {
             return Err(LogFault::Spent);

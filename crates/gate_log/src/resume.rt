@@ -1,18 +1,16 @@
 //! Opening a store.
 
-ghost use Rattle.std.specs.Prelude.{◌≡◌, ◌≤◌, ◌<◌, ◌^◌, ◌⊎◌, ℕ, List, [], false, true, length, drop, IfSome};
-ghost use Rattle.std.specs.Prelude.{IfOk, OnOk, IsErr, IsErrOf, MatchOption, MatchBool};
-ghost use Rattle.site_io.specs.Counts.{HasRisen};
+ghost use Rattle.std.specs.Prelude.{◌≡◌, ◌≤◌, ◌<◌, ◌^◌, ◌⊎◌, ℕ, List, false, true, length, drop};
+ghost use Rattle.std.specs.Prelude.{IfOk, IsErr, IsErrOf, MatchOption, MatchBool};
 ghost use Rattle.site_io.specs.Disk.{Images, at_slot, images_of};
 ghost use Rattle.site_io.specs.declared.slot.Slot.TheVariants.{A, B};
 ghost use Rattle.gate_log.specs.Counts.{Counts};
-ghost use Rattle.gate_log.specs.Faults.{OnlyBroken, OnlyNoStore};
+ghost use Rattle.gate_log.specs.Faults.{OnlyBroken};
 ghost use Rattle.gate_log.specs.Layout.{opened, HasRecords};
-ghost use Rattle.site_io.specs.Outside.{OnlyLooks};
-ghost use Rattle.gate_log.specs.Reading.{bodies_of, AreHeads, IsNewer, IsOpened, IsSlotOfTwo};
-ghost use Rattle.gate_log.specs.Store.{other, number_of, HasBodies, HasBodiesTwo, IsBrokenStore, IsClosed};
+ghost use Rattle.gate_log.specs.Reading.{bodies_of, AreHeads, IsLive, IsNewer, IsOpened, IsSlotOfTwo};
+ghost use Rattle.gate_log.specs.Resumed.{IsResumed};
+ghost use Rattle.gate_log.specs.Store.{other, number_of, HasBodiesTwo, IsClosed};
 ghost use Rattle.gate_log.specs.Store.{IsEmptyStore, IsOne, IsOpen, OtherRests};
-ghost use Rattle.gate_log.specs.StoreOfLog.{RestsIn, StandsIn};
 ghost use Rattle.gate_log.specs.declared.version.Version.TheVariants.{One, Two};
 
 use crate::layout::RECORDS;
@@ -32,31 +30,7 @@ impl Log {
     /// `Empty` where neither slot is open, and `Broken` where one is open and the slots represent no bodies. `Site`
     /// where the site failed, which its count tells, and `Memory` where there is no memory.
     pub fn resume<S: Site>(alloc: Global, site: &mut S) -> Result<(Log, Vec<Vec<u8>>), LogFault>
-        ensures bodies { IfOk result
-            (λ found. IfSome (S.reads site.old)
-            (λ held. RestsIn found.0 held (bodies_of found.1.items))) }
-        ensures store { IfOk result
-            (λ found. IfSome (S.reads site.old)
-            (λ held. HasBodies held (bodies_of found.1.items))) }
-        ensures only { IfOk result (λ found. IfSome (S.reads site.old)
-            (λ held. (others : List (List ℕ)) → HasBodies held others → others
-            ≡ bodies_of found.1.items)) }
-        ensures counts { IfOk result
-            (λ found. Counts found.0.first found.0.behind (bodies_of found.1.items)) }
-        ensures empty { IsErrOf result LogFault.Empty → IfSome (S.reads site.old) IsEmptyStore }
-        ensures broken { IsErrOf result LogFault.Broken → IfSome (S.reads site.old) IsBrokenStore }
-        ensures complete { IfSome (S.reads site.old)
-            (λ held. (bodies : List (List ℕ)) → HasBodies held bodies
-            → ¬ IsErrOf result LogFault.Empty × ¬ IsErrOf result LogFault.Broken) }
-        ensures complete_empty { IfSome (S.reads site.old)
-            (λ held. IsEmptyStore held → IsErr result × ¬ IsErrOf result LogFault.Broken) }
-        ensures stands { IfOk result
-            (λ found. StandsIn found.0 (S.reads site.new) (S.now site.new) (S.left site.new)) }
-        ensures unspent { IfOk result (λ found. found.0.spent ≡ false) }
-        ensures faults { OnlyNoStore result }
-        ensures outside { OnlyLooks S.Site site.old site.new }
-        ensures cause { IsErrOf result LogFault.Site → HasRisen (S.slot_faults site.old)
-            (S.slot_faults site.new) }
+        ensures { IsResumed S.Site site.old site.new result (λ copies. bodies_of copies.items) }
     {
         let mut room = Vec::new(alloc);
         let (log, bodies) = Log::resume_in(alloc, site, &mut room)?;
@@ -76,31 +50,7 @@ impl Log {
         site: &mut S,
         room: &'a mut Vec<u8>,
     ) -> Result<(Log, Vec<Part<'a>>), LogFault>
-        ensures bodies { IfOk result
-            (λ found. IfSome (S.reads site.old)
-            (λ held. RestsIn found.0 held found.1.items)) }
-        ensures store { IfOk result
-            (λ found. IfSome (S.reads site.old)
-            (λ held. HasBodies held found.1.items)) }
-        ensures only { IfOk result (λ found. IfSome (S.reads site.old)
-            (λ held. (others : List (List ℕ)) → HasBodies held others → others
-            ≡ found.1.items)) }
-        ensures counts { IfOk result
-            (λ found. Counts found.0.first found.0.behind found.1.items) }
-        ensures empty { IsErrOf result LogFault.Empty → IfSome (S.reads site.old) IsEmptyStore }
-        ensures broken { IsErrOf result LogFault.Broken → IfSome (S.reads site.old) IsBrokenStore }
-        ensures complete { IfSome (S.reads site.old)
-            (λ held. (bodies : List (List ℕ)) → HasBodies held bodies
-            → ¬ IsErrOf result LogFault.Empty × ¬ IsErrOf result LogFault.Broken) }
-        ensures complete_empty { IfSome (S.reads site.old)
-            (λ held. IsEmptyStore held → IsErr result × ¬ IsErrOf result LogFault.Broken) }
-        ensures stands { IfOk result
-            (λ found. StandsIn found.0 (S.reads site.new) (S.now site.new) (S.left site.new)) }
-        ensures unspent { IfOk result (λ found. found.0.spent ≡ false) }
-        ensures faults { OnlyNoStore result }
-        ensures outside { OnlyLooks S.Site site.old site.new }
-        ensures cause { IsErrOf result LogFault.Site → HasRisen (S.slot_faults site.old)
-            (S.slot_faults site.new) }
+        ensures { IsResumed S.Site site.old site.new result (λ parts. parts.items) }
     {
         let mut a = [0u8; RECORDS];
         let in_a = read_full(site, Slot::A, 0, &mut a)?;
@@ -254,22 +204,7 @@ fn open<'a, S: Site>(
 ) -> Result<(Log, Vec<Part<'a>>), LogFault>
     requires above { 0 < generation }
     requires first { version ≡ One → generation ≡ 1 }
-    ensures broken { IsErrOf result LogFault.Broken → IfSome (S.reads site.old)
-        (λ held. (end : ℕ) (bodies : List (List ℕ)) → ¬ HasRecords (at_slot live held)
-        (number_of version) generation end bodies) }
-    ensures records { IfOk result (λ found. IfSome (S.reads site.old)
-        (λ held. HasRecords (at_slot live held) (number_of version) generation found.0.end
-        found.1.items)) }
-    ensures counts { IfOk result (λ found. Counts found.0.first found.0.behind
-        found.1.items) }
-    ensures log { IfOk result (λ found. (found.0.version ≡ version) × (found.0.live ≡ live)
-        × (found.0.generation ≡ generation) × (found.0.other_open ≡ other_open)) }
-    ensures unsettled { IfOk result (λ found. (found.0.settled ≡ false) × (found.0.spent ≡ false)) }
-    ensures only { ¬ IsErrOf result LogFault.Taken × ¬ IsErrOf result LogFault.Empty
-        × ¬ IsErrOf result LogFault.Spent }
-    ensures outside { OnlyLooks S.Site site.old site.new }
-    ensures cause { IsErrOf result LogFault.Site → HasRisen (S.slot_faults site.old)
-        (S.slot_faults site.new) }
+    ensures { IsLive S.Site site.old site.new version live generation other_open result }
 {
     let bytes = read_slot(alloc, site, live)?;
     *room = bytes;

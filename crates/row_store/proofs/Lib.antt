@@ -5,4 +5,7 @@ pub mod Lists
 pub mod Stores
 pub mod Opening
 pub mod Sizes
+pub mod Syncing
 pub mod AsMade
+pub mod Calls
+pub mod Creating

@@ -1,4 +1,7 @@
+pub mod Changed
+pub mod Created
 pub mod Faults
+pub mod Resumed
 pub mod Row
 pub mod Rows
 pub mod Table

@@ -1,18 +1,7 @@
 //! A table of rows in a journal.
 
-ghost use Rattle.std.specs.Prelude.{◌≡◌, ◌⊎◌, ◌↔◌, ◌+◌, ◌^◌, ◌<◌, ℕ, List, true, false, length, IsTrue, IfSome, IfOk};
-ghost use Rattle.std.specs.Prelude.{OnOk, IsErr, IsErrOf};
-ghost use Rattle.site_io.specs.Counts.{HasRisen};
-ghost use Rattle.site_io.specs.Outside.{OnlyLooks, TouchesSlots};
-ghost use Rattle.site_io.specs.Told.{BothTold, StaysTold};
-ghost use Rattle.site_io.specs.Disk.{Images, LeavesSame};
-ghost use Rattle.gate_log.specs.Counts.{Counts, first_with, behind_with};
-ghost use Rattle.gate_log.specs.Moments.{Leaves, LastsWhole, Began};
-ghost use Rattle.gate_log.specs.Store.{HasBodies, IsEmptyStore};
-ghost use Rattle.gate_log.specs.declared.version.Version.TheVariants.{Two};
-ghost use Rattle.row_store.specs.Faults.{OnlyTaken, OnlySpent, OnlySite, OnlyNoStore};
-ghost use Rattle.row_store.specs.Row.{batch_size};
-ghost use Rattle.row_store.specs.Table.{Table, SameTable, table_of, with_rows, AreListed};
+ghost use Rattle.std.specs.Prelude.{◌≡◌, ◌↔◌, ◌+◌, ◌^◌, ◌<◌, IsTrue, IfSome};
+ghost use Rattle.row_store.specs.Table.{Table, SameTable, table_of};
 
 use crate::fault::StoreFault;
 use crate::row::{Row, RowIn};
@@ -37,8 +26,10 @@ pub struct Store {
 }
 
 impl Store {
-    ghost use Rattle.row_store.specs.Rows.{HasTable, HoldsTable, StandsIn, IsBrokenTable, OldOrNew, OldOrWhole};
-    ghost use Rattle.row_store.specs.Rows.{EndsWith, WantsSnapshot};
+    ghost use Rattle.row_store.specs.Changed.{IsCommitted, IsReplaced, IsSnapshot, IsSynced};
+    ghost use Rattle.row_store.specs.Created.{IsCreated};
+    ghost use Rattle.row_store.specs.Resumed.{IsResumed};
+    ghost use Rattle.row_store.specs.Rows.{HoldsTable, StandsIn, WantsSnapshot};
 
     /// The journal, which tells its version, its generation, and how long its bodies are.
     pub fn log(&self) -> &Log
@@ -55,30 +46,7 @@ impl Store {
     /// `Taken` where a slot isn't empty, and `Memory` where there is no memory, before anything is written. `Site`
     /// where the site failed, which its count tells.
     pub fn create<S: Site>(alloc: Global, site: &mut S, rows: &[Row]) -> Result<Store, StoreFault>
-        ensures created { IfOk result
-            (λ store. IfSome (S.reads site.new)
-            (λ held. HoldsTable store held (table_of rows.now))) }
-        ensures stands { IfOk result
-            (λ store. StandsIn store (S.reads site.new) (S.now site.new) (S.left site.new)) }
-        ensures every_crash { OnOk result (IfSome (S.reads site.new) (λ held.
-            (images : Images) (out : List ℕ) → S.left site.new (S.now site.new) images out
-            → HasTable images (table_of rows.now))) }
-        ensures generation { IfOk result
-            (λ store. (store.log.generation ≡ 1) × (store.log.version ≡ Two)) }
-        ensures counts { IfOk result (λ store. (store.log.first ≡ Some (batch_size rows.now))
-            × (store.log.behind ≡ 0)) }
-        ensures unspent { IfOk result (λ store. store.log.spent ≡ false) }
-        ensures empty { OnOk result
-            (IfSome (S.reads site.old) (λ held. (length held.a ≡ 0) × (length held.b ≡ 0))) }
-        ensures taken { IsErrOf result StoreFault.Taken → IfSome (S.reads site.old)
-            (λ held. (0 < length held.a) ⊎ (0 < length held.b)) }
-        ensures unwritten { (IsErrOf result StoreFault.Taken ⊎ IsErrOf result StoreFault.Memory)
-            → StaysTold (S.reads site.old) (S.reads site.new) × LeavesSame (S.now site.old)
-            (S.left site.old) (S.left site.new) }
-        ensures faults { OnlyTaken result }
-        ensures outside { TouchesSlots S.Site site.old site.new }
-        ensures cause { IsErrOf result StoreFault.Site → HasRisen (S.slot_faults site.old)
-            (S.slot_faults site.new) }
+        ensures { IsCreated S.Site site.old site.new rows.now result }
     {
         let rows = written(alloc, rows)?;
         Store::create_of(alloc, site, rows)
@@ -94,29 +62,7 @@ impl Store {
         site: &mut S,
         rows: WrittenRows,
     ) -> Result<Store, StoreFault>
-        ensures created { IfOk result
-            (λ store. IfSome (S.reads site.new) (λ held. HoldsTable store held (table_of rows))) }
-        ensures stands { IfOk result
-            (λ store. StandsIn store (S.reads site.new) (S.now site.new) (S.left site.new)) }
-        ensures every_crash { OnOk result (IfSome (S.reads site.new) (λ held.
-            (images : Images) (out : List ℕ) → S.left site.new (S.now site.new) images out
-            → HasTable images (table_of rows))) }
-        ensures generation { IfOk result
-            (λ store. (store.log.generation ≡ 1) × (store.log.version ≡ Two)) }
-        ensures counts { IfOk result (λ store. (store.log.first ≡ Some (batch_size rows))
-            × (store.log.behind ≡ 0)) }
-        ensures unspent { IfOk result (λ store. store.log.spent ≡ false) }
-        ensures empty { OnOk result
-            (IfSome (S.reads site.old) (λ held. (length held.a ≡ 0) × (length held.b ≡ 0))) }
-        ensures taken { IsErrOf result StoreFault.Taken → IfSome (S.reads site.old)
-            (λ held. (0 < length held.a) ⊎ (0 < length held.b)) }
-        ensures unwritten { (IsErrOf result StoreFault.Taken ⊎ IsErrOf result StoreFault.Memory)
-            → StaysTold (S.reads site.old) (S.reads site.new) × LeavesSame (S.now site.old)
-            (S.left site.old) (S.left site.new) }
-        ensures faults { OnlyTaken result }
-        ensures outside { TouchesSlots S.Site site.old site.new }
-        ensures cause { IsErrOf result StoreFault.Site → HasRisen (S.slot_faults site.old)
-            (S.slot_faults site.new) }
+        ensures { IsCreated S.Site site.old site.new rows result }
     {
         let log = Log::create_in(alloc, site, rows.into_body())?;
         Ok(Store { alloc, log })
@@ -130,29 +76,7 @@ impl Store {
     /// one that is no batch. `Site` where the site failed, which its count tells, and `Memory` where there is no
     /// memory.
     pub fn resume<S: Site>(alloc: Global, site: &mut S) -> Result<(Store, Vec<Row>), StoreFault>
-        ensures rows { IfOk result (λ found. IfSome (S.reads site.old)
-            (λ held. HoldsTable found.0 held (table_of found.1.items))) }
-        ensures listed { IfOk result (λ found. AreListed found.1.items) }
-        ensures only { IfOk result (λ found. IfSome (S.reads site.old)
-            (λ held. (table : Table) → HasTable held table → SameTable (table_of found.1.items)
-            table)) }
-        ensures counts { IfOk result (λ found. IfSome (S.reads site.old)
-            (λ held. (bodies : List (List ℕ)) × HasBodies held bodies × Counts found.0.log.first
-            found.0.log.behind bodies)) }
-        ensures empty { IsErrOf result StoreFault.Empty → IfSome (S.reads site.old) IsEmptyStore }
-        ensures broken { IsErrOf result StoreFault.Broken → IfSome (S.reads site.old)
-            IsBrokenTable }
-        ensures complete { IfSome (S.reads site.old) (λ held. (table : Table) → HasTable held table
-            → ¬ IsErrOf result StoreFault.Empty × ¬ IsErrOf result StoreFault.Broken) }
-        ensures complete_empty { IfSome (S.reads site.old)
-            (λ held. IsEmptyStore held → IsErr result × ¬ IsErrOf result StoreFault.Broken) }
-        ensures stands { IfOk result
-            (λ found. StandsIn found.0 (S.reads site.new) (S.now site.new) (S.left site.new)) }
-        ensures unspent { IfOk result (λ found. found.0.log.spent ≡ false) }
-        ensures faults { OnlyNoStore result }
-        ensures outside { OnlyLooks S.Site site.old site.new }
-        ensures cause { IsErrOf result StoreFault.Site → HasRisen (S.slot_faults site.old)
-            (S.slot_faults site.new) }
+        ensures { IsResumed S.Site site.old site.new result }
     {
         let mut room = Vec::new(alloc);
         let (store, rows) = Store::resume_in(alloc, site, &mut room)?;
@@ -173,29 +97,7 @@ impl Store {
         site: &mut S,
         room: &'a mut Vec<u8>,
     ) -> Result<(Store, Vec<RowIn<'a>>), StoreFault>
-        ensures rows { IfOk result (λ found. IfSome (S.reads site.old)
-            (λ held. HoldsTable found.0 held (table_of found.1.items))) }
-        ensures listed { IfOk result (λ found. AreListed found.1.items) }
-        ensures only { IfOk result (λ found. IfSome (S.reads site.old)
-            (λ held. (table : Table) → HasTable held table → SameTable (table_of found.1.items)
-            table)) }
-        ensures counts { IfOk result (λ found. IfSome (S.reads site.old)
-            (λ held. (bodies : List (List ℕ)) × HasBodies held bodies × Counts found.0.log.first
-            found.0.log.behind bodies)) }
-        ensures empty { IsErrOf result StoreFault.Empty → IfSome (S.reads site.old) IsEmptyStore }
-        ensures broken { IsErrOf result StoreFault.Broken → IfSome (S.reads site.old)
-            IsBrokenTable }
-        ensures complete { IfSome (S.reads site.old) (λ held. (table : Table) → HasTable held table
-            → ¬ IsErrOf result StoreFault.Empty × ¬ IsErrOf result StoreFault.Broken) }
-        ensures complete_empty { IfSome (S.reads site.old)
-            (λ held. IsEmptyStore held → IsErr result × ¬ IsErrOf result StoreFault.Broken) }
-        ensures stands { IfOk result
-            (λ found. StandsIn found.0 (S.reads site.new) (S.now site.new) (S.left site.new)) }
-        ensures unspent { IfOk result (λ found. found.0.log.spent ≡ false) }
-        ensures faults { OnlyNoStore result }
-        ensures outside { OnlyLooks S.Site site.old site.new }
-        ensures cause { IsErrOf result StoreFault.Site → HasRisen (S.slot_faults site.old)
-            (S.slot_faults site.new) }
+        ensures { IsResumed S.Site site.old site.new result }
     {
         let (log, bodies) = Log::resume_in(alloc, site, room)?;
         let left = left_by(alloc, &bodies)?;
@@ -212,28 +114,7 @@ impl Store {
     /// leaves what it could leave before.
     pub fn sync<S: Site>(&mut self, site: &mut S) -> Result<(), StoreFault>
         requires { StandsIn self.old (S.reads site.old) (S.now site.old) (S.left site.old) }
-        ensures stands { StandsIn self.new (S.reads site.new) (S.now site.new) (S.left site.new) }
-        ensures lasts { OnOk result
-            (LastsWhole (S.reads site.new) (S.now site.new) (S.left site.new)) }
-        ensures every_crash { OnOk result
-            (IfSome (S.reads site.old) (λ held. (table : Table) → HoldsTable self.old held table
-            → (images : Images) (out : List ℕ) → S.left site.new (S.now site.new) images out
-            → HasTable images table)) }
-        ensures kept { (held : Images) (table : Table) → HoldsTable self.old held table
-            → HoldsTable self.new held table }
-        ensures counts_kept { (self.new.log.first ≡ self.old.log.first)
-            × (self.new.log.behind ≡ self.old.log.behind) }
-        ensures generation { self.new.log.generation ≡ self.old.log.generation }
-        ensures version { self.new.log.version ≡ self.old.log.version }
-        ensures spent { IsErrOf result StoreFault.Spent ↔ self.old.log.spent ≡ true }
-        ensures marks { self.new.log.spent ≡ true ↔ (self.old.log.spent ≡ true)
-            ⊎ IsErrOf result StoreFault.Site }
-        ensures nothing { IsErrOf result StoreFault.Spent → (self.new ≡ self.old)
-            × (site.new ≡ site.old) }
-        ensures faults { OnlySite result }
-        ensures outside { OnlyLooks S.Site site.old site.new }
-        ensures cause { IsErrOf result StoreFault.Site → HasRisen (S.slot_faults site.old)
-            (S.slot_faults site.new) }
+        ensures { IsSynced S.Site site.old site.new self.old self.new result }
     {
         Ok(self.log.sync(site)?)
     }
@@ -247,39 +128,7 @@ impl Store {
     /// before anything is written.
     pub fn commit<S: Site>(&mut self, site: &mut S, batch: &[Row]) -> Result<(), StoreFault>
         requires { StandsIn self.old (S.reads site.old) (S.now site.old) (S.left site.old) }
-        ensures stands { StandsIn self.new (S.reads site.new) (S.now site.new) (S.left site.new) }
-        ensures added { OnOk result (BothTold (S.reads site.old) (S.reads site.new) (λ before after.
-            (table : Table) → HoldsTable self.old before table → HoldsTable self.new after
-            (with_rows table batch.now))) }
-        ensures every_crash { OnOk result
-            (IfSome (S.reads site.old) (λ held. (table : Table) → HoldsTable self.old held table
-            → (images : Images) (out : List ℕ) → S.left site.new (S.now site.new) images out
-            → HasTable images (with_rows table batch.now))) }
-        ensures any_moment { IfSome (S.reads site.old)
-            (λ held. (table : Table) → HoldsTable self.old held table
-            → Leaves (S.now site.old) (S.now site.new) (S.left site.old) (S.left site.new)
-            (λ images. Began (S.now site.old) (S.left site.old) images ⊎ OldOrNew table batch.now
-            images)) }
-        ensures last { OnOk result (BothTold (S.reads site.old) (S.reads site.new) (λ before after.
-            (table : Table) → HoldsTable self.old before table → EndsWith self.new after
-            (batch_size batch.now))) }
-        ensures counts { OnOk result
-            ((self.new.log.first ≡ first_with self.old.log.first (batch_size batch.now))
-            × (self.new.log.behind ≡ behind_with self.old.log.first self.old.log.behind
-            (batch_size batch.now))) }
-        ensures counts_kept { IsErr result → (self.new.log.first ≡ self.old.log.first)
-            × (self.new.log.behind ≡ self.old.log.behind) }
-        ensures generation { self.new.log.generation ≡ self.old.log.generation }
-        ensures version { self.new.log.version ≡ self.old.log.version }
-        ensures spent { IsErrOf result StoreFault.Spent ↔ self.old.log.spent ≡ true }
-        ensures marks { self.new.log.spent ≡ true ↔ (self.old.log.spent ≡ true)
-            ⊎ IsErrOf result StoreFault.Site }
-        ensures nothing { (IsErrOf result StoreFault.Spent ⊎ IsErrOf result StoreFault.Memory)
-            → (self.new ≡ self.old) × (site.new ≡ site.old) }
-        ensures faults { OnlySpent result }
-        ensures outside { TouchesSlots S.Site site.old site.new }
-        ensures cause { IsErrOf result StoreFault.Site → HasRisen (S.slot_faults site.old)
-            (S.slot_faults site.new) }
+        ensures { IsCommitted S.Site site.old site.new self.old self.new batch.now result }
     {
         if self.log.is_spent() {
             return Err(StoreFault::Spent);
@@ -311,33 +160,7 @@ impl Store {
             (λ held. (table : Table) → HoldsTable self.old held table
             → SameTable (table_of rows.now) table) }
         requires below { self.old.log.generation + 1 < 2 ^ 64 }
-        ensures stands { StandsIn self.new (S.reads site.new) (S.now site.new) (S.left site.new) }
-        ensures kept { OnOk result (BothTold (S.reads site.old) (S.reads site.new) (λ before after.
-            (table : Table) → HoldsTable self.old before table → SameTable (table_of rows.now) table
-            → HoldsTable self.new after table)) }
-        ensures every_crash { OnOk result
-            (IfSome (S.reads site.old) (λ held. (table : Table) → HoldsTable self.old held table
-            → (images : Images) (out : List ℕ) → S.left site.new (S.now site.new) images out
-            → HasTable images table)) }
-        ensures any_moment { IfSome (S.reads site.old)
-            (λ held. (table : Table) → HoldsTable self.old held table
-            → Leaves (S.now site.old) (S.now site.new) (S.left site.old) (S.left site.new)
-            (λ images. Began (S.now site.old) (S.left site.old) images ⊎ HasTable images table)) }
-        ensures counts { OnOk result ((self.new.log.first ≡ Some (batch_size rows.now))
-            × (self.new.log.behind ≡ 0)) }
-        ensures counts_kept { IsErr result → (self.new.log.first ≡ self.old.log.first)
-            × (self.new.log.behind ≡ self.old.log.behind) }
-        ensures generation { OnOk result (self.new.log.generation ≡ self.old.log.generation + 1) }
-        ensures version { OnOk result (self.new.log.version ≡ Two) }
-        ensures spent { IsErrOf result StoreFault.Spent ↔ self.old.log.spent ≡ true }
-        ensures marks { self.new.log.spent ≡ true ↔ (self.old.log.spent ≡ true)
-            ⊎ IsErrOf result StoreFault.Site }
-        ensures nothing { (IsErrOf result StoreFault.Spent ⊎ IsErrOf result StoreFault.Memory)
-            → (self.new ≡ self.old) × (site.new ≡ site.old) }
-        ensures faults { OnlySpent result }
-        ensures outside { TouchesSlots S.Site site.old site.new }
-        ensures cause { IsErrOf result StoreFault.Site → HasRisen (S.slot_faults site.old)
-            (S.slot_faults site.new) }
+        ensures { IsSnapshot S.Site site.old site.new self.old self.new rows.now result }
     {
         if self.log.is_spent() {
             return Err(StoreFault::Spent);
@@ -360,35 +183,7 @@ impl Store {
     ) -> Result<(), StoreFault>
         requires stands { StandsIn self.old (S.reads site.old) (S.now site.old) (S.left site.old) }
         requires below { self.old.log.generation + 1 < 2 ^ 64 }
-        ensures stands { StandsIn self.new (S.reads site.new) (S.now site.new) (S.left site.new) }
-        ensures replaced { OnOk result
-            (BothTold (S.reads site.old) (S.reads site.new) (λ before after.
-            (table : Table) → HoldsTable self.old before table → HoldsTable self.new after
-            (table_of rows))) }
-        ensures every_crash { OnOk result
-            (IfSome (S.reads site.old) (λ held. (table : Table) → HoldsTable self.old held table
-            → (images : Images) (out : List ℕ) → S.left site.new (S.now site.new) images out
-            → HasTable images (table_of rows))) }
-        ensures any_moment { IfSome (S.reads site.old)
-            (λ held. (table : Table) → HoldsTable self.old held table
-            → Leaves (S.now site.old) (S.now site.new) (S.left site.old) (S.left site.new)
-            (λ images. Began (S.now site.old) (S.left site.old) images
-            ⊎ OldOrWhole table rows images)) }
-        ensures counts { OnOk result ((self.new.log.first ≡ Some (batch_size rows))
-            × (self.new.log.behind ≡ 0)) }
-        ensures counts_kept { IsErr result → (self.new.log.first ≡ self.old.log.first)
-            × (self.new.log.behind ≡ self.old.log.behind) }
-        ensures generation { OnOk result (self.new.log.generation ≡ self.old.log.generation + 1) }
-        ensures version { OnOk result (self.new.log.version ≡ Two) }
-        ensures spent { IsErrOf result StoreFault.Spent ↔ self.old.log.spent ≡ true }
-        ensures marks { self.new.log.spent ≡ true ↔ (self.old.log.spent ≡ true)
-            ⊎ IsErrOf result StoreFault.Site }
-        ensures nothing { (IsErrOf result StoreFault.Spent ⊎ IsErrOf result StoreFault.Memory)
-            → (self.new ≡ self.old) × (site.new ≡ site.old) }
-        ensures faults { OnlySpent result }
-        ensures outside { TouchesSlots S.Site site.old site.new }
-        ensures cause { IsErrOf result StoreFault.Site → HasRisen (S.slot_faults site.old)
-            (S.slot_faults site.new) }
+        ensures { IsReplaced S.Site site.old site.new self.old self.new rows result }
     {
         if self.log.is_spent() {
             return Err(StoreFault::Spent);

@@ -1,47 +1,28 @@
-use Rattle.std.proofs.Common.{◌∷◌, [], sym}
-use Rattle.gate_log.specs.Store.{OldOrWhole}
-use Rattle.gate_log.proofs.Calls.{nothing_done, every_crash, stands_after}
-use Rattle.gate_log.proofs.Outside.{touches_not}
+use Rattle.std.proofs.Common.{inl, inr, refl, sym, Err}
+use Rattle.std.proofs.lemmas.Result.{err_from_is_err_and}
+use Rattle.gate_log.specs.declared.fault.LogFault.TheVariants.{Spent}
 use Rattle.gate_log.proofs.Answered.{at_ok}
+use Rattle.gate_log.proofs.Calls.{not_rewritten, done_rewrite}
 use Rattle.gate_log.proofs.log.Log.rewrite.Goals as goal
 
-pub returns-then-self-clause-any_moment : goal.returns-then-self-clause-any_moment
-returns-then-self-clause-any_moment g c =
-    let s = g.S.Site in
-    let site = c.args.site.now in
-    nothing_done c.args.self.now (λ bodies. OldOrWhole bodies c.args.body.now) (s.reads site) (s.now site)
-    (s.left site) (λ t images out left. g.met.S.Site.left_until site t images out left)
-
-pub returns-in_err-bytes-clause-any_moment : goal.returns-in_err-bytes-clause-any_moment
-returns-in_err-bytes-clause-any_moment g c =
-    let s = g.S.Site in
-    let site = c.args.site.now in
-    nothing_done c.args.self.now (λ bodies. OldOrWhole bodies c.args.body.now) (s.reads site) (s.now site)
-    (s.left site) (λ t images out left. g.met.S.Site.left_until site t images out left)
-
-pub returns-clause-every_crash : goal.returns-clause-every_crash
-returns-clause-every_crash g c =
-    let s = g.S.Site in
-    let new = c.replace.new.site in
-    every_crash c.args.self.now c.replace.new.self (λ bodies. c.args.body.now ∷ []) (s.reads c.args.site.now)
-    (s.reads new) (s.now new) (s.left new)
-    (at_ok c.replace.result (sym c.if-is_err.ensures.value) c.replace.ensures.rewritten)
-    (at_ok c.replace.result (sym c.if-is_err.ensures.value) c.replace.ensures.lasts)
-
-pub returns-then-self-clause-outside : goal.returns-then-self-clause-outside
-returns-then-self-clause-outside g c = touches_not g.S.Site c.args.site.now
+pub returns-then-self : goal.returns-then-self
+returns-then-self g c =
+    not_rewritten g.S.Site c.args.site.now c.args.self.now c.args.body.now Spent (Err Spent) refl
+    (inl (refl, c.if-self.true)) c.requires.stands
     (λ t images out left. g.met.S.Site.left_until c.args.site.now t images out left)
 
-pub returns-in_err-bytes-clause-outside : goal.returns-in_err-bytes-clause-outside
-returns-in_err-bytes-clause-outside g c = touches_not g.S.Site c.args.site.now
+pub returns-in_err-bytes : goal.returns-in_err-bytes
+returns-in_err-bytes g c =
+    let p = err_from_is_err_and c.from_residual.result c.from_residual.ensures.1 in
+    not_rewritten g.S.Site c.args.site.now c.args.self.now c.args.body.now p.0 c.from_residual.result p.1
+    (inr (p.2, c.if-self.false)) c.requires.stands
     (λ t images out left. g.met.S.Site.left_until c.args.site.now t images out left)
 
-pub returns-clause-stands : goal.returns-clause-stands
-returns-clause-stands g c =
-    let s = g.S.Site in
-    let old = c.args.site.now in
-    let new = c.replace.new.site in
-    stands_after c.args.self.now c.replace.new.self (λ bodies. c.args.body.now ∷ []) (s.reads old) (s.reads new)
-    (s.now old) (s.now new) (s.left old) (s.left new) c.if-self.false c.requires.stands
-    (at_ok c.replace.result (sym c.if-is_err.ensures.value) c.replace.ensures.rewritten)
-    (at_ok c.replace.result (sym c.if-is_err.ensures.value) c.replace.ensures.lasts)
+pub returns : goal.returns
+returns g c =
+    let is = sym c.if-is_err.ensures.value in
+    let made = c.replace.ensures in
+    done_rewrite g.S.Site c.args.site.now c.replace.new.site c.args.self.now c.replace.new.self c.args.body.now tt
+    c.if-self.false c.requires.stands (at_ok c.replace.result is made.rewritten) (at_ok c.replace.result is made.lasts)
+    made.any_moment (at_ok c.replace.result is made.counts) (at_ok c.replace.result is made.generation)
+    (at_ok c.replace.result is made.version) made.spent made.outside

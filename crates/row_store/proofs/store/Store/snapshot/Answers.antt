@@ -1,107 +1,34 @@
-use Rattle.std.proofs.Common.{◌⊎◌, List, ℕ, [], ◌∷◌, drop, Some, ap, ◌∙◌}
-use Rattle.site_io.specs.Disk.{Images}
-use Rattle.gate_log.specs.Moments.{Leaves, Began}
-use Rattle.gate_log.specs.Store.{HasBodies, OldOrWhole}
-use Rattle.gate_log.specs.StoreOfLog.{RestsIn}
-use Rattle.gate_log.proofs.Outside.{touches_not}
-use Rattle.row_store.specs.declared.store.Store.{Store}
-use Rattle.row_store.specs.Rows.{HasTable, HoldsTable}
-use Rattle.row_store.specs.Table.{Table, SameTable, table_of}
-use Rattle.row_store.proofs.Sizes.{batch_long}
-use Rattle.row_store.proofs.Stores.{map_both, map_two, rewritten, any_moment_whole, has_same, no_snapshot}
+use Rattle.std.proofs.Common.{◌∙◌, inl, inr, refl, drop, Err, ap, sym}
+use Rattle.std.proofs.lemmas.Result.{err_from_is_err_and}
+use Rattle.row_store.specs.declared.fault.StoreFault.{StoreFault}
+use Rattle.row_store.specs.declared.fault.StoreFault.TheVariants.{Spent}
+use Rattle.row_store.proofs.Calls.{not_snapshot, refused_snapshot, done_snapshot}
 use Rattle.row_store.proofs.store.Store.snapshot.Goals as goal
 
-pub returns-then-is_spent-clause-outside : goal.returns-then-is_spent-clause-outside
-returns-then-is_spent-clause-outside g c = touches_not g.S.Site c.args.site.now
-    (λ t images out left. g.met.S.Site.left_until c.args.site.now t images out left)
-
-pub returns-in_err-body-clause-outside : goal.returns-in_err-body-clause-outside
-returns-in_err-body-clause-outside g c = touches_not g.S.Site c.args.site.now
-    (λ t images out left. g.met.S.Site.left_until c.args.site.now t images out left)
-
-pub returns-then-is_spent-clause-any_moment : goal.returns-then-is_spent-clause-any_moment
-returns-then-is_spent-clause-any_moment g c =
-    let s = g.S.Site in
+pub returns-then-is_spent : goal.returns-then-is_spent
+returns-then-is_spent g c =
     let site = c.args.site.now in
-    no_snapshot c.args.self.now (s.reads site) (s.now site) (s.left site)
+    not_snapshot g.S.Site site c.args.self.now c.args.rows.now Spent (Err Spent) refl
+    (inl (refl, sym c.is_spent.ensures ∙ c.if-is_spent.true)) c.requires.stands
     (λ t images out left. g.met.S.Site.left_until site t images out left)
 
-pub returns-in_err-body-clause-any_moment : goal.returns-in_err-body-clause-any_moment
-returns-in_err-body-clause-any_moment g c =
-    let s = g.S.Site in
+pub returns-in_err-body : goal.returns-in_err-body
+returns-in_err-body g c =
+    let p = err_from_is_err_and c.from_residual.result c.from_residual.ensures.1 in
     let site = c.args.site.now in
-    no_snapshot c.args.self.now (s.reads site) (s.now site) (s.left site)
+    not_snapshot g.S.Site site c.args.self.now c.args.rows.now p.0 c.from_residual.result p.1
+    (inr (p.2, sym c.is_spent.ensures ∙ c.if-is_spent.false)) c.requires.stands
     (λ t images out left. g.met.S.Site.left_until site t images out left)
 
-pub returns-in_err-rewrite_in-clause-any_moment : goal.returns-in_err-rewrite_in-clause-any_moment
-returns-in_err-rewrite_in-clause-any_moment g c =
-    let s = g.S.Site in
-    let old = c.args.site.now in
-    let new = c.rewrite_in.new.site in
-    let rows = c.args.rows.now in
-    let body = drop 22 c.in_ok-body.body.items in
-    let spelled = c.in_ok-body.ensures.spelled in
-    map_two (λ held. (table : Table) → HoldsTable c.args.self.now held table → SameTable (table_of rows) table)
-    (λ held. (bodies : List (List ℕ)) → RestsIn c.args.self.now.log held bodies → Leaves (s.now old) (s.now new)
-    (s.left old) (s.left new) (λ images. Began (s.now old) (s.left old) images ⊎ OldOrWhole bodies body images))
-    (λ held. (table : Table) → HoldsTable c.args.self.now held table → Leaves (s.now old) (s.now new) (s.left old)
-    (s.left new) (λ images. Began (s.now old) (s.left old) images ⊎ HasTable images table)) (s.reads old)
-    (λ held same each. any_moment_whole c.args.self.now rows body held (s.now old) (s.now new) (s.left old)
-    (s.left new) spelled same each) c.requires.table c.rewrite_in.ensures.any_moment
+pub returns-in_err-rewrite_in : goal.returns-in_err-rewrite_in
+returns-in_err-rewrite_in g c =
+    let p = err_from_is_err_and c.from_residual-in_err-rewrite_in.result c.from_residual-in_err-rewrite_in.ensures.1 in
+    refused_snapshot g.S.Site c.args.site.now c.rewrite_in.new.site c.args.self.now c.rewrite_in.new.self
+    c.args.rows.now (drop 22 c.in_ok-body.body.items) c.in_err-rewrite_in.field-0.0
+    c.from_residual-in_err-rewrite_in.result (p.1 ∙ ap (λ (f : StoreFault). Err f) p.2) c.in_ok-body.ensures.spelled
+    c.requires.table c.in_err-rewrite_in.ensures
 
-pub returns-clause-any_moment : goal.returns-clause-any_moment
-returns-clause-any_moment g c =
-    let s = g.S.Site in
-    let old = c.args.site.now in
-    let new = c.rewrite_in.new.site in
-    let rows = c.args.rows.now in
-    let body = drop 22 c.in_ok-body.body.items in
-    let spelled = c.in_ok-body.ensures.spelled in
-    map_two (λ held. (table : Table) → HoldsTable c.args.self.now held table → SameTable (table_of rows) table)
-    (λ held. (bodies : List (List ℕ)) → RestsIn c.args.self.now.log held bodies → Leaves (s.now old) (s.now new)
-    (s.left old) (s.left new) (λ images. Began (s.now old) (s.left old) images ⊎ OldOrWhole bodies body images))
-    (λ held. (table : Table) → HoldsTable c.args.self.now held table → Leaves (s.now old) (s.now new) (s.left old)
-    (s.left new) (λ images. Began (s.now old) (s.left old) images ⊎ HasTable images table)) (s.reads old)
-    (λ held same each. any_moment_whole c.args.self.now rows body held (s.now old) (s.now new) (s.left old)
-    (s.left new) spelled same each) c.requires.table c.rewrite_in.ensures.any_moment
-
-pub returns-clause-kept : goal.returns-clause-kept
-returns-clause-kept g c =
-    let s = g.S.Site in
-    let old = c.args.site.now in
-    let new = c.rewrite_in.new.site in
-    let rows = c.args.rows.now in
-    let body = drop 22 c.in_ok-body.body.items in
-    let spelled = c.in_ok-body.ensures.spelled in
-    let after : Store = record { alloc = c.args.self.now.alloc; log = c.rewrite_in.new.self } in
-    map_both (λ before held. (bodies : List (List ℕ)) → RestsIn c.args.self.now.log before bodies
-    → RestsIn c.rewrite_in.new.self held (body ∷ []))
-    (λ before held. (table : Table) → HoldsTable c.args.self.now before table → SameTable (table_of rows) table
-    → HoldsTable after held table) (s.reads old) (s.reads new)
-    (λ before held adds. rewritten c.args.self.now after rows body before held spelled adds)
-    c.in_ok-rewrite_in.ensures.rewritten
-
-pub returns-clause-every_crash : goal.returns-clause-every_crash
-returns-clause-every_crash g c =
-    let s = g.S.Site in
-    let old = c.args.site.now in
-    let new = c.rewrite_in.new.site in
-    let rows = c.args.rows.now in
-    let body = drop 22 c.in_ok-body.body.items in
-    let spelled = c.in_ok-body.ensures.spelled in
-    map_two (λ held. (table : Table) → HoldsTable c.args.self.now held table → SameTable (table_of rows) table)
-    (λ held. (bodies : List (List ℕ)) → RestsIn c.args.self.now.log held bodies → (images : Images) (out : List ℕ)
-    → s.left new (s.now new) images out → HasBodies images (body ∷ []))
-    (λ held. (table : Table) → HoldsTable c.args.self.now held table → (images : Images) (out : List ℕ)
-    → s.left new (s.now new) images out → HasTable images table) (s.reads old)
-    (λ held same every table holds images out left. has_same rows body images table spelled (same table holds)
-    (every holds.bodies holds.rests images out left)) c.requires.table c.in_ok-rewrite_in.ensures.every_crash
-
-pub returns-clause-counts : goal.returns-clause-counts
-returns-clause-counts g c =
-    let rows = c.args.rows.now in
-    let body = drop 22 c.in_ok-body.body.items in
-    let spelled = c.in_ok-body.ensures.spelled in
-    let long = batch_long rows body spelled in
-    let counts = c.in_ok-rewrite_in.ensures.counts in
-    (counts.0 ∙ ap (λ (n : ℕ). Some n) long, counts.1)
+pub returns : goal.returns
+returns g c =
+    done_snapshot g.S.Site c.args.site.now c.rewrite_in.new.site c.args.self.now c.rewrite_in.new.self c.args.rows.now
+    (drop 22 c.in_ok-body.body.items) tt tt c.in_ok-body.ensures.spelled c.requires.table c.in_ok-rewrite_in.ensures

@@ -1,20 +1,15 @@
-use Rattle.row_store.specs.declared.store.Store.{Store}
-use Rattle.row_store.proofs.Stores.{lasting, holds_still}
+use Rattle.std.proofs.Common.{◌∙◌, Err, ap}
+use Rattle.std.proofs.lemmas.Result.{err_from_is_err_and}
+use Rattle.row_store.specs.declared.fault.StoreFault.{StoreFault}
+use Rattle.row_store.proofs.Syncing.{refused_sync, done_sync}
 use Rattle.row_store.proofs.store.Store.sync.Goals as goal
 
-pub returns-clause-every_crash : goal.returns-clause-every_crash
-returns-clause-every_crash g c =
-    let s = g.S.Site in
-    let new = c.sync.new.site in
-    lasting c.args.self.now (s.reads c.args.site.now) (s.reads new) (s.now new) (s.left new)
-    c.in_ok-sync.ensures.outside.held c.in_ok-sync.ensures.lasts
+pub returns-in_err-sync : goal.returns-in_err-sync
+returns-in_err-sync g c =
+    let p = err_from_is_err_and c.from_residual.result c.from_residual.ensures.1 in
+    refused_sync g.S.Site c.args.site.now c.sync.new.site c.args.self.now c.sync.new.self c.in_err-sync.field-0.0
+    c.from_residual.result (p.1 ∙ ap (λ (f : StoreFault). Err f) p.2) c.in_err-sync.ensures
 
-pub returns-clause-kept : goal.returns-clause-kept
-returns-clause-kept g c = λ held table holds.
-    let after : Store = record { alloc = c.args.self.now.alloc; log = c.sync.new.self } in
-    holds_still c.args.self.now after held table (c.sync.ensures.bodies held) holds
-
-pub returns-in_err-sync-clause-kept : goal.returns-in_err-sync-clause-kept
-returns-in_err-sync-clause-kept g c = λ held table holds.
-    let after : Store = record { alloc = c.args.self.now.alloc; log = c.sync.new.self } in
-    holds_still c.args.self.now after held table (c.sync.ensures.bodies held) holds
+pub returns : goal.returns
+returns g c =
+    done_sync g.S.Site c.args.site.now c.sync.new.site c.args.self.now c.sync.new.self tt tt c.in_ok-sync.ensures
