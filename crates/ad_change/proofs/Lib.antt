@@ -25,5 +25,6 @@ pub mod ModifyMade
 pub mod ModifyChecks
 pub mod AddMay
 pub mod AddLaws
+pub mod AddChecks
 pub mod ByAttr
 mod HolderLists

@@ -1,6 +1,6 @@
 //! Add: its checks after what it needs.
 
-ghost use Rattle.std.specs.Prelude.{◌≡◌, ◌<◌, ◌==◌, ◌&&◌, ◌||◌, nat_lt, not, is_none, is_some, true};
+ghost use Rattle.std.specs.Prelude.{◌≡◌, ◌<◌, ◌&&◌, ◌||◌, nat_lt, not, is_none, is_some, true};
 ghost use Rattle.std.specs.Prelude.{[], ◌∷◌, ◌++◌, map, length, IfOk, OnOk};
 ghost use Rattle.std.specs.BTreeSet.{contains};
 ghost use Rattle.std.specs.List.{list_all, flat_map, AllByRecursion};
@@ -36,14 +36,14 @@ use crate::owner::is_owner_allowed;
 use crate::sent::attrs_are_bytes;
 use ad_bytes::{Bytes, Few, List};
 use ad_change_values::{
-    Held, Stop, are_too_many, attr_count, code_of, has_no_empty_password, is_lacking,
-    one_is_repeated, read_values, stored_values,
+    Held, Stop, are_too_many, code_of, has_no_empty_password, is_lacking, one_is_repeated,
+    read_values, stored_values,
 };
 use ad_dir::{Dir, Object, Stored, live_object};
 use ad_ids::{Token, a_sid_has_8_bytes_and_4_for_each, a_sid_is_read_as_spelled};
 use ad_ldap::result_code;
 use ad_needs_rules::MAX_DEPTH;
-use ad_schema::{AttrId, ClassId, Schema};
+use ad_schema::{AttrId, ClassId, Schema, attr_count};
 use ad_sd::SdParts;
 use ad_value::what_is_shown_reads_back;
 use std::alloc::{AllocError, Global};
@@ -253,34 +253,40 @@ fn judge_sent(
     Ok(held)
 }
 
+/// What an Add asks for: an object of this class and this naming value below a parent, with its values and the parts
+/// of its descriptor that were sent.
+#[derive(Drop)]
+pub(crate) struct Adding<'a> {
+    pub parent: u32,
+    pub class: ClassId,
+    pub name: &'a Bytes,
+    pub values: &'a [(AttrId, List<Bytes>)],
+    pub sd: &'a Option<SdParts>,
+}
+
 // All of them, and the object with its number and its identifier.
-fn judge_add(
-    alloc: Global,
-    dir: &Dir,
-    token: &Token,
-    parent: u32,
-    class: ClassId,
-    name: &Bytes,
-    values: &[(AttrId, List<Bytes>)],
-    sd: &Option<SdParts>,
-) -> Result<Object, Stop>
+fn judge_add(alloc: Global, dir: &Dir, token: &Token, added: &Adding<'_>) -> Result<Object, Stop>
     requires sound { IsSound dir.now }
-    requires parent { is_live dir.now.objects parent ≡ true }
-    requires class { class.0 < length (classes_of dir.now.schema) }
-    requires name { IsValue name.now }
+    requires parent { is_live dir.now.objects added.now.parent ≡ true }
+    requires class { added.now.class.0 < length (classes_of dir.now.schema) }
+    requires name { IsValue added.now.name.now }
     requires attrs { AllByRecursion (λ attr. attr.0.0 < length (attrs_of dir.now.schema))
-        values.now }
-    ensures { Judges (add.add_later dir.now token.now parent class.0 name.now values.now sd.now)
+        added.now.values.now }
+    ensures { Judges (add.add_later dir.now token.now added.now.parent added.now.class.0
+        added.now.name.now added.now.values.now added.now.sd.now)
         (λ object. IsNewObject dir.now
-        (add.new_object dir.now token.now parent class.0 name.now values.now sd.now) object
-        (is_some (new_sid dir.now class.0))) result }
+        (add.new_object dir.now token.now added.now.parent added.now.class.0
+        added.now.name.now added.now.values.now added.now.sd.now) object
+        (is_some (new_sid dir.now added.now.class.0))) result }
 {
-    let held = judge_sent(alloc, dir, token, parent, class, values, sd)?;
-    let free = is_free(alloc, dir, parent, name.as_slice())?;
+    let parent = added.parent;
+    let class = added.class;
+    let held = judge_sent(alloc, dir, token, parent, class, added.values, added.sd)?;
+    let free = is_free(alloc, dir, parent, added.name.as_slice())?;
     if !free {
         return Err(Stop::Refused(result_code::ENTRY_ALREADY_EXISTS));
     }
-    let object = new_object(alloc, dir, parent, class, name, held)?;
+    let object = new_object(alloc, dir, parent, class, added.name, held)?;
     let gets = gets_sid(dir, class);
     if !fits_in(dir, &object, gets) {
         return Err(Stop::Refused(result_code::ADMIN_LIMIT_EXCEEDED));
@@ -290,31 +296,29 @@ fn judge_add(
 
 // ---- the plan
 
-// That of these attributes.
-fn plan_of(
+/// What an Add answers or makes.
+pub(crate) fn add_plan(
     alloc: Global,
     dir: &Dir,
     token: &Token,
-    parent: u32,
-    class: ClassId,
-    name: &Bytes,
-    values: &[(AttrId, List<Bytes>)],
-    sd: &Option<SdParts>,
+    added: &Adding<'_>,
 ) -> Result<Plan, AllocError>
     requires sound { IsSound dir.now }
     requires resolved { Resolves dir.now token.now
-        (Act.Add parent class name.now values.now sd.now) }
+        (Act.Add added.now.parent added.now.class added.now.name.now added.now.values.now
+        added.now.sd.now) }
     ensures { IfOk result (IsPlan dir.now token.now
-        (Act.Add parent class name.now values.now sd.now)) }
+        (Act.Add added.now.parent added.now.class added.now.name.now added.now.values.now
+        added.now.sd.now)) }
 {
     what_is_shown_reads_back();
     a_sid_is_read_as_spelled();
     a_sid_has_8_bytes_and_4_for_each();
-    attrs_are_bytes(values);
+    attrs_are_bytes(added.values);
     domain_is_sid(dir);
-    match judge_add(alloc, dir, token, parent, class, name, values, sd) {
+    match judge_add(alloc, dir, token, added) {
         Ok(object) => {
-            let edits = new_edits(alloc, dir, token, object, sd)?;
+            let edits = new_edits(alloc, dir, token, object, added.sd)?;
             Ok(Plan::Edits(edits))
         }
         Err(why) => {
@@ -322,33 +326,4 @@ fn plan_of(
             Ok(Plan::Refused(code))
         }
     }
-}
-
-/// What an Add answers or makes.
-pub(crate) fn add_plan(
-    alloc: Global,
-    dir: &Dir,
-    token: &Token,
-    parent: u32,
-    class: ClassId,
-    name: &Bytes,
-    values: &List<(AttrId, List<Bytes>)>,
-    sd: &Option<SdParts>,
-) -> Result<Plan, AllocError>
-    requires sound { IsSound dir.now }
-    requires resolved { Resolves dir.now token.now
-        (Act.Add parent class name.now values.now sd.now) }
-    ensures { IfOk result (IsPlan dir.now token.now
-        (Act.Add parent class name.now values.now sd.now)) }
-{
-    plan_of(
-        alloc,
-        dir,
-        token,
-        parent,
-        class,
-        name,
-        values.as_slice(),
-        sd,
-    )
 }

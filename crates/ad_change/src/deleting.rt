@@ -2,6 +2,7 @@
 
 ghost use Rattle.std.specs.Prelude.{◌≡◌, ◌≢◌, ◌++◌, ◌||◌, is_none, true, [], ◌∷◌, map, not, IfOk, OnOk};
 ghost use Rattle.std.specs.List.{filter, AllByRecursion};
+ghost use Rattle.ad_ids.specs.declared.token.Token.{Token};
 ghost use Rattle.ad_dir_objects.specs.declared.act.Act.TheVariants as Act;
 ghost use Rattle.ad_dir_model.specs.Objects.{next_child, is_live};
 ghost use Rattle.ad_dir_model.specs.Tree.{root};
@@ -20,7 +21,6 @@ use crate::subtree::goes_with;
 use crate::unlinking::push_unlinking;
 use ad_bytes::List;
 use ad_dir::{Dir, Edit};
-use ad_ids::Token;
 use ad_ldap::result_code;
 use prop_queue::Pending;
 use std::alloc::{AllocError, Global};
@@ -148,19 +148,18 @@ fn may_go(tree: bool, alone: bool) -> bool
     tree || alone
 }
 
-/// What a Delete answers or makes: an object with children goes with all that is below it, or not at all.
+/// What a Delete answers or makes, whoever asks for it: an object with children goes with all that is below it, or not
+/// at all.
 pub(crate) fn delete_plan(
     alloc: Global,
     dir: &Dir,
-    token: &Token,
     target: u32,
     tree: bool,
 ) -> Result<Plan, AllocError>
     requires sound { IsSound dir.now }
-    requires resolved { Resolves dir.now token.now (Act.Delete target tree) }
-    ensures { IfOk result (IsPlan dir.now token.now (Act.Delete target tree)) }
+    requires resolved { (token : Token) × Resolves dir.now token (Act.Delete target tree) }
+    ensures { (token : Token) → IfOk result (IsPlan dir.now token (Act.Delete target tree)) }
 {
-    let _ = token;
     let alone = stands_alone(dir, target);
     if may_go(tree, alone) {
         let going = going_of(alloc, dir, target, alone)?;

@@ -22,13 +22,12 @@ ghost use Rattle.ad_dir_model.specs.Changes as changes;
 ghost use Rattle.ad_dir_model.specs.Edits.{add_edits};
 ghost use Rattle.ad_dir_model.specs.Soundness.{IsSound, AttrsRiseFrom};
 ghost use Rattle.ad_change.specs.Adding.{held_before};
-ghost use Rattle.ad_change.specs.Creating.{all_before, new_whole};
+ghost use Rattle.ad_change.specs.Creating.{new_whole};
 ghost use Rattle.ad_dir.specs.Conditions.{AreEdits};
 
 use ad_bytes::{Bytes, Few, List};
 use ad_change_values::{Held, put_stored, take_stored};
-use ad_dir::{Dir, Edit, Meta, Object, Stored, live_sd};
-use ad_dir_write::guid_of;
+use ad_dir::{Dir, Edit, Meta, Object, Stored, guid_of, live_sd};
 use ad_ids::{Sid, Token};
 use ad_inherit::create;
 use ad_needs_rules::ROOT;

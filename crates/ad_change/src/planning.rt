@@ -5,7 +5,7 @@ ghost use Rattle.ad_dir_model.specs.Soundness.{IsSound};
 ghost use Rattle.ad_needs.specs.Verdicts.{Resolves};
 ghost use Rattle.ad_change.specs.Plans.{IsPlan};
 
-use crate::adding::add_plan;
+use crate::adding::{Adding, add_plan};
 use crate::deleting::delete_plan;
 use crate::modifying::modify_plan;
 use crate::outcome::Plan;
@@ -32,13 +32,22 @@ pub fn plan(alloc: Global, dir: &Dir, token: &Token, act: &Act) -> Result<Plan, 
             name,
             values,
             sd,
-        } => add_plan(alloc, dir, token, *parent, *class, name, values, sd),
-        Act::Delete { target, tree } => delete_plan(alloc, dir, token, *target, *tree),
+        } => {
+            let added = Adding {
+                parent: *parent,
+                class: *class,
+                name,
+                values: values.as_slice(),
+                sd,
+            };
+            add_plan(alloc, dir, token, &added)
+        }
+        Act::Delete { target, tree } => delete_plan(alloc, dir, *target, *tree),
         Act::Rename {
             target,
             parent,
             name,
-        } => rename_plan(alloc, dir, token, *target, *parent, name),
+        } => rename_plan(alloc, dir, *target, *parent, name),
         Act::Modify { target, items, sd } => modify_plan(alloc, dir, token, *target, items, sd),
     }
 }

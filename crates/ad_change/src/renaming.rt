@@ -1,6 +1,7 @@
 //! Rename and move: their checks after what they need, and their edits.
 
 ghost use Rattle.std.specs.Prelude.{◌≡◌, true, IfOk};
+ghost use Rattle.ad_ids.specs.declared.token.Token.{Token};
 ghost use Rattle.ad_dn.specs.Value.{IsValue};
 ghost use Rattle.ad_dir_objects.specs.declared.act.Act.TheVariants as Act;
 ghost use Rattle.ad_dir_objects.specs.Seen.{object_seen};
@@ -21,7 +22,6 @@ use crate::writing::{put_edits, write_edits};
 use ad_bytes::{Bytes, List};
 use ad_change_values::{Stop, code_of};
 use ad_dir::{Dir, Edit, Object, live_object, live_sd};
-use ad_ids::Token;
 use ad_ldap::result_code;
 use ad_needs_rules::parent_number;
 use std::alloc::{AllocError, Global};
@@ -139,20 +139,20 @@ fn edits_of(alloc: Global, dir: &Dir, target: u32, object: Object) -> Result<Lis
     }
 }
 
-/// What a rename or a move answers or makes.
+/// What a rename or a move answers or makes, whoever asks for it.
 pub(crate) fn rename_plan(
     alloc: Global,
     dir: &Dir,
-    token: &Token,
     target: u32,
     parent: u32,
     name: &Bytes,
 ) -> Result<Plan, AllocError>
     requires sound { IsSound dir.now }
-    requires resolved { Resolves dir.now token.now (Act.Rename target parent name.now) }
-    ensures { IfOk result (IsPlan dir.now token.now (Act.Rename target parent name.now)) }
+    requires resolved { (token : Token) × Resolves dir.now token
+        (Act.Rename target parent name.now) }
+    ensures { (token : Token) → IfOk result (IsPlan dir.now token
+        (Act.Rename target parent name.now)) }
 {
-    let _ = token;
     match judge_rename(alloc, dir, target, parent, name) {
         Ok(object) => Ok(Plan::Edits(edits_of(alloc, dir, target, object)?)),
         Err(why) => {

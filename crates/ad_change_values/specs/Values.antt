@@ -1,11 +1,10 @@
 -- Values as they were sent, and as they are stored.
 use Rattle.std.specs.Prelude.{ℕ, Bool, true, false, not, ◌==◌, ◌&&◌, ◌||◌, if◌then◌else◌, Option, option_map}
 use Rattle.std.specs.Prelude.{List, [], ◌∷◌, length, filter_map, Result, Ok, Err}
-use Rattle.std.specs.Option.{option_map_or, option_and_then}
+use Rattle.std.specs.Option.{option_map_or}
 use Rattle.std.specs.List.{list_any, range_with_len}
 use Rattle.std.specs.Result.{result_ok}
 use Rattle.sha2.specs.Sha256.{sha256}
-use Rattle.ad_dn.specs.Reading.{dn_of}
 use Rattle.ad_value.specs.Value.{Value, as_shown, same_key}
 use Rattle.ad_value.specs.declared.fault.ValueFault.{ValueFault}
 use Rattle.ad_value.specs.declared.fault.ValueFault.TheVariants as fault
@@ -17,7 +16,7 @@ use Rattle.ad_schema.specs.Meaning.{attr_is_link, is_never_missing}
 use Rattle.ad_dir_model.specs.Object.{Stored, plain, link}
 use Rattle.ad_dir_model.specs.Attributes.{is_password, syntax_at}
 use Rattle.ad_dir_model.specs.Directory.{Directory}
-use Rattle.ad_dir_model.specs.Names.{found}
+use Rattle.ad_needs_rules.specs.Requests.{number_of_name}
 
 -- ---- attributes
 
@@ -47,7 +46,7 @@ is_too_long _ = false
 
 -- the object that a link's value names, visible or not
 unfoldable pub target_of : Directory → List ℕ → Option ℕ
-target_of dir bytes = option_and_then (λ dn. found dir dn.rdns) (dn_of bytes)
+target_of dir bytes = number_of_name dir bytes
 
 -- the value as it is stored
 unfoldable pub stored_of : Directory → ℕ → List ℕ → Option Stored

@@ -1,6 +1,6 @@
 //! The checks of the attributes that the items of a Modify name, on what all of them made.
 
-ghost use Rattle.std.specs.Prelude.{◌≡◌, ◌<◌, ◌==◌, ◌&&◌, not, if◌then◌else◌, List, [], map, filter, length, nat_lt};
+ghost use Rattle.std.specs.Prelude.{◌≡◌, ◌<◌, ◌&&◌, if◌then◌else◌, List, [], map, filter, length, nat_lt};
 ghost use Rattle.std.specs.Prelude.{IfOk};
 ghost use Rattle.std.specs.List.{flat_map, AllByRecursion};
 ghost use Rattle.ad_schema.specs.Attributes.{attrs_of};
@@ -15,11 +15,11 @@ ghost use Rattle.ad_change_values.specs.Judging.{Judges, AreNamed};
 
 use crate::counts::{Counts, count_of, counts_of};
 use crate::stop::Stop;
-use crate::values::{is_lacking, is_single};
+use crate::values::is_lacking;
 use ad_bytes::Few;
-use ad_dir::{ActItem, Stored};
+use ad_dir::{ActItem, Stored, is_single};
 use ad_ldap::result_code;
-use ad_schema::{AttrId, ClassId, Schema, records_are_few};
+use ad_schema::{AttrId, ClassId, Schema, attr_count};
 use std::alloc::{AllocError, Global};
 
 // Whether the items name an attribute, for each of so many.
@@ -79,15 +79,6 @@ fn judge_if(
         return judge_attr(schema, class, attr, count_of(counts, attr));
     }
     Ok(())
-}
-
-// How many attributes there are.
-pub fn attr_count(schema: &Schema) -> u32
-    ensures { result ≡ length (attrs_of schema.now) }
-{
-    schema.make_schema();
-    records_are_few();
-    schema.attrs().len() as u32
 }
 
 /// The checks of the attributes that the items name, in the order of the schema.

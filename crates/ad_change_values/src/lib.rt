@@ -35,7 +35,7 @@ mod rows;
 mod stop;
 mod values;
 
-pub use finals::{are_too_many, attr_count, judge_attrs};
+pub use finals::{are_too_many, judge_attrs};
 pub use held::{Held, put_stored, take_stored};
 pub use items::judge_items;
 pub use repeated::one_is_repeated;

@@ -4,9 +4,8 @@ ghost use Rattle.std.specs.Prelude.{◌≡◌, ◌<◌, ◌==◌, ◌&&◌, ◌+
 ghost use Rattle.std.specs.List.{list_all, list_any};
 ghost use Rattle.std.specs.Option.{option_to_list};
 ghost use Rattle.std.specs.Result.{result_ok};
-ghost use Rattle.sha2.specs.Sha256.{sha256};
 ghost use Rattle.ad_bytes.specs.Reading.{GivesUnless};
-ghost use Rattle.ad_value.specs.Value.{as_shown, same_key};
+ghost use Rattle.ad_value.specs.Value.{same_key};
 ghost use Rattle.ad_value.specs.ValueOf.{is_memory};
 ghost use Rattle.ad_schema.specs.Attributes.{attrs_of};
 ghost use Rattle.ad_schema.specs.Classes.{classes_of};
@@ -20,30 +19,14 @@ ghost use Rattle.ad_change_values.specs.Judging.{Judges, values_in, reading_chec
 
 use crate::stop::Stop;
 use ad_bytes::{Bytes, Few, List};
-use ad_dir::{Dir, Stored, is_named};
+use ad_dir::{Dir, Stored, digest_value, is_password};
 use ad_ldap::result_code;
-use ad_needs_rules::read_name;
+use ad_needs_rules::number_of_name;
 use ad_schema::{AttrId, ClassId, Schema};
-use ad_value::{Value, ValueFault, digest, equal, normal};
+use ad_value::{Value, ValueFault, equal, normal};
 use std::alloc::{AllocError, Global};
 
 // ---- attributes
-
-/// Whether values of the attribute are kept as their digests.
-pub(crate) fn is_password(schema: &Schema, attr: AttrId) -> bool
-    ensures { result ≡ attributes.is_password schema.now attr.0 }
-{
-    is_named(schema, b"unicodePwd", attr)
-}
-
-/// Whether an object has one value of the attribute at most.
-#[tactic(auto, unfolding(ad_dir_model::specs::Attributes::is_single))]
-pub(crate) fn is_single(schema: &Schema, attr: AttrId) -> bool
-    requires { attr.0 < length (attrs_of schema.now) }
-    ensures { result ≡ attributes.is_single schema.now attr.0 }
-{
-    schema.attr_info(attr).single
-}
 
 /// Whether an object of the class lacks the attribute, and may not. It is said whether the object has a value of it.
 pub fn is_lacking(schema: &Schema, class: ClassId, attr: AttrId, has_some: bool) -> bool
@@ -56,14 +39,6 @@ pub fn is_lacking(schema: &Schema, class: ClassId, attr: AttrId, has_some: bool)
 
 // ---- reading
 
-// A value that is shown and compared by the digest of these bytes.
-fn digest_of(alloc: Global, bytes: &[u8]) -> Result<Value, AllocError>
-    ensures { IfOk result (λ value. value ≡ as_shown (sha256 bytes.now)) }
-{
-    let hash = digest(bytes);
-    Value::as_shown(alloc, &hash)
-}
-
 // One value, in the attribute's syntax.
 #[tactic(auto, unfolding(crate::specs::Values::value_in, ad_dir_model::specs::Attributes::syntax_at))]
 fn value_in(alloc: Global, schema: &Schema, attr: AttrId, bytes: &[u8]) -> Result<Value, ValueFault>
@@ -72,7 +47,7 @@ fn value_in(alloc: Global, schema: &Schema, attr: AttrId, bytes: &[u8]) -> Resul
         (values.value_in schema.now attr.0 bytes.now) }
 {
     if is_password(schema, attr) {
-        return Ok(digest_of(alloc, bytes)?);
+        return Ok(digest_value(alloc, bytes)?);
     }
     normal(alloc, schema.attr_info(attr).syntax, bytes)
 }
@@ -166,17 +141,6 @@ pub fn has_no_empty_password(schema: &Schema, attr: AttrId, sent: &[Bytes]) -> b
 
 // ---- storing
 
-// The object that a link's value names.
-#[tactic(auto, unfolding(crate::specs::Values::target_of))]
-fn target_of(alloc: Global, dir: &Dir, text: &[u8]) -> Result<Option<u32>, AllocError>
-    ensures { IfOk result (λ number. number ≡ values.target_of dir.now text.now) }
-{
-    match read_name(alloc, text)? {
-        Some(dn) => dir.find(alloc, &dn),
-        None => Ok(None),
-    }
-}
-
 // The links that the values of an attribute of links are: 19 where one names no object.
 fn links_to(alloc: Global, dir: &Dir, attr: AttrId, sent: &[Bytes]) -> Result<Few<Stored>, Stop>
     requires { attr_is_link dir.now.schema attr.0 ≡ true }
@@ -185,7 +149,7 @@ fn links_to(alloc: Global, dir: &Dir, attr: AttrId, sent: &[Bytes]) -> Result<Fe
 {
     let mut stored = Few::new(alloc);
     for text in sent {
-        let target = target_of(alloc, dir, text.as_slice())?;
+        let target = number_of_name(alloc, dir, text.as_slice())?;
         match target {
             Some(number) => stored.push(Stored::Link(number))?,
             None => return Err(Stop::Refused(result_code::CONSTRAINT_VIOLATION)),

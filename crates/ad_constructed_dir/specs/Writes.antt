@@ -9,9 +9,10 @@ use Rattle.ad_schema.specs.Attributes.{attrs_of}
 use Rattle.ad_schema.specs.Classes.{is_allowed}
 use Rattle.ad_types.specs.TypesOf.{path_of}
 use Rattle.ad_constructed.specs.Rights.{RightsValue}
-use Rattle.ad_dir_model.specs.Objects.{is_live}
+use Rattle.ad_dir_model.specs.Objects.{is_live, object_at}
 use Rattle.ad_dir_model.specs.Directory.{Directory}
 use Rattle.ad_access_dir.specs.Sight.{is_granted}
+use Rattle.ad_access_dir.specs.Allowed.{allowed_below, allowed_attrs}
 use Rattle.ad_access_dir.specs.Masks.{IsMask}
 use Rattle.ad_constructed_dir.specs.Changing.{may_write, may_create}
 
@@ -33,6 +34,15 @@ pub record AreWriteMasks (dir : Directory) (token : Token) (number : ℕ) (class
   pub long : length masks ≡ length ids
   pub each : (i : ℕ) (id : AttrId) → slice_get ids i ≡ Some id
       → IsMask 32 (is_granted dir token number (path_of dir.schema class id)) (slice_index_or masks i 0)
+
+-- It is said whether objects of the class, which is the object's own, may have the attribute, and where they may, its
+-- mask stands at the place.
+pub record IsPlaced (dir : Directory) (token : Token) (number : ℕ) (class : ClassId) (attr : ℕ) (allowed : Bool)
+    (masks : List ℕ) (next : ℕ) : Type 0 where
+  pub own : class.0 ≡ (object_at dir.objects number).class
+  pub said : allowed ≡ is_allowed dir.schema class.0 attr
+  pub are : AreWriteMasks dir token number class (allowed_attrs dir.schema class.0) masks
+  pub place : next ≡ length (allowed_below dir.schema class.0 attr)
 
 -- ---- rights
 

@@ -3,16 +3,17 @@
 ghost use Rattle.std.specs.Prelude.{◌≡◌, ◌≤◌, ◌<◌, ◌+◌, ◌-◌, ◌^◌, ◌&&◌, ◌∷◌, [], ℕ, true, length, drop};
 ghost use Rattle.std.specs.Prelude.{if◌then◌else◌, IfOk};
 ghost use Rattle.ad_acl.specs.Mask.{has_bit};
+ghost use Rattle.ad_schema.specs.declared.info.ClassId.{ClassId};
 ghost use Rattle.ad_schema.specs.Attributes.{attrs_of};
-ghost use Rattle.ad_schema.specs.Classes.{classes_of, is_allowed};
+ghost use Rattle.ad_schema.specs.Classes.{classes_of};
 ghost use Rattle.ad_constructed.specs.Rights.{if_may, parts_of};
 ghost use Rattle.ad_dir_model.specs.Objects.{is_live, object_at};
 ghost use Rattle.ad_access_dir.specs.Sight.{is_granted};
 ghost use Rattle.ad_needs_rules.specs.Requests.{is_password};
 ghost use Rattle.ad_needs.specs.Modifying.{force_change};
-ghost use Rattle.ad_access_dir.specs.Allowed.{allowed_below, allowed_attrs};
+ghost use Rattle.ad_access_dir.specs.Allowed.{allowed_attrs};
 ghost use Rattle.ad_constructed_dir.specs.Changing.{may_write, may_create, rights_at};
-ghost use Rattle.ad_constructed_dir.specs.Writes.{writes_below, writes_of, AreWriteMasks, rights_by};
+ghost use Rattle.ad_constructed_dir.specs.Writes.{writes_below, writes_of, AreWriteMasks, IsPlaced, rights_by};
 
 use ad_access_dir::{allowed_attrs, attr_count, attr_masks, grants};
 use ad_acl::{
@@ -55,29 +56,23 @@ fn writes(dir: &Dir, token: &Token, number: u32, info: &AttrInfo, mask: u32) -> 
     has_write(mask)
 }
 
-// Whether objects of the class may have the attribute, and it may be written. Where they may have it, its mask
-// stands at this place.
+// Whether objects of the object's class may have the attribute, and it may be written. Where they may have it, its
+// mask stands at this place.
 fn writes_allowed(
     dir: &Dir,
     token: &Token,
     number: u32,
-    class: ClassId,
     attr: AttrId,
     allowed: bool,
     masks: &[u32],
     next: usize,
 ) -> bool
     requires live { is_live dir.now.objects number ≡ true }
-    requires class { class.0 ≡ (object_at dir.now.objects number).class }
     requires attr { attr.0 < length (attrs_of dir.now.schema) }
-    requires allowed { allowed ≡ is_allowed dir.now.schema class.0 attr.0 }
-    requires masks { AreWriteMasks dir.now token.now number class
-        (allowed_attrs dir.now.schema class.0) masks.now }
-    requires next { next ≡ length (allowed_below dir.now.schema class.0 attr.0) }
-    ensures { result ≡ (is_allowed dir.now.schema class.0 attr.0 && may_write dir.now token.now
-        number attr.0) }
+    requires placed { (class : ClassId) × IsPlaced dir.now token.now number class attr.0 allowed
+        masks.now next }
+    ensures { result ≡ (allowed && may_write dir.now token.now number attr.0) }
 {
-    let _ = class;
     if !allowed {
         return false;
     }
@@ -91,11 +86,10 @@ fn writes_allowed(
 }
 
 // One place further, where something stands at this one.
-fn further(next: usize, is_taken: bool, len: usize) -> usize
-    requires { is_taken ≡ true → next < len }
+fn further(next: usize, is_taken: bool) -> usize
+    requires { is_taken ≡ true → next + 1 < 2 ^ 64 }
     ensures { result ≡ (if is_taken then next + 1 else next) }
 {
-    let _ = len;
     if is_taken {
         return next + 1;
     }
@@ -124,9 +118,9 @@ fn each_written(
     'each: for place in 0..attr_count(dir) {
         let attr = AttrId(place);
         let allowed = dir.schema().allowed(class, attr);
-        let so = writes_allowed(dir, token, number, class, attr, allowed, masks, next);
+        let so = writes_allowed(dir, token, number, attr, allowed, masks, next);
         written.push(so)?;
-        next = further(next, allowed, masks.len());
+        next = further(next, allowed);
     }
     Ok(written)
 }

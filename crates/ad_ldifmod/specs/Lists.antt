@@ -1,18 +1,15 @@
 -- The lists of objects, and what lines make of them.
 use Rattle.std.specs.Prelude.{ℕ, ◌==◌, not, if◌then◌else◌, List, [], ◌∷◌, ◌++◌, Option, Result, Ok, Err}
 use Rattle.std.specs.List.{filter}
-use Rattle.std.specs.Option.{option_and_then}
 use Rattle.ad_bytes.specs.Reading.{◌>>=◌}
 use Rattle.ad_ids.specs.SidValue.{same_sid}
 use Rattle.ad_acl.specs.Entry.{Entry}
 use Rattle.ad_sd.specs.declared.parts.AceList.{AceList}
 use Rattle.ad_inherit.specs.Whole.{explicit_part}
-use Rattle.ad_dn.specs.declared.rdn.Dn.{Dn}
-use Rattle.ad_dn.specs.Reading.{dn_of}
 use Rattle.ad_dir_model.specs.Directory.{Directory}
 use Rattle.ad_dir_model.specs.Objects.{sd_at}
-use Rattle.ad_dir_model.specs.Names.{found}
 use Rattle.ad_dir_model.specs.Identity.{domain_sid}
+use Rattle.ad_needs_rules.specs.Requests.{number_of_name}
 use Rattle.ad_ldifmod.specs.declared.change.Change.{Change}
 use Rattle.ad_ldifmod.specs.declared.change.Change.TheVariants.{Behind, Front, Without}
 use Rattle.ad_ldifmod.specs.declared.fault.GrantKind.{GrantKind}
@@ -56,7 +53,7 @@ or_bad kind (Option.Some x) = Ok x
 
 -- the object of the name that a text encodes; none where it encodes none, and where no object has it
 unfoldable pub number_named : Directory → List ℕ → Option ℕ
-number_named dir text = option_and_then (λ (dn : Dn). found dir dn.rdns) (dn_of text)
+number_named dir text = number_of_name dir text
 
 -- What a line asks for, or its fault: first that of its form, then that of its entry or identifier, then that of
 -- its name. Aliases stand below the root's identifier.

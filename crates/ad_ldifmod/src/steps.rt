@@ -1,6 +1,6 @@
 //! What a line asks for, and the message that it gives.
 
-ghost use Rattle.std.specs.Prelude.{◌≡◌, ◌≤◌, ◌<◌, ◌^◌, ℕ, true, List, OnOk, IfOk, IfSome, Option};
+ghost use Rattle.std.specs.Prelude.{◌≡◌, ◌≤◌, ◌<◌, ◌^◌, ℕ, true, List, OnOk, IfOk, Option};
 ghost use Rattle.std.specs.Option.{option_map, option_copied};
 ghost use Rattle.ad_bytes.specs.Reading.{GivesUnless};
 ghost use Rattle.ad_dir_model.specs.Objects.{is_live};
@@ -20,13 +20,10 @@ use crate::lines::{PartsIn, Verb, parts_of};
 use crate::messages::message_of;
 use crate::texts::change_of;
 use ad_dir::Dir;
-use ad_dn::DnFault;
 use ad_ids::Sid;
 use ad_ldap::Message;
-use std::alloc::{AllocError, Global};
-
-/// The number of the root.
-const ROOT: u32 = 1;
+use ad_needs_rules::{ROOT, number_of_name};
+use std::alloc::Global;
 
 // The identifier of the domain: that of the root.
 #[tactic(auto, unfolding(ad_dir_model::specs::Identity::domain_sid))]
@@ -55,25 +52,13 @@ fn wanted(alloc: Global, dir: &Dir, verb: Verb, text: &[u8]) -> Result<Change, S
     }
 }
 
-// The object that has the name of the text: none where no object has it, and where the text is no name's.
 #[tactic(auto, unfolding(crate::specs::Lists::number_named))]
-fn number_named(alloc: Global, dir: &Dir, text: &[u8]) -> Result<Option<u32>, AllocError>
-    ensures named { IfOk result (λ number. number ≡ number_named dir.now text.now) }
-    ensures live { IfOk result (λ number. IfSome number (λ n. is_live dir.now.objects n ≡ true)) }
-{
-    match ad_dn::read(alloc, text) {
-        Ok(dn) => dir.find(alloc, &dn),
-        Err(DnFault::Bad { place: _ }) => Ok(None),
-        Err(DnFault::Memory) => Err(AllocError),
-    }
-}
-
 fn named(alloc: Global, dir: &Dir, text: &[u8]) -> Result<u32, Stop>
     ensures named { GivesUnless is_memory_stop (λ number. number) result
         (or_bad kind.Name (number_named dir.now text.now)) }
     ensures live { IfOk result (λ number. is_live dir.now.objects number ≡ true) }
 {
-    match number_named(alloc, dir, text)? {
+    match number_of_name(alloc, dir, text)? {
         Some(number) => Ok(number),
         None => Err(Stop::Bad(GrantKind::Name)),
     }

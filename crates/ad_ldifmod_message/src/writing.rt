@@ -9,7 +9,7 @@ ghost use Rattle.ad_ldap.specs.Reply.{values_bytes, attr_bytes, attrs_bytes, ent
 ghost use Rattle.ad_ldap.specs.MessageValue.{op_seen, message_seen};
 ghost use Rattle.ad_ldap.specs.Messages.{SpellsMessage};
 ghost use Rattle.ad_ldifmod_message.specs.Written.{truth_bytes, option_bytes, item_bytes, modify_body, rename_body};
-ghost use Rattle.ad_ldifmod_message.specs.Written.{op_bytes, IsChange, control_bytes, controls_bytes, message_bytes};
+ghost use Rattle.ad_ldifmod_message.specs.Written.{op_bytes, control_bytes, controls_bytes, message_bytes};
 ghost use Rattle.ad_ldifmod_message.specs.Written.{IsWritable};
 
 use ad_ber::{put, put_number};
@@ -155,7 +155,6 @@ fn rename_body(alloc: Global, rename: &Rename) -> Result<Vec<u8>, AllocError>
 
 #[tactic(auto, unfolding(crate::specs::Written::op_bytes))]
 fn put_op(alloc: Global, into: &mut Vec<u8>, op: &Op) -> Result<(), AllocError>
-    requires { IsChange (op_seen op.now) }
     ensures { OnOk result (into.new.items ≡ into.old.items ++ op_bytes (op_seen op.now)) }
 {
     match op {
@@ -163,7 +162,7 @@ fn put_op(alloc: Global, into: &mut Vec<u8>, op: &Op) -> Result<(), AllocError>
         Op::Add(add) => put(into, ADD_REQUEST, &add_body(alloc, add)?)?,
         Op::Delete(dn) => put(into, DELETE_REQUEST, dn.as_slice())?,
         Op::Rename(rename) => put(into, RENAME_REQUEST, &rename_body(alloc, rename)?)?,
-        _ => unreachable!(),
+        Op::Bind | Op::Unbind | Op::Search(_) | Op::Compare(_) | Op::Abandon | Op::Extended => {}
     }
     Ok(())
 }
@@ -220,7 +219,6 @@ fn put_controls(alloc: Global, into: &mut Vec<u8>, controls: &[Control]) -> Resu
 
 #[tactic(auto, unfolding(crate::specs::Written::message_bytes))]
 fn whole(alloc: Global, message: &Message) -> Result<Vec<u8>, AllocError>
-    requires { IsChange (op_seen message.now.op) }
     ensures { IfOk result (λ bytes. bytes.items ≡ message_bytes (message_seen message.now)) }
 {
     let mut body = Vec::new(alloc);

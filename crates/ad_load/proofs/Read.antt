@@ -23,7 +23,7 @@ use Rattle.ad_dir_model.specs.Object.{Stored, plain, link, Held, Object, linked,
 use Rattle.ad_dir_model.specs.Objects.{object_of, is_live, object_at, parent_at}
 use Rattle.ad_dir_model.specs.Tree.{root, IsPlaced}
 use Rattle.ad_dir_model.specs.Names.{same_folded}
-use Rattle.ad_dir_model.specs.Identity.{is_sid, sid_in, domain_sid, domain_child}
+use Rattle.ad_dir_model.specs.Identity.{is_sid, sid_in, domain_sid, domain_child, last_of}
 use Rattle.ad_dir_model.specs.Directory.{Directory}
 use Rattle.ad_dir_model.specs.Weight.{weight}
 use Rattle.ad_dir_model.specs.Soundness.{default_reads, IsStored, IsHeld, IsContent, LinksAreLive, HasOwnName}
@@ -36,7 +36,7 @@ use Rattle.ad_load_records.specs.Faults.{of_all}
 use Rattle.ad_load_objects.specs.Through.{through}
 use Rattle.ad_load_objects.specs.Drafts.{Draft, naming_value, draft_sid}
 use Rattle.ad_load_objects.specs.Objects.{is_sibling, is_taken, has_sid, is_sid_used}
-use Rattle.ad_load.specs.Links.{domain_of, rid_if, rid_of, last_of, above, above_all, next_rid, meta_of}
+use Rattle.ad_load.specs.Links.{domain_of, rid_if, rid_of, above, above_all, next_rid, meta_of}
 use Rattle.ad_load.specs.Links.{directory_with, is_shallow, is_within_limits, with_default, all_defaults}
 use Rattle.ad_load_objects.proofs.Through.{first_through}
 use Rattle.ad_load_records.proofs.Inverting.{and_true}

@@ -7,16 +7,9 @@ use Rattle.std.specs.Option.{option_map}
 use Rattle.std.proofs.lemmas.Bool.{eq-eqb, ne_eqb}
 use Rattle.std.proofs.lemmas.List.{length-map}
 use Rattle.std.proofs.lemmas.Option.{slice_get-map}
-use Rattle.ad_ids.specs.declared.guid.Guid.{Guid}
 use Rattle.ad_sd.specs.declared.parts.Sd.{Sd}
 use Rattle.ad_inherit.specs.Whole.{explicit_part, whole}
-use Rattle.ad_schema.specs.declared.line.Line.{Line}
 use Rattle.ad_schema.specs.declared.line.SchemaRecord.{SchemaRecord}
-use Rattle.ad_schema.specs.declared.line.SchemaKind.TheVariants.{Attribute, Class}
-use Rattle.ad_schema.specs.declared.info.ClassInfo.{ClassInfo}
-use Rattle.ad_schema.specs.Attributes.{no_guid, lines_of, names_of}
-use Rattle.ad_schema.specs.Classes.{superclasses, own_namings, cn_of, class_guid, class_guids, class_info}
-use Rattle.ad_schema.specs.Classes.{class_infos, classes_of}
 use Rattle.ad_dir_model.specs.Object.{Object, no_object}
 use Rattle.ad_dir_model.specs.Objects.{object_of, object_at}
 use Rattle.ad_dir_model.specs.Tree.{root, IsPlaced}
@@ -31,25 +24,6 @@ use Rattle.ad_dir_objects.specs.declared.object.Object.{Object as ObjectIn}
 use Rattle.ad_load.specs.Seen.{entry_seen}
 use Rattle.ad_load.specs.Settling.{AreInOrder, HasPlaceAbove, at_place, settled_of, with_sd_at}
 use Rattle.ad_load_objects.proofs.Places.{some_is, some_at, within, at_take, length_take}
-
--- ---- the GUID of a class
-
-infos_guid : (above own : List (Option ℕ)) (cn n i : ℕ) (lines : List (List Line))
-    → option_map (λ (info : ClassInfo). info.guid) (slice_get (class_infos above own cn n lines) i)
-    ≡ slice_get (map class_guid lines) i
-unfolding class_infos class_info
-infos_guid above own cn n i [] = refl
-infos_guid above own cn n zero (first ∷ lines) = refl
-infos_guid above own cn n (suc i) (first ∷ lines) = infos_guid above own cn (n + 1) i lines
-
-pub guid_is : (schema : List SchemaRecord) (class : ℕ) (found : Option ClassInfo)
-    → slice_get (classes_of schema) class ≡ found → unwrap_or
-    (option_map (λ (info : ClassInfo). info.guid) found) no_guid ≡ guid_at schema class
-unfolding classes_of class_guids guid_at
-guid_is schema class found is =
-    ap (λ (o : Option ClassInfo). unwrap_or (option_map (λ (info : ClassInfo). info.guid) o) no_guid) (sym is)
-    ∙ ap (λ (o : Option Guid). unwrap_or o no_guid) (infos_guid (superclasses schema) (own_namings schema)
-    (cn_of (names_of Attribute schema)) 0 class (lines_of Class schema))
 
 -- ---- one object
 

@@ -1,6 +1,6 @@
 -- Phase 4: the links in the same order, and then the limits and the default texts.
 use Rattle.std.specs.Prelude.{ℕ, ◌+◌, ◌-◌, nat_le, nat_lt, Bool, ◌==◌, ◌&&◌, if◌then◌else◌, Option, Some}
-use Rattle.std.specs.Prelude.{None, ok_or, List, [], ◌∷◌, ◌++◌, length, drop, slice_get, Result, Ok}
+use Rattle.std.specs.Prelude.{None, ok_or, List, [], ◌∷◌, ◌++◌, length, drop, Result, Ok}
 use Rattle.std.specs.Option.{option_and_then}
 use Rattle.std.specs.List.{list_all}
 use Rattle.ad_bytes.specs.Reading.{◌>>=◌, need}
@@ -20,7 +20,7 @@ use Rattle.ad_dir_model.specs.Limits.{max_objects, max_depth, max_weight, max_te
 use Rattle.ad_dir_model.specs.Object.{Stored, plain, link, Held, Object}
 use Rattle.ad_dir_model.specs.Directory.{Meta, Directory}
 use Rattle.ad_dir_model.specs.Weight.{weight}
-use Rattle.ad_dir_model.specs.Identity.{is_sid}
+use Rattle.ad_dir_model.specs.Identity.{is_sid, last_of}
 use Rattle.ad_dir_model.specs.Soundness.{default_reads}
 use Rattle.ad_load_records.specs.declared.fault.LoadFault.{LoadFault}
 use Rattle.ad_load_records.specs.declared.fault.LoadCause.TheVariants as cause
@@ -98,10 +98,6 @@ unfoldable pub objects_of : List SchemaRecord → List Draft → Result (List Ob
 objects_of schema drafts = through (with_object schema drafts (domain_of schema drafts)) [] drafts
 
 -- ---- the counters
-
--- the last of these numbers
-abbrev pub last_of : List ℕ → Option ℕ
-last_of numbers = slice_get numbers (length numbers - 1)
 
 -- the number, where the identifier is the domain's and this number more
 abbrev pub rid_if : SidValue → SidValue → ℕ → Option ℕ

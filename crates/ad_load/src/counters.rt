@@ -2,24 +2,18 @@
 
 ghost use Rattle.std.specs.Prelude.{◌≡◌, ◌≤◌, ◌^◌, map, drop, IfOk};
 ghost use Rattle.std.specs.Option.{option_copied, option_and_then};
-ghost use Rattle.ad_load.specs.Links.{last_of, rid_if, rid_of, above, above_all, first_rid, next_rid, root_rdns};
+ghost use Rattle.ad_load.specs.Links.{rid_if, rid_of, above, above_all, first_rid, next_rid, root_rdns};
 ghost use Rattle.ad_ids.specs.SidChild.{child_of};
 ghost use Rattle.ad_dir_model.specs.Identity.{is_sid};
 ghost use Rattle.ad_load_objects.specs.Drafts.{draft_sid};
 ghost use Rattle.ad_load_objects.specs.Seen.{draft_seen};
 
+use ad_dir_objects::last_of;
 use ad_dn::Dn;
 use ad_ids::Sid;
 use ad_load_objects::{Draft, draft_sid};
 use ad_schema::Schema;
 use std::alloc::{AllocError, Global};
-
-// The last of these numbers.
-fn last_of(numbers: &[u32]) -> Option<u32>
-    ensures { result ≡ last_of numbers.now }
-{
-    numbers.get(numbers.len().saturating_sub(1)).copied()
-}
 
 // Whether an identifier is the domain's and this number more.
 fn is_child(domain: &Sid, number: u32, sid: &Sid) -> bool

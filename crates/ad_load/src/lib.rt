@@ -30,7 +30,6 @@ mod directory;
 mod limits;
 mod links;
 mod parts;
-mod repeated;
 mod settle;
 
 pub use ad_load_records::{LoadCause, LoadFault};

@@ -1,38 +1,19 @@
 //! Inheritance: each object's descriptor, computed from the root.
 
-ghost use Rattle.std.specs.Prelude.{◌≡◌, ◌<◌, slice_get, map, length, IfOk, OnOk};
-ghost use Rattle.std.specs.Option.{option_copied};
-ghost use Rattle.ad_schema.specs.Classes.{classes_of};
+ghost use Rattle.std.specs.Prelude.{◌≡◌, ◌<◌, map, length, IfOk, OnOk};
 ghost use Rattle.ad_dir_objects.specs.Seen.{meta_seen};
 ghost use Rattle.ad_inherit.specs.Whole.{explicit_part};
 ghost use Rattle.ad_dir_model.specs.Conditions.{IsAllRead};
-ghost use Rattle.ad_dir_model.specs.Inheritance.{guid_at};
 ghost use Rattle.ad_load.specs.Seen.{entry_seen};
 ghost use Rattle.ad_load.specs.Settling.{AreInOrder, HasPlaceAbove, settled_of, with_sd_at, unsettled_with};
 ghost use Rattle.ad_load.specs.Settling.{all_settled};
 
-use crate::repeated::{WholeSd, whole_again};
-use ad_dir::{Meta, Object};
-use ad_ids::Guid;
+use ad_dir::{Meta, Object, guid_of};
 use ad_inherit::explicit;
-use ad_schema::{ClassId, ClassInfo, Schema};
+use ad_inherit_kept::{WholeSd, whole_again};
+use ad_schema::Schema;
 use ad_sd::NormalSd;
 use std::alloc::{AllocError, Global};
-
-fn info_of(schema: &Schema, class: ClassId) -> Option<&ClassInfo>
-    ensures { option_copied result ≡ slice_get (classes_of schema.now) class.0 }
-{
-    schema.classes().get(class.0 as usize)
-}
-
-fn guid_of(schema: &Schema, class: ClassId) -> Guid
-    ensures { result ≡ guid_at schema.now class.0 }
-{
-    match info_of(schema, class) {
-        Some(info) => info.guid,
-        None => Guid { bytes: [0; 16] },
-    }
-}
 
 // The root's descriptor.
 fn root_sd(alloc: Global, own: &NormalSd) -> Result<NormalSd, AllocError>
@@ -60,7 +41,8 @@ fn settled_at(
         return root_sd(alloc, &own.1);
     }
     let above = &objects[own.0.parent as usize - 1];
-    whole_again(alloc, last, &above.1, &own.1, guid_of(schema, own.0.class))
+    let class = guid_of(schema, own.0.class);
+    whole_again(alloc, last, above.1.view(), own.1.view(), class)
 }
 
 // Gives the object at a place this descriptor.

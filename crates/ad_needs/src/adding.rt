@@ -151,28 +151,36 @@ fn unless_creates(
 
 // ---- the checks
 
+// An Add of an object of this class below a parent, and the parts of a descriptor that are asked for.
+#[derive(Drop)]
+struct Adding<'a> {
+    parent: u32,
+    class: ClassId,
+    add: &'a Add,
+    flags: u8,
+}
+
 // The refusal where an attribute is unlawful, or what an Add of this descriptor needs is missing.
 fn unless_adds(
     alloc: Global,
     dir: &Dir,
     token: &Token,
-    parent: u32,
+    added: &Adding<'_>,
     rdn: &Rdn,
-    class: ClassId,
-    add: &Add,
     sd: &Option<SdParts>,
 ) -> Result<Option<Verdict>, AllocError>
-    requires parent { is_live dir.now.objects parent ≡ true }
-    requires class { class.0 < length (classes_of dir.now.schema) }
+    requires parent { is_live dir.now.objects added.now.parent ≡ true }
+    requires class { added.now.class.0 < length (classes_of dir.now.schema) }
     ensures { IfOk result (λ refusal. refusal
-        ≡ refusal_of (flat_map (own_checks dir.now.schema class.0 rdn.now.value)
-        (all_ordinary dir.now.schema add.now)
-        ++ all_met dir.now token.now (add_needs dir.now parent class.0 sd.now))) }
+        ≡ refusal_of (flat_map (own_checks dir.now.schema added.now.class.0 rdn.now.value)
+        (all_ordinary dir.now.schema added.now.add.now)
+        ++ all_met dir.now token.now
+        (add_needs dir.now added.now.parent added.now.class.0 sd.now))) }
 {
-    let attrs = add.attrs.as_slice();
-    match unless_all_lawful(dir.schema(), class, rdn.value.as_slice(), attrs) {
+    let attrs = added.add.attrs.as_slice();
+    match unless_all_lawful(dir.schema(), added.class, rdn.value.as_slice(), attrs) {
         Some(refusal) => Ok(Some(refusal)),
-        None => unless_creates(alloc, dir, token, parent, class, sd),
+        None => unless_creates(alloc, dir, token, added.parent, added.class, sd),
     }
 }
 
@@ -182,29 +190,27 @@ fn judged_with(
     alloc: Global,
     dir: &Dir,
     token: &Token,
-    parent: u32,
+    added: &Adding<'_>,
     rdn: Rdn,
-    class: ClassId,
-    add: &Add,
-    flags: u8,
     sd: Option<SdParts>,
 ) -> Result<Verdict, AllocError>
-    requires parent { is_live dir.now.objects parent ≡ true }
-    requires class { class.0 < length (classes_of dir.now.schema) }
-    requires other { is_schema_class dir.now.schema class.0 ≡ false }
-    requires typed { is_typed dir.now.schema class.0 rdn ≡ true }
-    requires sent { Some sd ≡ sd_sent add.now }
-    ensures { IfOk result (λ verdict. verdict ≡ class_judged dir.now token.now parent rdn class.0
-        add.now flags) }
+    requires parent { is_live dir.now.objects added.now.parent ≡ true }
+    requires class { added.now.class.0 < length (classes_of dir.now.schema) }
+    requires other { is_schema_class dir.now.schema added.now.class.0 ≡ false }
+    requires typed { is_typed dir.now.schema added.now.class.0 rdn ≡ true }
+    requires sent { Some sd ≡ sd_sent added.now.add.now }
+    ensures { IfOk result (λ verdict. verdict
+        ≡ class_judged dir.now token.now added.now.parent rdn added.now.class.0 added.now.add.now
+        added.now.flags) }
 {
-    let sd = asked_of(flags, sd);
-    match unless_adds(alloc, dir, token, parent, &rdn, class, add, &sd)? {
+    let sd = asked_of(added.flags, sd);
+    match unless_adds(alloc, dir, token, added, &rdn, &sd)? {
         Some(refusal) => Ok(refusal),
         None => {
-            let values = new_values(alloc, dir.schema(), class, add)?;
+            let values = new_values(alloc, dir.schema(), added.class, added.add)?;
             Ok(Verdict::Granted(Act::Add {
-                parent,
-                class,
+                parent: added.parent,
+                class: added.class,
                 name: rdn.value,
                 values,
                 sd,
@@ -218,25 +224,23 @@ fn judged_of_class(
     alloc: Global,
     dir: &Dir,
     token: &Token,
-    parent: u32,
+    added: &Adding<'_>,
     rdn: Rdn,
-    class: ClassId,
-    add: &Add,
-    flags: u8,
 ) -> Result<Verdict, AllocError>
-    requires parent { is_live dir.now.objects parent ≡ true }
-    requires class { class.0 < length (classes_of dir.now.schema) }
-    ensures { IfOk result (λ verdict. verdict ≡ class_judged dir.now token.now parent rdn class.0
-        add.now flags) }
+    requires parent { is_live dir.now.objects added.now.parent ≡ true }
+    requires class { added.now.class.0 < length (classes_of dir.now.schema) }
+    ensures { IfOk result (λ verdict. verdict
+        ≡ class_judged dir.now token.now added.now.parent rdn added.now.class.0 added.now.add.now
+        added.now.flags) }
 {
-    if is_schema_class(dir.schema(), class) {
+    if is_schema_class(dir.schema(), added.class) {
         return Ok(Verdict::Refused(result_code::UNWILLING_TO_PERFORM));
     }
-    if !is_typed(dir.schema(), class, &rdn) {
+    if !is_typed(dir.schema(), added.class, &rdn) {
         return Ok(Verdict::Refused(result_code::NAMING_VIOLATION));
     }
-    match sd_sent(alloc, add)? {
-        Some(sd) => judged_with(alloc, dir, token, parent, rdn, class, add, flags, sd),
+    match sd_sent(alloc, added.add)? {
+        Some(sd) => judged_with(alloc, dir, token, added, rdn, sd),
         None => Ok(Verdict::Refused(result_code::CONSTRAINT_VIOLATION)),
     }
 }
@@ -262,7 +266,13 @@ fn judged_below(
     let Some(class) = new_class(alloc, dir, add)? else {
         return Ok(Verdict::Refused(result_code::OBJECT_CLASS_VIOLATION));
     };
-    judged_of_class(alloc, dir, token, parent, rdn, class, add, flags)
+    let added = Adding {
+        parent,
+        class,
+        add,
+        flags,
+    };
+    judged_of_class(alloc, dir, token, &added, rdn)
 }
 
 // ---- the name

@@ -2,7 +2,7 @@
 
 ghost use Rattle.std.specs.Prelude.{◌≡◌, IfOk};
 ghost use Rattle.ad_ldap.specs.MessageValue.{op_seen};
-ghost use Rattle.ad_needs.specs.Verdicts.{IsChange, verdict_of};
+ghost use Rattle.ad_needs.specs.Verdicts.{verdict_of};
 
 use crate::adding::add_verdict;
 use crate::deleting::delete_verdict;
@@ -10,16 +10,17 @@ use crate::modifying::modify_verdict;
 use crate::renaming::rename_verdict;
 use ad_dir::Dir;
 use ad_ids::Token;
-use ad_ldap::{Op, Settings};
+use ad_ldap::{Op, Settings, result_code};
 use ad_needs_rules::Verdict;
 use std::alloc::{AllocError, Global};
 
 /// The first check that fails of an Add, a Delete, a Rename or a Modify, after the controls and up to what it
-/// needs; or what it asks for.
+/// needs; or what it asks for. No other operation changes a directory: it is refused.
 ///
 /// # Errors
 ///
 /// Memory ran out.
+#[tactic(auto, unfolding(crate::specs::Verdicts::verdict_of))]
 pub fn verdict(
     alloc: Global,
     dir: &Dir,
@@ -27,7 +28,6 @@ pub fn verdict(
     op: &Op,
     settings: &Settings,
 ) -> Result<Verdict, AllocError>
-    requires change { IsChange (op_seen op.now) }
     ensures { IfOk result (λ verdict. verdict ≡ verdict_of dir.now token.now (op_seen op.now)
         settings.now) }
 {
@@ -36,6 +36,8 @@ pub fn verdict(
         Op::Delete(dn) => delete_verdict(alloc, dir, token, dn.as_slice(), settings),
         Op::Rename(rename) => rename_verdict(alloc, dir, token, rename),
         Op::Modify(modify) => modify_verdict(alloc, dir, token, modify, settings),
-        _ => unreachable!(),
+        Op::Bind | Op::Unbind | Op::Search(_) | Op::Compare(_) | Op::Abandon | Op::Extended => {
+            Ok(Verdict::Refused(result_code::UNWILLING_TO_PERFORM))
+        }
     }
 }

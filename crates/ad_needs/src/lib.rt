@@ -21,8 +21,8 @@
 //!
 //! # The caller owes
 //!
-//! One of the four operations that change. Of the parts that are public beside it: for `parent_named` a name with a
-//! part, for `is_first` the flags of the items before.
+//! Nothing for the verdict. Of the parts that are public beside it: for `parent_named` a name with a part, for
+//! `is_first` the flags of the items before.
 //!
 //! # Cost
 //!

@@ -1,13 +1,11 @@
 //! Modify: its checks up to the required rights.
 
-ghost use Rattle.std.specs.Prelude.{◌≡◌, ◌≤◌, ◌++◌, true, option_to_list, IfOk, OnOk};
-ghost use Rattle.std.specs.List.{AllByRecursion};
+ghost use Rattle.std.specs.Prelude.{◌≡◌, ◌++◌, true, option_to_list, IfOk, OnOk};
 ghost use Rattle.ad_ldap.specs.MessageValue.{ModifyOf};
 ghost use Rattle.ad_dir_model.specs.Objects.{is_live};
 ghost use Rattle.ad_needs.specs.Modifying.{act_item, act_items};
 ghost use Rattle.ad_needs.specs.Verdicts.{verdict_of};
 ghost use Rattle.ad_needs.specs.ItemWords.{act_at, verdict_at, verdict_named};
-ghost use Rattle.ad_ldap.specs.Choices.{replace_values};
 
 use crate::item_checks::items_refusal;
 use crate::modify_needs::{needs_refusal, written_sd};
@@ -134,7 +132,6 @@ pub(crate) fn modify_verdict(
     modify: &Modify,
     settings: &Settings,
 ) -> Result<Verdict, AllocError>
-    requires { AllByRecursion (λ item. item.op ≤ replace_values) modify.now.items }
     ensures { IfOk result (λ verdict. verdict ≡ verdict_of dir.now token.now (ModifyOf modify.now)
         settings.now) }
 {

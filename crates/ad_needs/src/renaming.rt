@@ -8,7 +8,7 @@ ghost use Rattle.ad_schema.specs.Attributes.{attrs_of};
 ghost use Rattle.ad_schema.specs.Classes.{classes_of, naming_of};
 ghost use Rattle.ad_dir_model.specs.Objects.{is_live};
 ghost use Rattle.ad_dir_model.specs.Tree.{root};
-ghost use Rattle.ad_dir_model.specs.Attributes.{attr_name, attr_place};
+ghost use Rattle.ad_dir_model.specs.Attributes.{attr_place};
 ghost use Rattle.ad_dir_model.specs.Changes.{goes_with};
 ghost use Rattle.ad_needs_rules.specs.Checks.{all_met};
 ghost use Rattle.ad_needs_rules.specs.Requests.{class_at, name_in};
@@ -19,7 +19,7 @@ ghost use Rattle.ad_needs_rules.specs.Judged.{refusal_of};
 ghost use Rattle.ad_needs.specs.Verdicts.{verdict_of};
 
 use crate::deleting::unless_leaves;
-use ad_dir::{Act, Dir, class_of, live_object, naming_of, parent_of};
+use ad_dir::{Act, Dir, class_of, live_object, naming_name, naming_of, parent_of};
 use ad_dn::{Dn, Rdn};
 use ad_ids::Token;
 use ad_ldap::{Rename, result_code};
@@ -51,15 +51,6 @@ fn read_rdn(alloc: Global, text: &[u8]) -> Result<Option<Rdn>, AllocError>
         Some(dn) => only_part(alloc, &dn),
         None => Ok(None),
     }
-}
-
-// The name of the attribute that names the objects of a class.
-fn naming_name(schema: &Schema, class: ClassId) -> &[u8]
-    requires { class.0 < length (classes_of schema.now) }
-    ensures { result.now ≡ attr_name schema.entry.now (naming_of schema.entry.now class.0) }
-{
-    let naming = schema.class_info(class).naming;
-    schema.attr_info(naming).name.as_slice()
 }
 
 /// Whether the type of a part is the naming attribute of the class.

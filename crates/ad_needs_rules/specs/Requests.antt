@@ -1,14 +1,16 @@
 -- What the names in a request represent.
 use Rattle.std.specs.Prelude.{ℕ, Bool, false, Option, option_map, is_some, unwrap_or, codes, List, [], ◌∷◌}
-use Rattle.std.specs.Option.{option_map_or}
+use Rattle.std.specs.Option.{option_and_then, option_map_or}
 use Rattle.ad_ids.specs.declared.guid.Guid.{Guid}
 use Rattle.ad_ids.specs.declared.token.Token.{Token}
 use Rattle.ad_dn.specs.declared.rdn.Rdn.{Rdn}
+use Rattle.ad_dn.specs.declared.rdn.Dn.{Dn}
 use Rattle.ad_dn.specs.Reading.{dn_of}
 use Rattle.ad_schema_classes.specs.Names.{same_name}
 use Rattle.ad_schema.specs.declared.line.SchemaRecord.{SchemaRecord}
 use Rattle.ad_types.specs.TypesOf.{path_of}
 use Rattle.ad_dir_model.specs.Objects.{object_at}
+use Rattle.ad_dir_model.specs.Names.{found}
 use Rattle.ad_dir_model.specs.Attributes.{attr_place}
 use Rattle.ad_dir_model.specs.Directory.{Directory}
 use Rattle.ad_dir_model.specs.Inheritance.{guid_at}
@@ -30,6 +32,10 @@ no_rdn = record { kind = []; value = [] }
 
 abbrev pub parts_in : List ℕ → List Rdn
 parts_in text = unwrap_or (name_in text) []
+
+-- the object that has the name of the text: none where no object has it, and where the text is no name's
+abbrev pub number_of_name : Directory → List ℕ → Option ℕ
+number_of_name dir text = option_and_then (λ (dn : Dn). found dir dn.rdns) (dn_of text)
 
 -- the visible object that a text names; 0, which is no object's number, where there is none
 unfoldable pub object_named : Directory → Token → List ℕ → Option ℕ

@@ -12,8 +12,9 @@
 //! # Proved
 //!
 //! A name leads to its object exactly where the token sees it, and else what is told is the nearest name above that
-//! it sees. A required right is missing exactly where none of its alternatives is granted, and its text is that of
-//! the rules. A validated write is found exactly where all items of the attribute are one.
+//! it sees; `number_of_name` finds it whoever asks. A required right is missing exactly where none of its alternatives
+//! is granted, and its text is that of the rules. A validated write is found exactly where all items of the attribute
+//! are one.
 //!
 //! # The caller owes
 //!
@@ -38,7 +39,7 @@ mod validated;
 pub use asking::{Ask, Right, is_granted, mask_of, on_children, on_object, to_do, to_write};
 pub use descriptor::{asked_in, asked_of, has_asked_part, has_owner_or_group, sd_in_one};
 pub use missing::{unless_either, unless_granted};
-pub use naming::{ROOT, is_descriptor, is_password, matched, read_name, visible};
+pub use naming::{ROOT, is_descriptor, is_password, matched, number_of_name, read_name, visible};
 pub use need::{Need, Want};
 pub use outcome::Verdict;
 pub use standing::{MAX_DEPTH, goes_with, is_below, parent_number};

@@ -7,11 +7,11 @@ ghost use Rattle.ad_schema.specs.Attributes.{attrs_of};
 ghost use Rattle.ad_schema.specs.Classes.{classes_of};
 ghost use Rattle.ad_dir_model.specs.Objects.{is_live};
 ghost use Rattle.ad_access_dir.specs.Sight.{if_visible, visible_of, matched};
-ghost use Rattle.ad_needs_rules.specs.Requests.{class_path, attr_path, is_descriptor, is_password};
+ghost use Rattle.ad_needs_rules.specs.Requests.{number_of_name, class_path, attr_path, is_descriptor};
+ghost use Rattle.ad_needs_rules.specs.Requests.{is_password};
 
 use ad_access_dir::is_visible;
-use ad_dir::Dir;
-use ad_dir_write::guid_of;
+use ad_dir::{Dir, guid_of};
 use ad_dn::{Dn, DnFault};
 use ad_ids::Token;
 use ad_schema::{AttrId, ClassId, Schema};
@@ -36,6 +36,22 @@ pub fn read_name(alloc: Global, text: &[u8]) -> Result<Option<Dn>, AllocError>
         Ok(dn) => Ok(Some(dn)),
         Err(DnFault::Bad { .. }) => Ok(None),
         Err(DnFault::Memory) => Err(AllocError),
+    }
+}
+
+/// The object that has the name of the text, whoever sees it: none where no object has it, and where the text is no
+/// name's. It is live.
+///
+/// # Errors
+///
+/// Memory ran out.
+pub fn number_of_name(alloc: Global, dir: &Dir, text: &[u8]) -> Result<Option<u32>, AllocError>
+    ensures named { IfOk result (λ number. number ≡ number_of_name dir.now text.now) }
+    ensures live { IfOk result (λ number. IfSome number (λ n. is_live dir.now.objects n ≡ true)) }
+{
+    match read_name(alloc, text)? {
+        Some(dn) => dir.find(alloc, &dn),
+        None => Ok(None),
     }
 }
 

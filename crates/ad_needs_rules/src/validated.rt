@@ -12,8 +12,9 @@ ghost use Rattle.ad_needs_rules.specs.Validated.{is_own_host_name, validated_wri
 ghost use Rattle.ad_needs_rules.specs.OwnWrites.{is_valid, write_guid, is_of_computer, write_of, guid_if};
 
 use crate::hosts::{are_own_services, is_full_name};
+use crate::naming::read_name;
 use ad_dir::{Dir, is_named, live_object};
-use ad_dn::{Dn, DnFault};
+use ad_dn::Dn;
 use ad_ids::{Guid, Sid, Token};
 use ad_ldap::{DELETE_VALUES, Item, REPLACE_VALUES};
 use ad_schema::{AttrId, RuleAttr, Schema};
@@ -86,10 +87,9 @@ fn is_of_user(alloc: Global, dir: &Dir, token: &Token, dn: &Dn) -> Result<bool, 
 fn names_user(alloc: Global, dir: &Dir, token: &Token, value: &[u8]) -> Result<bool, AllocError>
     ensures { IfOk result (λ is. is ≡ names_user dir.now token.now value.now) }
 {
-    match ad_dn::read(alloc, value) {
-        Ok(dn) => is_of_user(alloc, dir, token, &dn),
-        Err(DnFault::Bad { .. }) => Ok(false),
-        Err(DnFault::Memory) => Err(AllocError),
+    match read_name(alloc, value)? {
+        Some(dn) => is_of_user(alloc, dir, token, &dn),
+        None => Ok(false),
     }
 }
 

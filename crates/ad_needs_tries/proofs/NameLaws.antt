@@ -1,12 +1,12 @@
 -- What the names in an operation represent.
-use Rattle.std.proofs.Common.{◌≡◌, ℕ, Bool, true, List, [], Option, Some, None, sym, ap, ◌∙◌}
-use Rattle.std.specs.Prelude.{is_some, unwrap_or, drop}
-use Rattle.std.proofs.lemmas.Bool.{both_ways}
+use Rattle.std.proofs.Common.{◌≡◌, ℕ, Bool, true, List, [], length, Option, Some, None, refl, ap, ◌∙◌}
+use Rattle.std.specs.Prelude.{◌==◌, not, is_some, option_map, unwrap_or, drop}
 use Rattle.ad_ids.specs.declared.token.Token.{Token}
 use Rattle.ad_sd.specs.declared.parts.SdParts.{SdParts}
 use Rattle.ad_dn.specs.declared.rdn.Rdn.{Rdn}
 use Rattle.ad_dn.specs.declared.rdn.Dn.{Dn}
 use Rattle.ad_dn.specs.Reading.{dn_of}
+use Rattle.ad_schema.specs.declared.info.ClassId.{ClassId}
 use Rattle.ad_ldap.specs.declared.controls.Settings.{Settings}
 use Rattle.ad_ldap.specs.declared.requests.Add.{Add}
 use Rattle.ad_ldap.specs.declared.requests.Modify.{Modify}
@@ -16,9 +16,9 @@ use Rattle.ad_types.specs.declared.tried.Tried.{Tried}
 use Rattle.ad_dir_model.specs.Directory.{Directory}
 use Rattle.ad_access_dir.specs.Sight.{visible_of}
 use Rattle.ad_tried.specs.Tried.{tried_values}
-use Rattle.ad_needs_rules.specs.Requests.{object_named, number_named}
+use Rattle.ad_needs_rules.specs.Requests.{is_name, object_named, number_named}
 use Rattle.ad_needs_rules.proofs.NameChecks.{object_read, parts_read}
-use Rattle.ad_needs.specs.Adding.{parent_named, parent_number, class_number, new_sd, add_needs}
+use Rattle.ad_needs.specs.Adding.{has_parts, parent_named, parent_number, new_class, class_number, new_sd, add_needs}
 use Rattle.ad_needs.specs.Deleting.{delete_needs}
 use Rattle.ad_needs.specs.Renaming.{new_parent, rename_needs}
 use Rattle.ad_needs.specs.Modifying.{modify_needs}
@@ -29,12 +29,19 @@ use Rattle.ad_needs_tries.proofs.StepLaws.{tried_all}
 
 -- ---- objects
 
-pub never_none : (dir : Directory) (token : Token) (text : List ℕ) (dn : Dn) (found : Option ℕ)
+-- a text that is a name's is read
+pub name_there : (text : List ℕ) (read : Option Dn) → is_name text ≡ true → read ≡ dn_of text → is_some read ≡ true
+name_there text read name is = by read (ap (λ (r : Option Dn). is_some (option_map (λ (dn : Dn). dn.rdns) r)) is ∙ name)
+  where
+    by : (r : Option Dn) → is_some (option_map (λ (dn : Dn). dn.rdns) r) ≡ true → is_some r ≡ true
+    by None e = e
+    by (Some dn) e = refl
+
+pub object_there : (dir : Directory) (token : Token) (text : List ℕ) (dn : Dn) (found : Option ℕ)
     → is_some (object_named dir token text) ≡ true → Some dn ≡ dn_of text
-    → found ≡ visible_of dir token dn.rdns → found ≡ None → ⊥
-never_none dir token text dn found seen some is none =
-    both_ways (is_some (object_named dir token text))
-    (ap (λ (f : Option ℕ). is_some f) (sym (object_read dir token text dn found some is) ∙ none)) seen
+    → found ≡ visible_of dir token dn.rdns → is_some found ≡ true
+object_there dir token text dn found seen some is =
+    ap (λ (f : Option ℕ). is_some f) (object_read dir token text dn found some is) ∙ seen
 
 parent_is : (dir : Directory) (token : Token) (a : Add) (dn : Dn) (found : Option ℕ) → Some dn ≡ dn_of a.dn → found
     ≡ visible_of dir token (drop 1 dn.rdns) → found ≡ parent_named dir token a
@@ -42,17 +49,37 @@ unfolding parent_named
 parent_is dir token a dn found some is = is ∙ ap (λ (rdns : List Rdn). visible_of dir token (drop 1 rdns))
     (parts_read a.dn dn some)
 
-pub parent_never_none : (dir : Directory) (token : Token) (a : Add) (dn : Dn) (found : Option ℕ)
+-- a text that is a name's with parts is read
+pub parts_there : (a : Add) (read : Option Dn) → has_parts a ≡ true → read ≡ dn_of a.dn → is_some read ≡ true
+parts_there a read has is = by read (ap (λ (r : Option Dn). not (length (parts r) == 0)) is ∙ has)
+  where
+    parts : Option Dn → List Rdn
+    parts r = unwrap_or (option_map (λ (dn : Dn). dn.rdns) r) []
+
+    by : (r : Option Dn) → not (length (parts r) == 0) ≡ true → is_some r ≡ true
+    by None e = e
+    by (Some dn) e = refl
+
+pub parent_there : (dir : Directory) (token : Token) (a : Add) (dn : Dn) (found : Option ℕ)
     → is_some (parent_named dir token a) ≡ true → Some dn ≡ dn_of a.dn
-    → found ≡ visible_of dir token (drop 1 dn.rdns) → found ≡ None → ⊥
-parent_never_none dir token a dn found seen some is none =
-    both_ways (is_some (parent_named dir token a))
-    (ap (λ (f : Option ℕ). is_some f) (sym (parent_is dir token a dn found some is) ∙ none)) seen
+    → found ≡ visible_of dir token (drop 1 dn.rdns) → is_some found ≡ true
+parent_there dir token a dn found seen some is =
+    ap (λ (f : Option ℕ). is_some f) (parent_is dir token a dn found some is) ∙ seen
 
 pub parent_number_is : (dir : Directory) (token : Token) (a : Add) (dn : Dn) (number : ℕ) → Some dn ≡ dn_of a.dn
     → Some number ≡ visible_of dir token (drop 1 dn.rdns) → number ≡ parent_number dir token a
 parent_number_is dir token a dn number some is = ap (λ (f : Option ℕ). unwrap_or f 0)
     (parent_is dir token a dn (Some number) some is)
+
+-- ---- classes
+
+pub class_there : (dir : Directory) (a : Add) (class : Option ClassId) → is_some (new_class dir a) ≡ true
+    → option_map (λ (id : ClassId). id.0) class ≡ new_class dir a → is_some class ≡ true
+class_there dir a class some is = by class (ap (λ (k : Option ℕ). is_some k) is ∙ some)
+  where
+    by : (k : Option ClassId) → is_some (option_map (λ (id : ClassId). id.0) k) ≡ true → is_some k ≡ true
+    by None e = e
+    by (Some id) e = refl
 
 -- ---- what was tried
 

@@ -15,7 +15,7 @@
 //!
 //! # The caller owes
 //!
-//! One of the four operations that change.
+//! Nothing.
 //!
 //! # Cost
 //!

@@ -26,6 +26,14 @@ use ad_sd::SdParts;
 use ad_types::Tried;
 use std::alloc::{AllocError, Global};
 
+/// A Modify of an object: its items, and the parts of a descriptor that it writes.
+#[derive(Drop)]
+pub(crate) struct Modifying<'a> {
+    pub number: u32,
+    pub flags: u8,
+    pub items: &'a [Item],
+}
+
 // ---- the descriptor
 
 // The right for a part, where it is written.
@@ -202,30 +210,29 @@ fn try_if(
     into: &mut Vec<Tried>,
     dir: &Dir,
     token: &Token,
-    number: u32,
-    flags: u8,
-    items: &[Item],
+    all: &Modifying<'_>,
     name: &[u8],
     is_first: bool,
 ) -> Result<bool, AllocError>
-    requires { is_live dir.now.objects number ≡ true }
+    requires { is_live dir.now.objects all.now.number ≡ true }
     ensures { IfOk result (λ met. Steps dir.now token.now into.old.items
-        (needs_if is_first (named_needs dir.now token.now number flags items.now name.now))
+        (needs_if is_first
+        (named_needs dir.now token.now all.now.number all.now.flags all.now.items.now name.now))
         into.new.items met) }
 {
     if !is_first {
         return Ok(true);
     }
     if is_descriptor(name) {
-        return try_descriptor(alloc, into, dir, token, number, flags, items);
+        return try_descriptor(alloc, into, dir, token, all.number, all.flags, all.items);
     }
     if is_password(name) {
-        return try_password(alloc, into, dir, token, number, items, name);
+        return try_password(alloc, into, dir, token, all.number, all.items, name);
     }
-    try_ordinary(alloc, into, dir, token, number, items, name)
+    try_ordinary(alloc, into, dir, token, all.number, all.items, name)
 }
 
-/// What a Modify of a live object by these items requires.
+/// What a Modify of a live object requires.
 ///
 /// # Errors
 ///
@@ -235,20 +242,20 @@ pub(crate) fn try_modify(
     into: &mut Vec<Tried>,
     dir: &Dir,
     token: &Token,
-    number: u32,
-    flags: u8,
-    items: &[Item],
+    all: &Modifying<'_>,
 ) -> Result<bool, AllocError>
-    requires { is_live dir.now.objects number ≡ true }
+    requires { is_live dir.now.objects all.now.number ≡ true }
     ensures { IfOk result (λ met. Steps dir.now token.now into.old.items
-        (modify_needs dir.now token.now number flags items.now) into.new.items met) }
+        (modify_needs dir.now token.now all.now.number all.now.flags all.now.items.now)
+        into.new.items met) }
 {
+    let items = all.items;
     let mut named = none_named(alloc, dir.schema())?;
     'each: for i in 0..items.len() {
         let item = &items[i];
         let first = is_first(dir.schema(), named.as_mut_slice(), &items[..i], item);
         let name = item.attr.as_slice();
-        let goes = try_if(alloc, into, dir, token, number, flags, items, name, first)?;
+        let goes = try_if(alloc, into, dir, token, all, name, first)?;
         if !goes {
             return Ok(false);
         }

@@ -27,13 +27,10 @@ pub(crate) fn found(alloc: Global, dir: &Dir, token: &Token, text: &[u8]) -> Res
     ensures number { IfOk result (λ number. number ≡ number_named dir.now token.now text.now) }
     ensures live { IfOk result (λ number. is_live dir.now.objects number ≡ true) }
 {
-    let Some(dn) = read_name(alloc, text)? else {
-        unreachable!();
-    };
-    match visible(alloc, dir, token, &dn)? {
-        Some(number) => Ok(number),
-        None => unreachable!(),
-    }
+    let read = read_name(alloc, text)?;
+    let dn = read.unwrap();
+    let number = visible(alloc, dir, token, &dn)?;
+    Ok(number.unwrap())
 }
 
 // ---- Rename
@@ -83,13 +80,10 @@ pub(crate) fn parent_of_new(
     ensures number { IfOk result (λ number. number ≡ parent_number dir.now token.now add.now) }
     ensures live { IfOk result (λ number. is_live dir.now.objects number ≡ true) }
 {
-    let Some(dn) = read_name(alloc, add.dn.as_slice())? else {
-        unreachable!();
-    };
-    match parent_named(alloc, dir, token, &dn)? {
-        Some(number) => Ok(number),
-        None => unreachable!(),
-    }
+    let read = read_name(alloc, add.dn.as_slice())?;
+    let dn = read.unwrap();
+    let number = parent_named(alloc, dir, token, &dn)?;
+    Ok(number.unwrap())
 }
 
 /// The class of the object, which is one of the schema.
@@ -102,8 +96,6 @@ pub(crate) fn class_of_new(alloc: Global, dir: &Dir, add: &Add) -> Result<ClassI
     ensures class { IfOk result (λ class. class.0 ≡ class_number dir.now add.now) }
     ensures in_range { IfOk result (λ class. class.0 < length (classes_of dir.now.schema)) }
 {
-    match new_class(alloc, dir, add)? {
-        Some(class) => Ok(class),
-        None => unreachable!(),
-    }
+    let class = new_class(alloc, dir, add)?;
+    Ok(class.unwrap())
 }

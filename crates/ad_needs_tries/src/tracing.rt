@@ -1,14 +1,15 @@
 //! What an operation tries, requirement by requirement.
 
 ghost use Rattle.std.specs.Prelude.{◌≡◌, true, IfOk};
+ghost use Rattle.ad_ldap.specs.declared.controls.Settings.{Settings};
 ghost use Rattle.ad_ldap.specs.MessageValue.{op_seen, ModifyOf, AddOf, DeleteOf, RenameOf};
 ghost use Rattle.ad_tried.specs.Tried.{tried_values};
-ghost use Rattle.ad_needs.specs.Verdicts.{IsChange, verdict_of};
+ghost use Rattle.ad_needs.specs.Verdicts.{verdict_of};
 ghost use Rattle.ad_needs_tries.specs.Tries.{tries};
 ghost use Rattle.ad_needs_tries.specs.Traces.{requirements, reaches, trace_of};
 
 use crate::changing::{try_add, try_delete, try_rename};
-use crate::modifying::try_modify;
+use crate::modifying::{Modifying, try_modify};
 use crate::naming::{class_of_new, found, new_parent, parent_of_new};
 use ad_dir::Dir;
 use ad_ids::Token;
@@ -37,19 +38,18 @@ fn tried_deleting(
     Ok(tried)
 }
 
+// No control is for a Rename.
 fn tried_renaming(
     alloc: Global,
     dir: &Dir,
     token: &Token,
     rename: &Rename,
-    settings: &Settings,
 ) -> Result<Vec<Tried>, AllocError>
-    requires { reaches (verdict_of dir.now token.now (RenameOf rename.now) settings.now) ≡ true }
-    ensures { IfOk result (λ tried. tried_values tried.items
-        ≡ tries dir.now token.now (requirements dir.now token.now (RenameOf rename.now)
-        settings.now)) }
+    requires { (s : Settings) × (reaches (verdict_of dir.now token.now (RenameOf rename.now) s)
+        ≡ true) }
+    ensures { (s : Settings) → IfOk result (λ tried. tried_values tried.items
+        ≡ tries dir.now token.now (requirements dir.now token.now (RenameOf rename.now) s)) }
 {
-    let _ = settings;
     let number = found(alloc, dir, token, rename.dn.as_slice())?;
     let parent = new_parent(alloc, dir, token, number, rename)?;
     let mut tried = Vec::new(alloc);
@@ -90,19 +90,17 @@ fn tried_modifying(
 {
     let number = found(alloc, dir, token, modify.dn.as_slice())?;
     let items = modify.items.as_slice();
-    let mut tried = Vec::new(alloc);
-    try_modify(
-        alloc,
-        &mut tried,
-        dir,
-        token,
+    let all = Modifying {
         number,
-        settings.sd_flags,
+        flags: settings.sd_flags,
         items,
-    )?;
+    };
+    let mut tried = Vec::new(alloc);
+    try_modify(alloc, &mut tried, dir, token, &all)?;
     Ok(tried)
 }
 
+#[tactic(auto, unfolding(crate::specs::Traces::requirements, crate::specs::Tries::tries))]
 fn tried_by(
     alloc: Global,
     dir: &Dir,
@@ -110,17 +108,18 @@ fn tried_by(
     op: &Op,
     settings: &Settings,
 ) -> Result<Vec<Tried>, AllocError>
-    requires change { IsChange (op_seen op.now) }
-    requires reaches { reaches (verdict_of dir.now token.now (op_seen op.now) settings.now) ≡ true }
+    requires { reaches (verdict_of dir.now token.now (op_seen op.now) settings.now) ≡ true }
     ensures { IfOk result (λ tried. tried_values tried.items
         ≡ tries dir.now token.now (requirements dir.now token.now (op_seen op.now) settings.now)) }
 {
     match op {
         Op::Add(add) => tried_adding(alloc, dir, token, add, settings),
         Op::Delete(dn) => tried_deleting(alloc, dir, token, dn.as_slice(), settings),
-        Op::Rename(rename) => tried_renaming(alloc, dir, token, rename, settings),
+        Op::Rename(rename) => tried_renaming(alloc, dir, token, rename),
         Op::Modify(modify) => tried_modifying(alloc, dir, token, modify, settings),
-        _ => unreachable!(),
+        Op::Bind | Op::Unbind | Op::Search(_) | Op::Compare(_) | Op::Abandon | Op::Extended => {
+            Ok(Vec::new(alloc))
+        }
     }
 }
 
@@ -142,7 +141,7 @@ fn reaches(verdict: &Verdict) -> bool
 ///
 /// Where each check before its requirements passes these are the requirements, up to the first that is missing: of
 /// one that is met its first granted alternative, as a success, and of the one that is missing its first, as a
-/// failure. Else nothing is tried.
+/// failure. Else nothing is tried, and neither by an operation that changes nothing.
 ///
 /// # Errors
 ///
@@ -155,7 +154,6 @@ pub fn trace(
     op: &Op,
     settings: &Settings,
 ) -> Result<Vec<Tried>, AllocError>
-    requires change { IsChange (op_seen op.now) }
     ensures { IfOk result (λ tried. tried_values tried.items ≡ trace_of dir.now token.now
         (op_seen op.now) settings.now) }
 {

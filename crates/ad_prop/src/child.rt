@@ -6,8 +6,7 @@ ghost use Rattle.ad_dir_model.specs.Objects.{object_at};
 ghost use Rattle.ad_dir_model.specs.Inheritance.{whole_at};
 ghost use Rattle.ad_prop.specs.Turn.{IsTurn};
 
-use ad_dir::{Dir, live_object, live_sd};
-use ad_dir_write::guid_of;
+use ad_dir::{Dir, guid_of, live_object, live_sd};
 use ad_inherit::whole;
 use ad_sd::normal;
 use std::alloc::{AllocError, Global};

@@ -25,10 +25,9 @@
 #![tactic(auto)]
 
 mod child;
-mod repeated;
 mod stepping;
 mod turning;
 
-pub use repeated::WholeSd;
+pub use ad_inherit_kept::WholeSd;
 pub use stepping::{step, step_beside};
 pub use turning::{Turn, turn_beside};

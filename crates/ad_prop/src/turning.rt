@@ -10,9 +10,9 @@ ghost use Rattle.ad_dir_model.specs.Soundness.{IsSound};
 ghost use Rattle.ad_prop.specs.Step.{TakesTurn};
 ghost use Rattle.ad_prop.specs.Turn.{IsTurn, IsGiven};
 
-use crate::repeated::{WholeSd, whole_again};
-use ad_dir::{Dir, live_object, live_sd};
-use ad_dir_write::{guid_of, is_another, mark_if};
+use ad_dir::{Dir, guid_of, live_object, live_sd};
+use ad_dir_write::{is_another, mark_if};
+use ad_inherit_kept::{WholeSd, whole_again};
 use ad_sd::NormalSd;
 use prop_queue::{Pending, Queue};
 use std::alloc::{AllocError, Global};

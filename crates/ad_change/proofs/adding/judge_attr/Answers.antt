@@ -8,7 +8,7 @@ use Rattle.ad_change_values.specs.Values.{is_given_twice, are_repeated, leads, i
 use Rattle.ad_dir_model.specs.Attributes.{is_single}
 use Rattle.ad_change.specs.Adding.{attr_checks}
 use Rattle.ad_change_values.specs.Judging.{reading_checks}
-use Rattle.ad_change.proofs.AddLaws.{attr_read_stops, attr_twice, attr_many, attr_lead_stops, attr_empty, attr_fine}
+use Rattle.ad_change.proofs.AddChecks.{attr_read_stops, attr_twice, attr_many, attr_lead_stops, attr_empty, attr_fine}
 use Rattle.ad_change_values.proofs.SentLaws.{stops}
 use Rattle.ad_change.proofs.adding.judge_attr.Goals as goal
 

@@ -9,7 +9,8 @@ use Rattle.ad_dir_model.specs.Object.{Held}
 use Rattle.ad_change_values.specs.Values.{all_attrs, is_lacking}
 use Rattle.ad_change.specs.Adding.{attr_checks, is_given}
 use Rattle.ad_change.specs.Creating.{all_before, sent_checks}
-use Rattle.ad_change.proofs.AddLaws.{sent_owner, sent_under, sent_values, sent_allowed, sent_musts, sent_fine, held_is}
+use Rattle.ad_change.proofs.AddLaws.{held_is}
+use Rattle.ad_change.proofs.AddChecks.{sent_owner, sent_under, sent_values, sent_allowed, sent_musts, sent_fine}
 use Rattle.ad_change_values.proofs.SentLaws.{stops}
 use Rattle.ad_change.proofs.adding.judge_sent.Goals as goal
 

@@ -10,36 +10,36 @@ use Rattle.ad_change.proofs.renaming.rename_plan.Goals as goal
 
 pub judge_rename-requires-clause-live : goal.judge_rename-requires-clause-live
 judge_rename-requires-clause-live c =
-    (renaming c.args.dir.now c.args.token.now c.args.target c.args.parent c.args.name.now c.requires.sound
-    c.requires.resolved).live
+    (renaming c.args.dir.now c.requires.resolved.0 c.args.target c.args.parent c.args.name.now c.requires.sound
+    c.requires.resolved.1).live
 
 pub judge_rename-requires-clause-parent : goal.judge_rename-requires-clause-parent
 judge_rename-requires-clause-parent c =
-    (renaming c.args.dir.now c.args.token.now c.args.target c.args.parent c.args.name.now c.requires.sound
-    c.requires.resolved).parent_live
+    (renaming c.args.dir.now c.requires.resolved.0 c.args.target c.args.parent c.args.name.now c.requires.sound
+    c.requires.resolved.1).parent_live
 
 pub judge_rename-requires-clause-name : goal.judge_rename-requires-clause-name
 judge_rename-requires-clause-name c =
-    (renaming c.args.dir.now c.args.token.now c.args.target c.args.parent c.args.name.now c.requires.sound
-    c.requires.resolved).value
+    (renaming c.args.dir.now c.requires.resolved.0 c.args.target c.args.parent c.args.name.now c.requires.sound
+    c.requires.resolved.1).value
 
 pub edits_of-requires-clause-live : goal.edits_of-requires-clause-live
 edits_of-requires-clause-live c =
-    (renaming c.args.dir.now c.args.token.now c.args.target c.args.parent c.args.name.now c.requires.sound
-    c.requires.resolved).live
+    (renaming c.args.dir.now c.requires.resolved.0 c.args.target c.args.parent c.args.name.now c.requires.sound
+    c.requires.resolved.1).live
 
 pub edits_of-requires-clause-parent : goal.edits_of-requires-clause-parent
 edits_of-requires-clause-parent c =
     subst (λ (p : ℕ). is_live c.args.dir.now.objects p ≡ true) (sym (ap (λ (o : Object). o.parent) c.in-Ok.ensures.1))
-    (renaming c.args.dir.now c.args.token.now c.args.target c.args.parent c.args.name.now c.requires.sound
-    c.requires.resolved).parent_live
+    (renaming c.args.dir.now c.requires.resolved.0 c.args.target c.args.parent c.args.name.now c.requires.sound
+    c.requires.resolved.1).parent_live
 
 pub returns-in_ok-edits_of-in-Ok : goal.returns-in_ok-edits_of-in-Ok
-returns-in_ok-edits_of-in-Ok c =
+returns-in_ok-edits_of-in-Ok c = λ token.
     let edits = c.in_ok-edits_of-in-Ok.field-0 in
-    renaming_is c.args.dir.now c.args.token.now c.args.target c.args.parent c.args.name.now edits c.requires.sound
-    (renaming c.args.dir.now c.args.token.now c.args.target c.args.parent c.args.name.now c.requires.sound
-    c.requires.resolved) c.in-Ok.ensures.0
+    renaming_is c.args.dir.now token c.args.target c.args.parent c.args.name.now edits c.requires.sound
+    (renaming c.args.dir.now c.requires.resolved.0 c.args.target c.args.parent c.args.name.now c.requires.sound
+    c.requires.resolved.1) c.in-Ok.ensures.0
     (subst (λ (n : List ℕ). AreNeeded c.args.dir.now (rename_edits c.args.dir.now c.args.target c.args.parent n)
     edits) (ap (λ (o : Object). o.name) c.in-Ok.ensures.1)
     (subst (λ (p : ℕ). AreNeeded c.args.dir.now (rename_edits c.args.dir.now c.args.target p c.in-Ok.object.name)
@@ -48,4 +48,4 @@ returns-in_ok-edits_of-in-Ok c =
 
 pub returns-in_ok-code-in-Err : goal.returns-in_ok-code-in-Err
 unfolding later_checks
-returns-in_ok-code-in-Err c = rw c.in_ok-code-in-Err.ensures at c.in-Err.ensures
+returns-in_ok-code-in-Err c = λ token. rw c.in_ok-code-in-Err.ensures at c.in-Err.ensures

@@ -1,4 +1,4 @@
-use Rattle.ad_change_values.proofs.PileLaws.{there_in}
+use Rattle.ad_change_values.proofs.PileTaking.{there_in}
 use Rattle.ad_change_values.proofs.pile.has_in.Goals as goal
 
 pub returns-in_ok-there-in-Some : goal.returns-in_ok-there-in-Some

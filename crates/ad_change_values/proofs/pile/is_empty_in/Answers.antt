@@ -1,4 +1,4 @@
-use Rattle.ad_change_values.proofs.PileLaws.{bare_in}
+use Rattle.ad_change_values.proofs.PileTaking.{bare_in}
 use Rattle.ad_change_values.proofs.pile.is_empty_in.Goals as goal
 
 pub returns-in-Some : goal.returns-in-Some

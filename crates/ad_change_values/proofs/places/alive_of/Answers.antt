@@ -1,6 +1,6 @@
 use Rattle.std.proofs.Common.{refl, ◌∙◌}
 use Rattle.ad_change_values.specs.Piles.{since_in}
-use Rattle.ad_change_values.proofs.PileLaws.{alive_none, alive_next, length_more}
+use Rattle.ad_change_values.proofs.PileTaking.{alive_none, alive_next, length_more}
 use Rattle.ad_change_values.proofs.places.alive_of.Goals as goal
 
 pub loop-one-init : goal.loop-one-init

@@ -1,7 +1,7 @@
 use Rattle.std.proofs.Common.{subst}
 use Rattle.std.proofs.lemmas.List.{take_all}
 use Rattle.ad_change_values.specs.Piles.{since_in}
-use Rattle.ad_change_values.proofs.PileLaws.{IsTakenTo, taken_none, taken_more}
+use Rattle.ad_change_values.proofs.PileTaking.{IsTakenTo, taken_none, taken_more}
 use Rattle.ad_change_values.proofs.places.take_all.Goals as goal
 
 pub loop-one-init : goal.loop-one-init

@@ -1,6 +1,6 @@
 use Rattle.std.proofs.Common.{take}
 use Rattle.ad_change_values.specs.Piles.{since_in}
-use Rattle.ad_change_values.proofs.PileLaws.{IsTakenTo}
+use Rattle.ad_change_values.proofs.PileTaking.{IsTakenTo}
 use Rattle.ad_change_values.proofs.places.take_all.Given as goal
 
 abbrev pub invariant-loop-one : goal.invariant-loop-one

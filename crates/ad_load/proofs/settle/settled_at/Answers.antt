@@ -1,6 +1,7 @@
 use Rattle.std.proofs.Common.{◌≡◌, ◌-◌, map, IfOk, sym, ap, subst, ◌∙◌, arith}
 use Rattle.ad_ids.specs.declared.guid.Guid.{Guid}
 use Rattle.ad_sd.specs.declared.parts.Sd.{Sd}
+use Rattle.ad_sd.specs.Seen.{seen}
 use Rattle.ad_inherit.specs.Whole.{whole}
 use Rattle.ad_load.specs.Seen.{entry_seen}
 use Rattle.ad_load.proofs.Settled.{seen_at, settled_first, settled_below}
@@ -39,7 +40,9 @@ returns c =
     (omega (arith, range.0, range.1, c.requires.place)) (sym c.index-objects-own.is) in
     subst (λ (x : Sd). IfOk c.whole_again.result (λ (sd : Sd). sd ≡ x))
     (
-    ap (λ (g : Guid). whole above.1 item.1 g) c.guid_of.ensures
+    ap (λ (s : Sd). whole s (seen c.view-2.result) c.guid_of-class.result) c.view.ensures
+    ∙ ap (λ (s : Sd). whole above.1 s c.guid_of-class.result) c.view-2.ensures
+    ∙ ap (λ (g : Guid). whole above.1 item.1 g) c.guid_of-class.ensures
     ∙ sym (settled_below c.args.schema.now (map entry_seen c.args.objects.now) c.args.place (entry_seen item)
     (entry_seen above) c.if-place-eq0.false at at_above)
     ) c.whole_again.ensures

@@ -7,34 +7,39 @@ use Rattle.ad_needs.proofs.adding.judged_of_class.Goals as goal
 
 pub returns-then-is_schema_class : goal.returns-then-is_schema_class
 returns-then-is_schema_class c =
-    of_schema c.args.dir.now c.args.token.now c.args.parent c.args.rdn c.args.class.0 c.args.add.now c.args.flags
-    (sym (c.if-is_schema_class.ensures ∙ ap (λ (s : List SchemaRecord). is_schema_class s c.args.class.0)
+    let added = c.args.added.now in
+    of_schema c.args.dir.now c.args.token.now added.parent c.args.rdn added.class.0 added.add.now added.flags
+    (sym (c.if-is_schema_class.ensures ∙ ap (λ (s : List SchemaRecord). is_schema_class s added.class.0)
     c.schema.ensures))
 
 pub returns-then-not-is_typed : goal.returns-then-not-is_typed
 returns-then-not-is_typed c =
-    untyped c.args.dir.now c.args.token.now c.args.parent c.args.rdn c.args.class.0 c.args.add.now c.args.flags
-    (sym (c.if-is_schema_class.ensures ∙ ap (λ (s : List SchemaRecord). is_schema_class s c.args.class.0)
+    let added = c.args.added.now in
+    untyped c.args.dir.now c.args.token.now added.parent c.args.rdn added.class.0 added.add.now added.flags
+    (sym (c.if-is_schema_class.ensures ∙ ap (λ (s : List SchemaRecord). is_schema_class s added.class.0)
     c.schema.ensures))
-    (sym (c.if-not-is_typed.ensures ∙ ap (λ (s : List SchemaRecord). is_typed s c.args.class.0 c.args.rdn)
+    (sym (c.if-not-is_typed.ensures ∙ ap (λ (s : List SchemaRecord). is_typed s added.class.0 c.args.rdn)
     c.schema-2.ensures))
 
 pub judged_with-requires : goal.judged_with-requires
-judged_with-requires c = record {
-  parent = c.requires.parent;
-  class = c.requires.class;
-  other = sym (c.if-is_schema_class.ensures ∙ ap (λ (s : List SchemaRecord). is_schema_class s c.args.class.0)
-      c.schema.ensures);
-  typed = sym (c.if-not-is_typed.ensures ∙ ap (λ (s : List SchemaRecord). is_typed s c.args.class.0 c.args.rdn)
-      c.schema-2.ensures);
-  sent = rw c.in-Some.is at c.in_ok-sd.ensures;
-}
+judged_with-requires c =
+    let added = c.args.added.now in
+    record {
+      parent = c.requires.parent;
+      class = c.requires.class;
+      other = sym (c.if-is_schema_class.ensures ∙ ap (λ (s : List SchemaRecord). is_schema_class s added.class.0)
+          c.schema.ensures);
+      typed = sym (c.if-not-is_typed.ensures ∙ ap (λ (s : List SchemaRecord). is_typed s added.class.0 c.args.rdn)
+          c.schema-2.ensures);
+      sent = rw c.in-Some.is at c.in_ok-sd.ensures;
+    }
 
 pub returns-in-None : goal.returns-in-None
 returns-in-None c =
-    unread_sd c.args.dir.now c.args.token.now c.args.parent c.args.rdn c.args.class.0 c.args.add.now c.args.flags
-    (sym (c.if-is_schema_class.ensures ∙ ap (λ (s : List SchemaRecord). is_schema_class s c.args.class.0)
+    let added = c.args.added.now in
+    unread_sd c.args.dir.now c.args.token.now added.parent c.args.rdn added.class.0 added.add.now added.flags
+    (sym (c.if-is_schema_class.ensures ∙ ap (λ (s : List SchemaRecord). is_schema_class s added.class.0)
     c.schema.ensures))
-    (sym (c.if-not-is_typed.ensures ∙ ap (λ (s : List SchemaRecord). is_typed s c.args.class.0 c.args.rdn)
+    (sym (c.if-not-is_typed.ensures ∙ ap (λ (s : List SchemaRecord). is_typed s added.class.0 c.args.rdn)
     c.schema-2.ensures))
     (rw c.in-None.is at c.in_ok-sd.ensures)

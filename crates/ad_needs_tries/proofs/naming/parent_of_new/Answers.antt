@@ -1,14 +1,20 @@
-use Rattle.ad_needs_tries.proofs.NameLaws.{parent_never_none, parent_number_is}
+use Rattle.std.proofs.Common.{sym, ap, ◌∙◌}
+use Rattle.ad_dn.specs.Reading.{dn_of}
+use Rattle.ad_needs_tries.proofs.NameLaws.{parts_there, parent_there, parent_number_is}
 use Rattle.ad_needs_tries.proofs.naming.parent_of_new.Goals as goal
 
-pub unreachable-requires-in-None : goal.unreachable-requires-in-None
-unreachable-requires-in-None c =
-    parent_never_none c.args.dir.now c.args.token.now c.args.add.now c.in-Some.dn c.in_ok-number.field-0
-    c.requires.seen (rw (c.in-Some.is, c.as_slice.ensures) at c.in_ok-dn.ensures)
-    c.in_ok-number.ensures.found c.in-None.is
+pub unwrap-dn-requires : goal.unwrap-dn-requires
+unwrap-dn-requires c =
+    parts_there c.args.add.now c.in_ok-read.read c.requires.name (c.in_ok-read.ensures ∙ ap dn_of c.as_slice.ensures)
+
+pub unwrap-requires : goal.unwrap-requires
+unwrap-requires c =
+    parent_there c.args.dir.now c.args.token.now c.args.add.now c.unwrap-dn.result c.in_ok-number.number
+    c.requires.seen (sym c.unwrap-dn.ensures ∙ c.in_ok-read.ensures ∙ ap dn_of c.as_slice.ensures)
+    c.in_ok-number.ensures.found
 
 pub returns-clause-number : goal.returns-clause-number
 returns-clause-number c =
-    parent_number_is c.args.dir.now c.args.token.now c.args.add.now c.in-Some.dn c.in-Some-2.number
-    (rw (c.in-Some.is, c.as_slice.ensures) at c.in_ok-dn.ensures)
-    (rw c.in-Some-2.is at c.in_ok-number.ensures.found)
+    parent_number_is c.args.dir.now c.args.token.now c.args.add.now c.unwrap-dn.result c.unwrap.result
+    (sym c.unwrap-dn.ensures ∙ c.in_ok-read.ensures ∙ ap dn_of c.as_slice.ensures)
+    (sym c.unwrap.ensures ∙ c.in_ok-number.ensures.found)

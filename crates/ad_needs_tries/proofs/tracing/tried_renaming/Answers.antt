@@ -5,29 +5,29 @@ use Rattle.ad_needs_tries.proofs.tracing.tried_renaming.Goals as goal
 
 pub found-requires-clause-name : goal.found-requires-clause-name
 found-requires-clause-name c = rw c.as_slice.ensures
-    (rename_reaches c.args.dir.now c.args.token.now c.args.rename.now c.args.settings.now c.requires).object.one.name
+    (rename_reaches c.args.dir.now c.args.token.now c.args.rename.now c.requires.0 c.requires.1).object.one.name
 
 pub found-requires-clause-seen : goal.found-requires-clause-seen
 found-requires-clause-seen c = rw c.as_slice.ensures
-    (rename_reaches c.args.dir.now c.args.token.now c.args.rename.now c.args.settings.now c.requires).object.one.seen
+    (rename_reaches c.args.dir.now c.args.token.now c.args.rename.now c.requires.0 c.requires.1).object.one.seen
 
 pub new_parent-requires-clause-below : goal.new_parent-requires-clause-below
 new_parent-requires-clause-below c =
-    λ same. (rename_reaches c.args.dir.now c.args.token.now c.args.rename.now c.args.settings.now
-    c.requires).object.below (sym (rw c.as_slice.ensures at c.in_ok-number.ensures.number) ∙ same)
+    λ same. (rename_reaches c.args.dir.now c.args.token.now c.args.rename.now c.requires.0
+    c.requires.1).object.below (sym (rw c.as_slice.ensures at c.in_ok-number.ensures.number) ∙ same)
 
 pub new_parent-requires-clause-superior : goal.new_parent-requires-clause-superior
 new_parent-requires-clause-superior c = (rename_reaches c.args.dir.now c.args.token.now c.args.rename.now
-    c.args.settings.now c.requires).superior
+    c.requires.0 c.requires.1).superior
 
 pub try_rename-requires-clause-below : goal.try_rename-requires-clause-below
 try_rename-requires-clause-below c =
-    λ same. (rename_reaches c.args.dir.now c.args.token.now c.args.rename.now c.args.settings.now
-    c.requires).object.below (sym (rw c.as_slice.ensures at c.in_ok-number.ensures.number) ∙ same)
+    λ same. (rename_reaches c.args.dir.now c.args.token.now c.args.rename.now c.requires.0
+    c.requires.1).object.below (sym (rw c.as_slice.ensures at c.in_ok-number.ensures.number) ∙ same)
 
 pub returns : goal.returns
-returns c =
-    renaming_tried c.args.dir.now c.args.token.now c.args.rename.now c.args.settings.now c.in_ok-number.number
+returns c = λ s.
+    renaming_tried c.args.dir.now c.args.token.now c.args.rename.now s c.in_ok-number.number
     c.in_ok-parent.parent c.new-tried.result.items c.try_rename.new.into.items c.in_ok-try_rename.field-0
     (rw c.as_slice.ensures at c.in_ok-number.ensures.number) c.in_ok-parent.ensures.number c.new-tried.ensures.items
     c.in_ok-try_rename.ensures

@@ -3,7 +3,7 @@ use Rattle.std.proofs.lemmas.Slice.Eq.{bytes_eq-Decides}
 use Rattle.ad_sd.specs.SdIn.{sd_in}
 use Rattle.ad_sd.specs.Seen.{seen}
 use Rattle.ad_sd.proofs.NormalReader.{spelled_in}
-use Rattle.ad_prop.proofs.repeated.is_of.Goals as goal
+use Rattle.ad_inherit_kept.proofs.repeated.is_of.Goals as goal
 
 pub returns : goal.returns
 returns c = λ e.

@@ -1,4 +1,4 @@
-//! Descriptors come again: most children have those of the one before. So the last one that was computed is kept, with
+//! Descriptors come again: most objects have those of the one before. So the last one that was computed is kept, with
 //! what it was made of. A copy of it is given, which takes no memory of its own.
 
 ghost use Rattle.std.specs.Prelude.{◌≡◌, true, IfOk, IfSome};
@@ -11,7 +11,7 @@ use ad_inherit::whole;
 use ad_sd::{NormalSd, SdView};
 use std::alloc::{AllocError, Global};
 
-/// The descriptor of a child of a class, with the normal bytes of its parent's and its own one, of which it was
+/// The descriptor of an object of a class, with the normal bytes of its parent's and its own one, of which it was
 /// computed.
 #[derive(Drop)]
 pub struct WholeSd {
@@ -107,8 +107,13 @@ fn make(
     Ok(sd)
 }
 
-/// The descriptor of a child of the class, from its parent's and its own, as `whole` computes it.
-pub(crate) fn whole_again(
+/// The descriptor of an object of the class, from its parent's and its own, as `whole` computes it. It is kept in place
+/// of the last one.
+///
+/// # Errors
+///
+/// Out of memory.
+pub fn whole_again(
     alloc: Global,
     last: &mut Option<WholeSd>,
     above: SdView<'_>,
