@@ -21,7 +21,7 @@ use Rattle.ad_schema.specs.declared.line.SchemaKind.TheVariants.{Attribute}
 use Rattle.ad_schema.specs.declared.line.SchemaRecord.{SchemaRecord}
 use Rattle.ad_schema.specs.Attributes.{names_of, attrs_of, attr_named}
 use Rattle.ad_schema.specs.Sound.{NamesAreDistinct}
-use Rattle.ad_dir.proofs.SchemaNames.{named_at}
+use Rattle.ad_dir_objects.proofs.AttrNames.{named_at}
 use Rattle.ad_dir_model.specs.Attributes.{attr_place, is_named}
 use Rattle.ad_entries.specs.Entry.{asks_for, is_asked}
 use Rattle.ad_entries.specs.Rising.{is_in}

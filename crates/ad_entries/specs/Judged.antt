@@ -20,6 +20,12 @@ pub record IsJudged (dir : Directory) (token : Token) (search : SearchValue) (ju
   pub changing : (number : ℕ) → IsOf dir token judged.kind number
       → judged.changing ≡ changing_attrs search (changing_of dir token number)
 
+-- It is so, and the object is of the kind.
+pub record IsJudgedOf (dir : Directory) (token : Token) (search : SearchValue) (number : ℕ) (one : Judged) : Type 0
+  where
+    pub judged : IsJudged dir token search one
+    pub of : IsOf dir token one.kind number
+
 -- what a search asks for, and what was judged in it
 pub record AreKinds (dir : Directory) (token : Token) (search : SearchValue) (kinds : Kinds) : Type 0 where
   pub asked : AreAsked dir.schema search.attrs kinds.asked

@@ -12,11 +12,26 @@ ghost use Rattle.ad_entries.specs.Asked.{AreApart, AreAsked};
 use crate::changing::{ATTRIBUTES, CHILDREN, PARTS, is_sent};
 use crate::descriptor::is_descriptor_asked;
 use ad_bytes::Bytes;
+use ad_dir::Dir;
+use ad_ids::Token;
+use ad_ldap::Search;
 use ad_schema::{Schema, names_are_distinct};
 use std::alloc::{AllocError, Global};
 
 /// What asks for all attributes (RFC 4511 4.5.1.8).
 const EVERY: &[u8] = b"*";
+
+/// A search of a directory, and the token that it is answered for.
+#[derive(Drop)]
+pub struct Asking<'a> {
+    pub dir: &'a Dir,
+    pub token: &'a Token,
+    pub search: &'a Search,
+    /// The number of the request's message.
+    pub id: u32,
+    /// The parts of a descriptor that are asked for: 1 the owner, 2 the group, 4 the DACL, 8 the SACL.
+    pub flags: u8,
+}
 
 /// What a search asks for.
 #[derive(Drop)]

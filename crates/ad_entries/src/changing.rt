@@ -10,13 +10,10 @@ ghost use Rattle.ad_entries.specs.Entry.{values_if, attributes_name, children_na
 ghost use Rattle.ad_entries.specs.Entry.{changing_attr, changing_attrs};
 ghost use Rattle.ad_entries.specs.Asked.{AreApart};
 
-use crate::asking::Apart;
+use crate::asking::{Apart, Asking};
 use crate::entry::push_if;
 use ad_bytes::{Bytes, List};
 use ad_constructed_dir::{attributes_written, children_created, parts_written};
-use ad_dir::Dir;
-use ad_ids::Token;
-use ad_ldap::Search;
 use ad_schema_classes::same_name;
 use itoa::Buffer;
 use std::alloc::{AllocError, Global};
@@ -98,88 +95,80 @@ fn number_value(alloc: Global, number: u8) -> Result<Vec<Vec<u8>>, AllocError>
 
 fn attributes_given(
     alloc: Global,
-    dir: &Dir,
-    token: &Token,
+    asking: &Asking<'_>,
     number: u32,
-    search: &Search,
     asked: bool,
 ) -> Result<Option<(Bytes, List<Bytes>)>, AllocError>
-    requires live { is_live dir.now.objects number ≡ true }
-    requires asked { asked ≡ is_sent (search_seen search.now).attrs attributes_name }
+    requires live { is_live asking.now.dir.now.objects number ≡ true }
+    requires asked { asked ≡ is_sent (search_seen asking.now.search.now).attrs attributes_name }
     ensures { IfOk result (λ given. option_to_list given
-        ≡ changing_attr (search_seen search.now) attributes_name
-        (changing_of dir.now token.now number).attributes) }
+        ≡ changing_attr (search_seen asking.now.search.now) attributes_name
+        (changing_of asking.now.dir.now asking.now.token.now number).attributes) }
 {
     if !asked {
         return Ok(None);
     }
-    let names = attributes_written(alloc, dir, token, number)?;
-    given_values(alloc, search.types_only, ATTRIBUTES, names)
+    let names = attributes_written(alloc, asking.dir, asking.token, number)?;
+    given_values(alloc, asking.search.types_only, ATTRIBUTES, names)
 }
 
 fn children_given(
     alloc: Global,
-    dir: &Dir,
-    token: &Token,
+    asking: &Asking<'_>,
     number: u32,
-    search: &Search,
     asked: bool,
 ) -> Result<Option<(Bytes, List<Bytes>)>, AllocError>
-    requires live { is_live dir.now.objects number ≡ true }
-    requires asked { asked ≡ is_sent (search_seen search.now).attrs children_name }
+    requires live { is_live asking.now.dir.now.objects number ≡ true }
+    requires asked { asked ≡ is_sent (search_seen asking.now.search.now).attrs children_name }
     ensures { IfOk result (λ given. option_to_list given
-        ≡ changing_attr (search_seen search.now) children_name
-        (changing_of dir.now token.now number).children) }
+        ≡ changing_attr (search_seen asking.now.search.now) children_name
+        (changing_of asking.now.dir.now asking.now.token.now number).children) }
 {
     if !asked {
         return Ok(None);
     }
-    let names = children_created(alloc, dir, token, number)?;
-    given_values(alloc, search.types_only, CHILDREN, names)
+    let names = children_created(alloc, asking.dir, asking.token, number)?;
+    given_values(alloc, asking.search.types_only, CHILDREN, names)
 }
 
 #[tactic(auto, unfolding(ad_constructed_dir::specs::Changing::changing_of))]
 fn parts_given(
     alloc: Global,
-    dir: &Dir,
-    token: &Token,
+    asking: &Asking<'_>,
     number: u32,
-    search: &Search,
     asked: bool,
 ) -> Result<Option<(Bytes, List<Bytes>)>, AllocError>
-    requires live { is_live dir.now.objects number ≡ true }
-    requires asked { asked ≡ is_sent (search_seen search.now).attrs parts_name }
-    ensures { IfOk result (λ given. option_to_list given ≡ changing_attr (search_seen search.now)
-        parts_name (changing_of dir.now token.now number).parts) }
+    requires live { is_live asking.now.dir.now.objects number ≡ true }
+    requires asked { asked ≡ is_sent (search_seen asking.now.search.now).attrs parts_name }
+    ensures { IfOk result (λ given. option_to_list given ≡ changing_attr (search_seen asking.now.search.now)
+        parts_name (changing_of asking.now.dir.now asking.now.token.now number).parts) }
 {
     if !asked {
         return Ok(None);
     }
-    let values = number_value(alloc, parts_written(dir, token, number))?;
-    given_values(alloc, search.types_only, PARTS, values)
+    let values = number_value(alloc, parts_written(asking.dir, asking.token, number))?;
+    given_values(alloc, asking.search.types_only, PARTS, values)
 }
 
 /// What an entry has of the three. Each is judged only where it is asked for.
 #[tactic(auto, unfolding(crate::specs::Entry::changing_attrs))]
 pub(crate) fn changing_attrs(
     alloc: Global,
-    dir: &Dir,
-    token: &Token,
+    asking: &Asking<'_>,
     number: u32,
-    search: &Search,
     apart: Apart,
 ) -> Result<List<(Bytes, List<Bytes>)>, AllocError>
-    requires live { is_live dir.now.objects number ≡ true }
-    requires apart { AreApart (search_seen search.now).attrs apart }
-    ensures { IfOk result (λ attrs. attrs ≡ changing_attrs (search_seen search.now)
-        (changing_of dir.now token.now number)) }
+    requires live { is_live asking.now.dir.now.objects number ≡ true }
+    requires apart { AreApart (search_seen asking.now.search.now).attrs apart }
+    ensures { IfOk result (λ attrs. attrs ≡ changing_attrs (search_seen asking.now.search.now)
+        (changing_of asking.now.dir.now asking.now.token.now number)) }
 {
     let mut attrs = List::new(alloc);
-    let attributes = attributes_given(alloc, dir, token, number, search, apart.attributes)?;
+    let attributes = attributes_given(alloc, asking, number, apart.attributes)?;
     push_if(&mut attrs, attributes)?;
-    let children = children_given(alloc, dir, token, number, search, apart.children)?;
+    let children = children_given(alloc, asking, number, apart.children)?;
     push_if(&mut attrs, children)?;
-    let parts = parts_given(alloc, dir, token, number, search, apart.parts)?;
+    let parts = parts_given(alloc, asking, number, apart.parts)?;
     push_if(&mut attrs, parts)?;
     Ok(attrs)
 }

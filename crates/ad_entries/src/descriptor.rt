@@ -12,12 +12,13 @@ ghost use Rattle.ad_entries.specs.Given.{descriptor_seen};
 ghost use Rattle.ad_sd.specs.Shown.{parts_shown};
 ghost use Rattle.ad_sd.specs.Writing.{written};
 
+use crate::asking::Asking;
 use ad_access_dir::granted;
 use ad_acl::{ACCESS_SYSTEM_SECURITY, AclWriteFault, READ_CONTROL};
 use ad_bytes::Bytes;
 use ad_dir::{Dir, live_sd};
 use ad_ids::Token;
-use ad_ldap::{DACL_PART, GROUP_PART, OWNER_PART, SACL_PART, Search};
+use ad_ldap::{DACL_PART, GROUP_PART, OWNER_PART, SACL_PART};
 use ad_schema_classes::same_name;
 use ad_sd::write_view;
 use ad_types::Path;
@@ -119,26 +120,23 @@ fn written(alloc: Global, dir: &Dir, number: u32, flags: u8) -> Result<Descripto
 #[tactic(auto, unfolding(crate::specs::Entry::descriptor_given))]
 pub(crate) fn descriptor_given(
     alloc: Global,
-    dir: &Dir,
-    token: &Token,
+    asking: &Asking<'_>,
     number: u32,
-    search: &Search,
     asked: bool,
-    flags: u8,
 ) -> Result<Descriptor, AllocError>
-    requires live { is_live dir.now.objects number ≡ true }
-    requires asked { asked ≡ is_descriptor_asked (search_seen search.now).attrs }
-    ensures { IfOk result (λ d. descriptor_seen d ≡ descriptor_given (search_seen search.now) flags
-        (parts_read dir.now token.now number)) }
+    requires live { is_live asking.now.dir.now.objects number ≡ true }
+    requires asked { asked ≡ is_descriptor_asked (search_seen asking.now.search.now).attrs }
+    ensures { IfOk result (λ d. descriptor_seen d
+        ≡ descriptor_given (search_seen asking.now.search.now) asking.now.flags
+        (parts_read asking.now.dir.now asking.now.token.now number)) }
 {
-    let _ = search;
     if !asked {
         return Ok(Descriptor::Absent);
     }
-    if !are_read(dir, token, number, flags) {
+    if !are_read(asking.dir, asking.token, number, asking.flags) {
         return Ok(Descriptor::Absent);
     }
-    written(alloc, dir, number, flags)
+    written(alloc, asking.dir, number, asking.flags)
 }
 
 /// Whether it is left out since it is too long.

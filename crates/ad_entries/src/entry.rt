@@ -12,12 +12,12 @@ ghost use Rattle.ad_entries.specs.Entry.{is_descriptor_asked, entry_of};
 ghost use Rattle.ad_entries.specs.Given.{descriptor_seen, given_if, made_seen};
 ghost use Rattle.ad_entries.specs.Places.{shown_at, shown_at_each, HasPlaces};
 
+use crate::asking::Asking;
 use crate::changing::push_copies;
 use crate::descriptor::{self, Descriptor, descriptor_given, is_left_out};
 use ad_bytes::{Bytes, List};
 use ad_dir::Dir;
 use ad_dn::Dn;
-use ad_ids::Token;
 use ad_ldap::{Reply, Search, write_reply};
 use ad_schema::{AttrId, AttrInfo};
 use ad_value::Value;
@@ -128,20 +128,19 @@ fn attrs_shown(
 // The attributes of an entry, where the places are those that it has.
 fn attrs_given(
     alloc: Global,
-    dir: &Dir,
-    token: &Token,
+    asking: &Asking<'_>,
     number: u32,
-    search: &Search,
     places: &[u32],
 ) -> Result<List<(Bytes, List<Bytes>)>, AllocError>
-    requires live { is_live dir.now.objects number ≡ true }
-    requires places { HasPlaces dir.now token.now number (search_seen search.now) places.now }
+    requires live { is_live asking.now.dir.now.objects number ≡ true }
+    requires places { HasPlaces asking.now.dir.now asking.now.token.now number
+        (search_seen asking.now.search.now) places.now }
     ensures { IfOk result (λ attrs. attrs
-        ≡ attrs_given (search_seen search.now) (attrs_of dir.now.schema)
-        (reads_from dir.now token.now number 0 (attrs_of dir.now.schema))) }
+        ≡ attrs_given (search_seen asking.now.search.now) (attrs_of asking.now.dir.now.schema)
+        (reads_from asking.now.dir.now asking.now.token.now number 0
+        (attrs_of asking.now.dir.now.schema))) }
 {
-    let _ = token;
-    attrs_shown(alloc, dir, number, search.types_only, places)
+    attrs_shown(alloc, asking.dir, number, asking.search.types_only, places)
 }
 
 // ---- the descriptor
@@ -184,35 +183,33 @@ fn descriptor_attr(
 #[tactic(auto, unfolding(crate::specs::Entry::entry_of, crate::specs::Seen::seen_of))]
 pub(crate) fn entry_of(
     alloc: Global,
-    dir: &Dir,
-    token: &Token,
+    asking: &Asking<'_>,
     number: u32,
     name: &Dn,
-    id: u32,
-    search: &Search,
-    flags: u8,
     places: &[u32],
     changing: &[(Bytes, List<Bytes>)],
     asked: bool,
 ) -> Result<Made, AllocError>
-    requires live { is_live dir.now.objects number ≡ true }
-    requires name { name.now.rdns ≡ rdns_of dir.now number }
-    requires places { HasPlaces dir.now token.now number (search_seen search.now) places.now }
-    requires changing { changing.now ≡ changing_attrs (search_seen search.now)
-        (changing_of dir.now token.now number) }
-    requires asked { asked ≡ is_descriptor_asked (search_seen search.now).attrs }
-    ensures { IfOk result (λ made. made_seen made ≡ entry_of dir.now.schema id
-        (search_seen search.now) flags (seen_of dir.now token.now number)) }
+    requires live { is_live asking.now.dir.now.objects number ≡ true }
+    requires name { name.now.rdns ≡ rdns_of asking.now.dir.now number }
+    requires places { HasPlaces asking.now.dir.now asking.now.token.now number
+        (search_seen asking.now.search.now) places.now }
+    requires changing { changing.now ≡ changing_attrs (search_seen asking.now.search.now)
+        (changing_of asking.now.dir.now asking.now.token.now number) }
+    requires asked { asked ≡ is_descriptor_asked (search_seen asking.now.search.now).attrs }
+    ensures { IfOk result (λ made. made_seen made
+        ≡ entry_of asking.now.dir.now.schema asking.now.id (search_seen asking.now.search.now)
+        asking.now.flags (seen_of asking.now.dir.now asking.now.token.now number)) }
 {
     let name = name.text(alloc)?;
-    let mut attrs = attrs_given(alloc, dir, token, number, search, places)?;
+    let mut attrs = attrs_given(alloc, asking, number, places)?;
     push_copies(alloc, &mut attrs, changing)?;
-    let descriptor = descriptor_given(alloc, dir, token, number, search, asked, flags)?;
+    let descriptor = descriptor_given(alloc, asking, number, asked)?;
     let is_short = is_left_out(&descriptor);
-    let last = descriptor_attr(alloc, search, descriptor)?;
+    let last = descriptor_attr(alloc, asking.search, descriptor)?;
     push_if(&mut attrs, last)?;
     let reply = Reply::Entry {
-        id,
+        id: asking.id,
         dn: Bytes::from_vec(name),
         attrs,
     };

@@ -1,35 +1,34 @@
 //! What is judged in a search of the objects of each kind, once: which attributes may be read, those of them that an
 //! object shows, and what tells what a token may change.
 
-ghost use Rattle.std.specs.Prelude.{◌≡◌, ◌<◌, true, length, slice_index_or, IfOk, IfSome, OnOk};
+ghost use Rattle.std.specs.Prelude.{◌≡◌, ◌<◌, ℕ, true, length, slice_index_or, IfOk, IfSome, OnOk};
 ghost use Rattle.std.specs.List.{AllByRecursion};
-ghost use Rattle.ad_ldap.specs.MessageValue.{search_seen};
+ghost use Rattle.ad_ids.specs.declared.token.Token.{Token};
+ghost use Rattle.ad_ldap.specs.MessageValue.{SearchValue, search_seen};
 ghost use Rattle.ad_dir_model.specs.Objects.{is_live};
 ghost use Rattle.ad_dir_model.specs.Names.{rdns_of};
+ghost use Rattle.ad_dir_model.specs.Directory.{Directory};
 ghost use Rattle.ad_entries.specs.Seen.{parts_read, seen_of};
 ghost use Rattle.ad_entries.specs.Entry.{descriptor_given, entry_of};
 ghost use Rattle.ad_entries.specs.Given.{descriptor_seen, made_seen};
-ghost use Rattle.ad_entries.specs.Asked.{AreApart, AreAsked};
+ghost use Rattle.ad_entries.specs.Asked.{AreApart};
 ghost use Rattle.ad_entries.specs.Kinds.{IsOf};
 ghost use Rattle.ad_entries.specs.Places.{HasPlaces};
 ghost use Rattle.ad_entries.specs.Judged.{IsJudged, AreKinds};
 
-use crate::asking::{Apart, Asked, asked_of};
+use crate::asking::{Apart, Asked, Asking, asked_of};
 use crate::changing::changing_attrs;
 use crate::descriptor::{Descriptor, descriptor_given};
 use crate::entry::{Made, entry_of};
 use crate::kinds::{Kind, kind_of, same_kind};
 use crate::places::places_of;
 use ad_bytes::{Bytes, List};
-use ad_dir::Dir;
 use ad_dn::Dn;
-use ad_ids::Token;
-use ad_ldap::Search;
 use std::alloc::{AllocError, Global};
 
 // The most kinds of objects of which something is kept, so that to look for one costs no more where each object has a
 // descriptor of its own.
-const MOST_KINDS: usize = 128;
+const MAX_KINDS: usize = 128;
 
 /// What was judged of the objects of one kind.
 #[derive(Drop)]
@@ -53,16 +52,11 @@ pub struct Kinds {
 /// # Errors
 ///
 /// Out of memory.
-pub fn no_kinds(
-    alloc: Global,
-    dir: &Dir,
-    token: &Token,
-    search: &Search,
-) -> Result<Kinds, AllocError>
-    ensures { IfOk result (λ kinds. AreKinds dir.now token.now (search_seen search.now) kinds) }
+pub fn no_kinds(alloc: Global, asking: &Asking<'_>) -> Result<Kinds, AllocError>
+    ensures { IfOk result (AreKinds asking.now.dir.now asking.now.token.now
+        (search_seen asking.now.search.now)) }
 {
-    let _ = token;
-    let asked = asked_of(alloc, dir.schema(), search.attrs.as_slice())?;
+    let asked = asked_of(alloc, asking.dir.schema(), asking.search.attrs.as_slice())?;
     Ok(Kinds {
         asked,
         judged: Vec::new(alloc),
@@ -70,28 +64,20 @@ pub fn no_kinds(
 }
 
 // Where what was judged of a kind stands: of the last ones first.
-fn place_of(
-    judged: &[Judged],
-    dir: &Dir,
-    token: &Token,
-    search: &Search,
-    number: u32,
-    kind: Kind,
-) -> Option<usize>
-    requires judged { AllByRecursion (IsJudged dir.now token.now (search_seen search.now)) judged.now }
-    requires live { is_live dir.now.objects kind.sample ≡ true }
-    requires kind { IsOf dir.now token.now kind number }
+fn place_of(judged: &[Judged], asking: &Asking<'_>, kind: Kind) -> Option<usize>
+    requires judged { AllByRecursion (IsJudged asking.now.dir.now asking.now.token.now
+        (search_seen asking.now.search.now)) judged.now }
+    requires live { is_live asking.now.dir.now.objects kind.sample ≡ true }
     ensures within { IfSome result (λ place. place < length judged.now) }
-    ensures of { IfSome result (λ place. (d : Judged) → IsOf dir.now token.now
-        (slice_index_or judged.now place d).kind number) }
+    ensures of { IfSome result (λ place. (number : ℕ) (d : Judged)
+        → IsOf asking.now.dir.now asking.now.token.now kind number
+        → IsOf asking.now.dir.now asking.now.token.now (slice_index_or judged.now place d).kind
+        number) }
 {
-    let _ = token;
-    let _ = search;
-    let _ = number;
     let mut place = judged.len();
     'each: while place > 0 {
         place -= 1;
-        if same_kind(dir, kind, judged[place].kind) {
+        if same_kind(asking.dir, kind, judged[place].kind) {
             return Some(place);
         }
     }
@@ -101,22 +87,21 @@ fn place_of(
 // A kind of which nothing was judged.
 fn unjudged(
     alloc: Global,
-    dir: &Dir,
-    token: &Token,
+    asking: &Asking<'_>,
     number: u32,
-    search: &Search,
     apart: Apart,
     kind: Kind,
 ) -> Result<Judged, AllocError>
-    requires apart { AreApart (search_seen search.now).attrs apart }
-    requires live { is_live dir.now.objects number ≡ true }
-    requires sample { is_live dir.now.objects kind.sample ≡ true }
-    requires kind { IsOf dir.now token.now kind number }
-    ensures judged { IfOk result (IsJudged dir.now token.now (search_seen search.now)) }
-    ensures of { IfOk result (λ one. IsOf dir.now token.now one.kind number) }
+    requires apart { AreApart (search_seen asking.now.search.now).attrs apart }
+    requires live { is_live asking.now.dir.now.objects number ≡ true }
+    requires sample { is_live asking.now.dir.now.objects kind.sample ≡ true }
+    requires kind { IsOf asking.now.dir.now asking.now.token.now kind number }
+    ensures judged { IfOk result (IsJudged asking.now.dir.now asking.now.token.now
+        (search_seen asking.now.search.now)) }
+    ensures of { IfOk result (λ one. IsOf asking.now.dir.now asking.now.token.now one.kind number) }
 {
-    let verdicts = vec![in alloc; None; dir.schema().attrs().len()]?;
-    let changing = changing_attrs(alloc, dir, token, number, search, apart)?;
+    let verdicts = vec![in alloc; None; asking.dir.schema().attrs().len()]?;
+    let changing = changing_attrs(alloc, asking, number, apart)?;
     Ok(Judged {
         kind,
         verdicts,
@@ -127,79 +112,39 @@ fn unjudged(
 // Takes what was judged of an object's kind.
 fn taken(
     alloc: Global,
-    dir: &Dir,
-    token: &Token,
+    asking: &Asking<'_>,
     number: u32,
-    search: &Search,
     apart: Apart,
     judged: &mut Vec<Judged>,
 ) -> Result<Judged, AllocError>
-    requires apart { AreApart (search_seen search.now).attrs apart }
-    requires live { is_live dir.now.objects number ≡ true }
-    requires judged { AllByRecursion (IsJudged dir.now token.now (search_seen search.now)) judged.old.items }
-    ensures one { IfOk result (IsJudged dir.now token.now (search_seen search.now)) }
-    ensures of { IfOk result (λ one. IsOf dir.now token.now one.kind number) }
-    ensures judged { OnOk result (AllByRecursion (IsJudged dir.now token.now (search_seen search.now))
-        judged.new.items) }
+    requires apart { AreApart (search_seen asking.now.search.now).attrs apart }
+    requires live { is_live asking.now.dir.now.objects number ≡ true }
+    requires judged { AllByRecursion (IsJudged asking.now.dir.now asking.now.token.now
+        (search_seen asking.now.search.now)) judged.old.items }
+    ensures one { IfOk result (IsJudged asking.now.dir.now asking.now.token.now
+        (search_seen asking.now.search.now)) }
+    ensures of { IfOk result (λ one. IsOf asking.now.dir.now asking.now.token.now one.kind number) }
+    ensures judged { OnOk result (AllByRecursion (IsJudged asking.now.dir.now
+        asking.now.token.now (search_seen asking.now.search.now)) judged.new.items) }
 {
-    let kind = kind_of(dir, token, number);
-    match place_of(judged.as_slice(), dir, token, search, number, kind) {
+    let kind = kind_of(asking.dir, asking.token, number);
+    match place_of(judged.as_slice(), asking, kind) {
         Some(place) => Ok(judged.swap_remove(place)),
-        None => unjudged(alloc, dir, token, number, search, apart, kind),
+        None => unjudged(alloc, asking, number, apart, kind),
     }
 }
 
 // Puts it back, up to so many kinds.
-fn put_back(
-    dir: &Dir,
-    token: &Token,
-    search: &Search,
-    one: Judged,
-    judged: &mut Vec<Judged>,
-) -> Result<(), AllocError>
-    requires one { IsJudged dir.now token.now (search_seen search.now) one }
-    requires judged { AllByRecursion (IsJudged dir.now token.now (search_seen search.now)) judged.old.items }
-    ensures { OnOk result (AllByRecursion (IsJudged dir.now token.now (search_seen search.now))
-        judged.new.items) }
+fn put_back(one: Judged, judged: &mut Vec<Judged>) -> Result<(), AllocError>
+    ensures { OnOk result ((dir : Directory) (token : Token) (search : SearchValue)
+        → IsJudged dir token search one
+        → AllByRecursion (IsJudged dir token search) judged.old.items
+        → AllByRecursion (IsJudged dir token search) judged.new.items) }
 {
-    let _ = dir;
-    let _ = token;
-    let _ = search;
-    if judged.len() < MOST_KINDS {
+    if judged.len() < MAX_KINDS {
         judged.push(one)?;
     }
     Ok(())
-}
-
-// The places of the attributes that an entry has of an object of this kind.
-fn places_by(
-    alloc: Global,
-    dir: &Dir,
-    token: &Token,
-    number: u32,
-    search: &Search,
-    asked: &Asked,
-    one: &mut Judged,
-) -> Result<Vec<u32>, AllocError>
-    requires live { is_live dir.now.objects number ≡ true }
-    requires asked { AreAsked dir.now.schema (search_seen search.now).attrs asked.now }
-    requires one { IsJudged dir.now token.now (search_seen search.now) one.old }
-    requires of { IsOf dir.now token.now one.old.kind number }
-    ensures places { IfOk result (λ places. HasPlaces dir.now token.now number
-        (search_seen search.now) places.items) }
-    ensures one { OnOk result (IsJudged dir.now token.now (search_seen search.now) one.new) }
-    ensures of { OnOk result (IsOf dir.now token.now one.new.kind number) }
-{
-    places_of(
-        alloc,
-        dir,
-        token,
-        number,
-        search,
-        asked,
-        one.kind,
-        &mut one.verdicts,
-    )
 }
 
 /// The places of the attributes that the entry has of a live object, rising: those that are asked for and may be read,
@@ -210,22 +155,22 @@ fn places_by(
 /// Out of memory.
 pub fn places_judged(
     alloc: Global,
-    dir: &Dir,
-    token: &Token,
+    asking: &Asking<'_>,
     number: u32,
-    search: &Search,
     kinds: &mut Kinds,
 ) -> Result<Vec<u32>, AllocError>
-    requires live { is_live dir.now.objects number ≡ true }
-    requires kinds { AreKinds dir.now token.now (search_seen search.now) kinds.old }
-    ensures places { IfOk result (λ places. HasPlaces dir.now token.now number
-        (search_seen search.now) places.items) }
-    ensures kinds { OnOk result (AreKinds dir.now token.now (search_seen search.now) kinds.new) }
+    requires live { is_live asking.now.dir.now.objects number ≡ true }
+    requires kinds { AreKinds asking.now.dir.now asking.now.token.now
+        (search_seen asking.now.search.now) kinds.old }
+    ensures places { IfOk result (λ places. HasPlaces asking.now.dir.now asking.now.token.now number
+        (search_seen asking.now.search.now) places.items) }
+    ensures kinds { OnOk result (AreKinds asking.now.dir.now asking.now.token.now
+        (search_seen asking.now.search.now) kinds.new) }
 {
     let apart = kinds.asked.apart;
-    let mut one = taken(alloc, dir, token, number, search, apart, &mut kinds.judged)?;
-    let places = places_by(alloc, dir, token, number, search, &kinds.asked, &mut one)?;
-    put_back(dir, token, search, one, &mut kinds.judged)?;
+    let mut one = taken(alloc, asking, number, apart, &mut kinds.judged)?;
+    let places = places_of(alloc, asking, number, &kinds.asked, &mut one)?;
+    put_back(one, &mut kinds.judged)?;
     Ok(places)
 }
 
@@ -237,39 +182,34 @@ pub fn places_judged(
 /// Out of memory.
 pub fn entry_judged(
     alloc: Global,
-    dir: &Dir,
-    token: &Token,
+    asking: &Asking<'_>,
     number: u32,
     name: &Dn,
-    id: u32,
-    search: &Search,
-    flags: u8,
     kinds: &mut Kinds,
 ) -> Result<Made, AllocError>
-    requires live { is_live dir.now.objects number ≡ true }
-    requires name { name.now.rdns ≡ rdns_of dir.now number }
-    requires kinds { AreKinds dir.now token.now (search_seen search.now) kinds.old }
-    ensures made { IfOk result (λ made. made_seen made ≡ entry_of dir.now.schema id
-        (search_seen search.now) flags (seen_of dir.now token.now number)) }
-    ensures kinds { OnOk result (AreKinds dir.now token.now (search_seen search.now) kinds.new) }
+    requires live { is_live asking.now.dir.now.objects number ≡ true }
+    requires name { name.now.rdns ≡ rdns_of asking.now.dir.now number }
+    requires kinds { AreKinds asking.now.dir.now asking.now.token.now
+        (search_seen asking.now.search.now) kinds.old }
+    ensures made { IfOk result (λ made. made_seen made
+        ≡ entry_of asking.now.dir.now.schema asking.now.id (search_seen asking.now.search.now)
+        asking.now.flags (seen_of asking.now.dir.now asking.now.token.now number)) }
+    ensures kinds { OnOk result (AreKinds asking.now.dir.now asking.now.token.now
+        (search_seen asking.now.search.now) kinds.new) }
 {
     let apart = kinds.asked.apart;
-    let mut one = taken(alloc, dir, token, number, search, apart, &mut kinds.judged)?;
-    let places = places_by(alloc, dir, token, number, search, &kinds.asked, &mut one)?;
+    let mut one = taken(alloc, asking, number, apart, &mut kinds.judged)?;
+    let places = places_of(alloc, asking, number, &kinds.asked, &mut one)?;
     let made = entry_of(
         alloc,
-        dir,
-        token,
+        asking,
         number,
         name,
-        id,
-        search,
-        flags,
         places.as_slice(),
         one.changing.as_slice(),
         apart.descriptor,
     )?;
-    put_back(dir, token, search, one, &mut kinds.judged)?;
+    put_back(one, &mut kinds.judged)?;
     Ok(made)
 }
 
@@ -280,25 +220,16 @@ pub fn entry_judged(
 /// Out of memory.
 pub fn descriptor_judged(
     alloc: Global,
-    dir: &Dir,
-    token: &Token,
+    asking: &Asking<'_>,
     number: u32,
-    search: &Search,
-    flags: u8,
     kinds: &Kinds,
 ) -> Result<Descriptor, AllocError>
-    requires live { is_live dir.now.objects number ≡ true }
-    requires kinds { AreKinds dir.now token.now (search_seen search.now) kinds.now }
-    ensures { IfOk result (λ d. descriptor_seen d ≡ descriptor_given (search_seen search.now) flags
-        (parts_read dir.now token.now number)) }
+    requires live { is_live asking.now.dir.now.objects number ≡ true }
+    requires kinds { AreKinds asking.now.dir.now asking.now.token.now
+        (search_seen asking.now.search.now) kinds.now }
+    ensures { IfOk result (λ d. descriptor_seen d
+        ≡ descriptor_given (search_seen asking.now.search.now) asking.now.flags
+        (parts_read asking.now.dir.now asking.now.token.now number)) }
 {
-    descriptor_given(
-        alloc,
-        dir,
-        token,
-        number,
-        search,
-        kinds.asked.apart.descriptor,
-        flags,
-    )
+    descriptor_given(alloc, asking, number, kinds.asked.apart.descriptor)
 }

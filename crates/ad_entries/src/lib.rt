@@ -5,8 +5,9 @@
 //! # Example
 //!
 //! ```text
-//! let mut kinds = ad_entries::no_kinds(alloc, &dir, &token, &search)?;
-//! let made = ad_entries::entry_judged(alloc, &dir, &token, number, &name, id, &search, flags, &mut kinds)?;
+//! let asking = ad_entries::Asking { dir: &dir, token: &token, search: &search, id, flags };
+//! let mut kinds = ad_entries::no_kinds(alloc, &asking)?;
+//! let made = ad_entries::entry_judged(alloc, &asking, number, &name, &mut kinds)?;
 //! ```
 //!
 //! # Proved
@@ -36,7 +37,7 @@ mod reading;
 mod rising;
 mod verdicts;
 
-pub use asking::{Apart, Asked};
+pub use asking::{Apart, Asked, Asking};
 pub use descriptor::Descriptor;
 pub use entry::Made;
 pub use judged::{Judged, Kinds, descriptor_judged, entry_judged, no_kinds, places_judged};

@@ -4,17 +4,14 @@ ghost use Rattle.std.specs.Prelude.{◌≡◌, ◌<◌, ℕ, Bool, true, None, l
 ghost use Rattle.ad_schema.specs.Attributes.{attrs_of};
 ghost use Rattle.ad_ldap.specs.MessageValue.{search_seen};
 ghost use Rattle.ad_dir_model.specs.Objects.{is_live};
-ghost use Rattle.ad_entries.specs.Kinds.{IsOf};
 ghost use Rattle.ad_entries.specs.Places.{is_readable_at, is_given_at};
 ghost use Rattle.ad_entries.specs.Asked.{AreAsked};
-ghost use Rattle.ad_entries.specs.Verdicts.{AreTrue, KnowsOf};
+ghost use Rattle.ad_entries.specs.Verdicts.{AreTrue};
+ghost use Rattle.ad_entries.specs.Judged.{IsJudgedOf};
 
-use crate::asking::{Asked, is_flagged};
-use crate::kinds::Kind;
+use crate::asking::{Asked, Asking, is_flagged};
+use crate::judged::Judged;
 use crate::reading::is_readable;
-use ad_dir::Dir;
-use ad_ids::Token;
-use ad_ldap::Search;
 use ad_schema::AttrId;
 
 // What was judged of the attribute at a place.
@@ -38,55 +35,48 @@ fn keep(verdicts: &mut Vec<Option<bool>>, place: u32, so: bool)
     }
 }
 
-// Whether an attribute of an object of this kind may be read.
-fn is_readable_so(
-    dir: &Dir,
-    token: &Token,
-    number: u32,
-    attr: AttrId,
-    kind: Kind,
-    verdicts: &mut Vec<Option<bool>>,
-) -> bool
-    requires live { is_live dir.now.objects number ≡ true }
-    requires attr { attr.0 < length (attrs_of dir.now.schema) }
-    requires kind { IsOf dir.now token.now kind number }
-    requires known { KnowsOf dir.now token.now kind verdicts.old.items }
-    ensures so { result ≡ is_readable_at dir.now token.now number attr.0 }
-    ensures known { KnowsOf dir.now token.now kind verdicts.new.items }
+// Whether an attribute may be read of an object of the kind of which that is judged.
+fn is_readable_so(asking: &Asking<'_>, number: u32, attr: AttrId, one: &mut Judged) -> bool
+    requires live { is_live asking.now.dir.now.objects number ≡ true }
+    requires attr { attr.0 < length (attrs_of asking.now.dir.now.schema) }
+    requires one { IsJudgedOf asking.now.dir.now asking.now.token.now
+        (search_seen asking.now.search.now) number one.old }
+    ensures so { result ≡ is_readable_at asking.now.dir.now asking.now.token.now number attr.0 }
+    ensures one { IsJudgedOf asking.now.dir.now asking.now.token.now
+        (search_seen asking.now.search.now) number one.new }
 {
-    let _ = kind;
-    if let Some(so) = verdict_at(verdicts.as_slice(), attr.0) {
+    if let Some(so) = verdict_at(one.verdicts.as_slice(), attr.0) {
         return so;
     }
-    let so = is_readable(dir, token, number, attr, dir.schema().attr_info(attr));
-    keep(verdicts, attr.0, so);
+    let info = asking.dir.schema().attr_info(attr);
+    let so = is_readable(asking.dir, asking.token, number, attr, info);
+    keep(&mut one.verdicts, attr.0, so);
     so
 }
 
-/// Whether the attribute at a place is asked for and may be read of an object of this kind.
+/// Whether the attribute at a place is asked for and may be read of an object of the kind of which that is judged.
 pub(crate) fn is_given(
-    dir: &Dir,
-    token: &Token,
+    asking: &Asking<'_>,
     number: u32,
-    search: &Search,
     asked: &Asked,
     place: u32,
-    kind: Kind,
-    verdicts: &mut Vec<Option<bool>>,
+    one: &mut Judged,
 ) -> bool
-    requires live { is_live dir.now.objects number ≡ true }
-    requires asked { AreAsked dir.now.schema (search_seen search.now).attrs asked.now }
-    requires kind { IsOf dir.now token.now kind number }
-    requires known { KnowsOf dir.now token.now kind verdicts.old.items }
-    ensures so { result ≡ is_given_at dir.now token.now number (search_seen search.now) place }
-    ensures known { KnowsOf dir.now token.now kind verdicts.new.items }
+    requires live { is_live asking.now.dir.now.objects number ≡ true }
+    requires asked { AreAsked asking.now.dir.now.schema (search_seen asking.now.search.now).attrs
+        asked.now }
+    requires one { IsJudgedOf asking.now.dir.now asking.now.token.now
+        (search_seen asking.now.search.now) number one.old }
+    ensures so { result ≡ is_given_at asking.now.dir.now asking.now.token.now number
+        (search_seen asking.now.search.now) place }
+    ensures one { IsJudgedOf asking.now.dir.now asking.now.token.now
+        (search_seen asking.now.search.now) number one.new }
 {
-    let _ = search;
-    if (place as usize) >= dir.schema().attrs().len() {
+    if (place as usize) >= asking.dir.schema().attrs().len() {
         return false;
     }
     if !is_flagged(asked.flags.as_slice(), place) {
         return false;
     }
-    is_readable_so(dir, token, number, AttrId(place), kind, verdicts)
+    is_readable_so(asking, number, AttrId(place), one)
 }

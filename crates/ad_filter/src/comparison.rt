@@ -26,11 +26,11 @@ pub(crate) enum Comparison {
 }
 
 /// The value that the bytes are in the syntax, and none where they are none.
-pub(crate) fn value_of(
-    alloc: Global,
-    syntax: Syntax,
-    bytes: &[u8],
-) -> Result<Option<Value>, AllocError>
+///
+/// # Errors
+///
+/// Out of memory.
+pub fn value_of(alloc: Global, syntax: Syntax, bytes: &[u8]) -> Result<Option<Value>, AllocError>
     ensures { IfOk result (λ value. value ≡ result_ok (normal_or_fault syntax bytes.now)) }
 {
     match normal(alloc, syntax, bytes) {

@@ -30,7 +30,7 @@ mod laws;
 mod outcome;
 mod readable;
 
-pub use comparison::has_equal;
+pub use comparison::{has_equal, value_of};
 pub use judging::truth;
 pub use laws::{not_of_all_is_some_of_not, what_all_of_filters_says, what_some_of_filters_says};
 pub use outcome::Truth;

@@ -55,11 +55,11 @@ next_all dir need needs items above result is same next = record {
       (subst (AreMet dir n) (sym same) ((all_met dir n needs).0 (subst (IsMet dir n) is met)));
 }
 
--- between a number and the one behind it there is none
-pub next_behind : (dir : Directory) (P : ℕ → Type 0) (above : ℕ) (result : Option ℕ)
+-- between a number and the one after it there is none
+pub next_after : (dir : Directory) (P : ℕ → Type 0) (above : ℕ) (result : Option ℕ)
     → AreStanding dir.schema dir.objects → IfSome result (λ next. above < next)
     → ((n : ℕ) → n < 4294967295 → above < n → IsBefore n result → ⊥) → IsNextOf dir P above result
-next_behind dir P above result standing more nearest = record {
+next_after dir P above result standing more nearest = record {
   is_above = more;
   none = λ n live above_it before meets. nearest n (let small = standing.small n live in omega (arith, small)) above_it
       before;

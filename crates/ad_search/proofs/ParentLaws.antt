@@ -1,6 +1,6 @@
 -- Where list-object mode is off, all below one parent is seen or nothing is.
-use Rattle.std.proofs.Common.{◌≡◌, ℕ, Bool, true, false, ◌||◌, Option, Some, None, sym, ap, ◌∙◌}
-use Rattle.std.specs.Prelude.{◌≢◌, IfSome}
+use Rattle.std.proofs.Common.{◌≡◌, ℕ, Bool, false, ◌||◌, sym, ap, ◌∙◌}
+use Rattle.std.specs.Prelude.{◌≢◌}
 use Rattle.std.proofs.lemmas.Bool.{ne_eqb}
 use Rattle.ad_ids.specs.declared.token.Token.{Token}
 use Rattle.ad_access.specs.Visible.{grants_on_object, sees}
@@ -10,8 +10,6 @@ use Rattle.ad_dir_model.specs.Identity.{self_sid}
 use Rattle.ad_dir_model.specs.Settings.{list_object_mode}
 use Rattle.ad_dir_model.specs.Directory.{Directory}
 use Rattle.ad_access_dir.specs.Sight.{is_visible}
-use Rattle.ad_search.specs.declared.parents.Parent.{Parent}
-use Rattle.ad_search.specs.Parents.{IsKept}
 
 by_parent : (dir : Directory) (token : Token) (n : ℕ) → list_object_mode dir ≡ false → n ≢ root
     → is_visible dir token n ≡ (grants_on_object (sd_at dir.objects (parent_at dir.objects n)) token
@@ -34,12 +32,3 @@ kept_so dir token n parent shows off below is_parent is m below_m is_parent_m =
     (is_parent_m ∙ sym is_parent)
     ∙ sym (by_parent dir token n off below)
     ∙ is
-
--- what is kept of the parent of an object holds of the object
-pub kept_holds : (dir : Directory) (token : Token) (n parent : ℕ) (one : Parent) (r : Option Bool)
-    → IsKept dir token one → n ≢ root → parent_at dir.objects n ≡ parent
-    → IfSome r (λ (shows : Bool). one.is_known ≡ true) → IfSome r (λ (shows : Bool). parent ≡ one.number)
-    → IfSome r (λ (shows : Bool). one.shows ≡ shows) → IfSome r (λ (shows : Bool). is_visible dir token n ≡ shows)
-kept_holds dir token n parent one None kept below is_parent known number is = tt
-kept_holds dir token n parent one (Some shows) kept below is_parent known number is
-    = kept known n below (is_parent ∙ number) ∙ is

@@ -7,6 +7,7 @@ ghost use Rattle.std.specs.List.{AllByRecursion};
 ghost use Rattle.ad_ldap.specs.MessageValue.{search_seen};
 ghost use Rattle.ad_dir_model.specs.Objects.{is_live};
 ghost use Rattle.ad_entries.specs.Places.{place_if};
+ghost use Rattle.ad_search.specs.declared.needed.Need.{Need as Needed};
 ghost use Rattle.ad_search.specs.Needles.{HaveSameEntries};
 ghost use Rattle.ad_search.specs.Indexed.{IsBefore, IsLeftOfAll};
 ghost use Rattle.ad_search.specs.Needed.{Shows, IsMet, HasMet, AreMet, IsNeededBy, IsNextOf};
@@ -20,15 +21,15 @@ use std::alloc::{AllocError, Global};
 
 /// So many looks into an index are taken before the objects of a subtree are gone over, of which it isn't known how
 /// many they are.
-const MOST: usize = 1_000;
+const MAX_LOOKS: usize = 1_000;
 
-/// A look into an index takes the time in which so many looks at what an object stores are done.
-const LOOKS: usize = 8;
+/// A look into an index takes the time in which so many objects are looked at.
+const OBJECTS_PER_LOOK: usize = 8;
 
 // ---- by the indexes
 
-// The number behind one.
-fn behind(above: u32) -> Option<u32>
+// The number after one.
+fn after(above: u32) -> Option<u32>
     ensures above { IfSome result (λ next. above < next) }
     ensures nearest { (number : ℕ) → number < 4294967295 → above < number → IsBefore number result
         → ⊥ }
@@ -52,17 +53,16 @@ fn next_of_one(dir: &Dir, leaf: &Leaf, above: u32) -> Option<u32>
     dir.stands();
     match &leaf.sought {
         Some(sought) => next_shown(dir, sought, above),
-        None => behind(above),
+        None => after(above),
     }
 }
 
-// The next number, whatever is sought.
-fn next_of_some(dir: &Dir, need: &Need, above: u32) -> Option<u32>
-    ensures { IsNextOf dir.now (λ number. IsMet dir.now number need.now) above result }
+// The next number, whatever is needed.
+fn next_of_some(dir: &Dir, above: u32) -> Option<u32>
+    ensures { (need : Needed) → IsNextOf dir.now (λ number. IsMet dir.now number need) above result }
 {
     dir.stands();
-    let _ = need;
-    behind(above)
+    after(above)
 }
 
 // The next object above a number that may show one of these.
@@ -83,7 +83,7 @@ fn next_of_all(dir: &Dir, needs: &[Need], above: u32) -> Option<u32>
     ensures { IsNextOf dir.now (λ number. AreMet dir.now number needs.now) above result }
 {
     dir.stands();
-    let Some(mut next) = behind(above) else {
+    let Some(mut next) = after(above) else {
         return None;
     };
     'each: for need in needs {
@@ -102,7 +102,7 @@ fn next_of(dir: &Dir, need: &Need, above: u32) -> Option<u32>
 {
     match need {
         Need::One(leaf) => next_of_one(dir, leaf, above),
-        Need::Present(_) => next_of_some(dir, need, above),
+        Need::Present(_) => next_of_some(dir, above),
         Need::AnyOf(needs) => next_of_any(dir, needs.as_slice(), above),
         Need::AllOf(needs) => next_of_all(dir, needs.as_slice(), above),
     }
@@ -170,12 +170,12 @@ fn rounds_of(dir: &Dir, scope: u8, base: u32, values: usize) -> usize {
     }
     if scope == 1 {
         let children = dir.children(base).len();
-        return (children / each).saturating_add(children / LOOKS);
+        return (children / each).saturating_add(children / OBJECTS_PER_LOOK);
     }
     if base == ROOT {
-        return (dir.len() / each).saturating_add(dir.len() / LOOKS);
+        return (dir.len() / each).saturating_add(dir.len() / OBJECTS_PER_LOOK);
     }
-    MOST / each
+    MAX_LOOKS / each
 }
 
 // ---- all of them

@@ -169,27 +169,27 @@ pub(crate) fn need_of(alloc: Global, dir: &Dir, filter: &Filter) -> Result<Optio
 
 // ---- of an object
 
-/// How many parts of what is needed an object is looked at for. One that may show these is left to the filter, so that
-/// many values sent and many values stored don't take the one times the other.
-const MAX_LOOKS: u32 = 16;
+/// So many steps along an object's attributes and values are gone before it is left to the filter, so that many values
+/// sent and many values stored don't take the one times the other.
+const MAX_STEPS: usize = 4_000;
 
-// Whether one look more is left, which is taken.
-fn takes_look(looks: &mut u32) -> bool {
-    if *looks == 0 {
+// Whether one step more is left, which is taken.
+fn takes_step(steps: &mut usize) -> bool {
+    if *steps == 0 {
         return false;
     }
-    *looks -= 1;
+    *steps -= 1;
     true
 }
 
 // Whether an object may show one of these.
 #[cycle(look)]
-fn may_meet_one(dir: &Dir, number: u32, needs: &[Need], looks: &mut u32) -> bool
+fn may_meet_one(dir: &Dir, number: u32, needs: &[Need], steps: &mut usize) -> bool
     requires live { is_live dir.now.objects number ≡ true }
     ensures { IsFalse result → HasMet dir.now number needs.now → ⊥ }
 {
     'each: for need in needs {
-        if may_meet_within(dir, number, need, looks) {
+        if may_meet_within(dir, number, need, steps) {
             return true;
         }
     }
@@ -198,40 +198,40 @@ fn may_meet_one(dir: &Dir, number: u32, needs: &[Need], looks: &mut u32) -> bool
 
 // Whether it may show all of them.
 #[cycle(look)]
-fn may_meet_all(dir: &Dir, number: u32, needs: &[Need], looks: &mut u32) -> bool
+fn may_meet_all(dir: &Dir, number: u32, needs: &[Need], steps: &mut usize) -> bool
     requires live { is_live dir.now.objects number ≡ true }
     ensures { IsFalse result → AreMet dir.now number needs.now → ⊥ }
 {
     'each: for need in needs {
-        if !may_meet_within(dir, number, need, looks) {
+        if !may_meet_within(dir, number, need, steps) {
             return false;
         }
     }
     true
 }
 
-// Whether it may show what is needed, as far as these looks tell.
+// Whether it may show what is needed, as far as these steps lead.
 #[cycle(look)]
-fn may_meet_within(dir: &Dir, number: u32, need: &Need, looks: &mut u32) -> bool
+fn may_meet_within(dir: &Dir, number: u32, need: &Need, steps: &mut usize) -> bool
     requires live { is_live dir.now.objects number ≡ true }
     ensures { IsFalse result → IsMet dir.now number need.now → ⊥ }
 {
-    if !takes_look(looks) {
+    if !takes_step(steps) {
         return true;
     }
     match need {
-        Need::One(leaf) => may_show(dir, number, &leaf.needle),
-        Need::Present(attr) => may_show_some(dir, number, *attr),
-        Need::AnyOf(needs) => may_meet_one(dir, number, needs.as_slice(), looks),
-        Need::AllOf(needs) => may_meet_all(dir, number, needs.as_slice(), looks),
+        Need::One(leaf) => may_show(dir, number, &leaf.needle, steps),
+        Need::Present(attr) => may_show_some(dir, number, *attr, steps),
+        Need::AnyOf(needs) => may_meet_one(dir, number, needs.as_slice(), steps),
+        Need::AllOf(needs) => may_meet_all(dir, number, needs.as_slice(), steps),
     }
 }
 
-/// Whether an object may show what is needed, by a few looks at what it stores.
+/// Whether an object may show what is needed, by a look at what it stores.
 pub(crate) fn may_meet(dir: &Dir, number: u32, need: &Need) -> bool
     requires live { is_live dir.now.objects number ≡ true }
     ensures { IsFalse result → IsMet dir.now number need.now → ⊥ }
 {
-    let mut looks = MAX_LOOKS;
-    may_meet_within(dir, number, need, &mut looks)
+    let mut steps = MAX_STEPS;
+    may_meet_within(dir, number, need, &mut steps)
 }

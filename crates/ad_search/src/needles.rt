@@ -2,22 +2,19 @@
 
 ghost use Rattle.std.specs.Prelude.{◌≡◌, ◌<◌, [], false, true, length, map, IfOk, IfSome, IsTrue, IsFalse};
 ghost use Rattle.std.specs.List.{list_any};
-ghost use Rattle.std.specs.Result.{result_ok};
-ghost use Rattle.ad_value.specs.ValueOf.{normal_or_fault};
 ghost use Rattle.ad_schema.specs.Attributes.{attrs_of};
 ghost use Rattle.ad_ldap.specs.FilterValue as value;
 ghost use Rattle.ad_dir_objects.specs.Seen.{stored_seen};
 ghost use Rattle.ad_dir.specs.Values.{may_have};
-ghost use Rattle.ad_filter.specs.Filtering.{is_descriptor};
 ghost use Rattle.ad_dir_model.specs.Objects.{is_live};
 ghost use Rattle.ad_dir_model.specs.Shown.{shown};
 ghost use Rattle.ad_search.specs.Needles.{has_key, IsPlain, IsPlainNamed, IsNeedle, IsAskedAs};
 
-use ad_bytes::Bytes;
 use ad_dir::{Dir, Stored, is_named, is_naming, live_object, stored_of};
+use ad_filter::value_of;
+use ad_needs_rules::is_descriptor;
 use ad_schema::{AttrId, Schema};
-use ad_schema_classes::same_name;
-use ad_value::{Syntax, Value, ValueFault, equal, normal};
+use ad_value::{Value, equal};
 use std::alloc::{AllocError, Global};
 
 /// An attribute, and a value of it that an object has to show.
@@ -28,23 +25,6 @@ pub(crate) struct Needle {
 }
 
 // ---- of a filter
-
-fn value_of(alloc: Global, syntax: Syntax, bytes: &[u8]) -> Result<Option<Value>, AllocError>
-    ensures { IfOk result (λ value. value ≡ result_ok (normal_or_fault syntax bytes.now)) }
-{
-    match normal(alloc, syntax, bytes) {
-        Ok(value) => Ok(Some(value)),
-        Err(ValueFault::Memory) => Err(AllocError),
-        Err(ValueFault::TooLong) => Ok(None),
-        Err(ValueFault::Syntax) => Ok(None),
-    }
-}
-
-fn is_descriptor(name: &[u8]) -> bool
-    ensures { result ≡ is_descriptor name.now }
-{
-    same_name(name, b"nTSecurityDescriptor")
-}
 
 // Whether an object shows of the attribute what it stores, or its naming value.
 fn is_plain(schema: &Schema, attr: AttrId) -> bool
@@ -129,8 +109,14 @@ fn any_may(stored: &[Stored], value: &Value) -> bool
     stored.iter().any(|own| may_have(own, value))
 }
 
-// Whether an object may show what is needed: by what it stores, unless the attribute shows its naming value.
-pub(crate) fn may_show(dir: &Dir, number: u32, needle: &Needle) -> bool
+// Takes the steps of a look along so many attributes and values.
+fn take_steps(steps: &mut usize, attrs: usize, values: usize) {
+    *steps = steps.saturating_sub(attrs.saturating_add(values));
+}
+
+// Whether an object may show what is needed: by what it stores, unless the attribute shows its naming value. It takes
+// the steps of the look.
+pub(crate) fn may_show(dir: &Dir, number: u32, needle: &Needle, steps: &mut usize) -> bool
     requires live { is_live dir.now.objects number ≡ true }
     ensures { IsFalse result → IsPlain dir.now.schema needle.now.attr.0
         → has_key needle.now.value.key (shown dir.now number needle.now.attr.0) ≡ false }
@@ -140,10 +126,10 @@ pub(crate) fn may_show(dir: &Dir, number: u32, needle: &Needle) -> bool
     if is_naming(dir.schema(), object.class, needle.attr) {
         return true;
     }
-    any_may(
-        stored_of(object.values.as_slice(), needle.attr),
-        &needle.value,
-    )
+    let values = object.values.as_slice();
+    let stored = stored_of(values, needle.attr);
+    take_steps(steps, values.len(), stored.len());
+    any_may(stored, &needle.value)
 }
 
 fn is_some(stored: &[Stored]) -> bool
@@ -153,7 +139,8 @@ fn is_some(stored: &[Stored]) -> bool
 }
 
 // Whether an object may show a value of an attribute: by what it stores, unless the attribute shows its naming value.
-pub(crate) fn may_show_some(dir: &Dir, number: u32, attr: AttrId) -> bool
+// It takes the steps of the look.
+pub(crate) fn may_show_some(dir: &Dir, number: u32, attr: AttrId, steps: &mut usize) -> bool
     requires live { is_live dir.now.objects number ≡ true }
     ensures { IsFalse result → IsPlain dir.now.schema attr.0 → shown dir.now number attr.0 ≡ [] }
 {
@@ -162,5 +149,7 @@ pub(crate) fn may_show_some(dir: &Dir, number: u32, attr: AttrId) -> bool
     if is_naming(dir.schema(), object.class, attr) {
         return true;
     }
-    is_some(stored_of(object.values.as_slice(), attr))
+    let values = object.values.as_slice();
+    take_steps(steps, values.len(), 1);
+    is_some(stored_of(values, attr))
 }

@@ -6,7 +6,6 @@ ghost use Rattle.std.specs.List.{AllByRecursion};
 ghost use Rattle.ad_dir_model.specs.Objects.{is_live, numbers};
 ghost use Rattle.ad_dir_model.specs.Tree.{root};
 ghost use Rattle.ad_dir_model.specs.Names.{rdns_of};
-ghost use Rattle.ad_dir_model.specs.Settings.{list_object_mode};
 ghost use Rattle.ad_dir_model.specs.Directory.{Directory};
 ghost use Rattle.ad_access_dir.specs.Sight.{is_visible};
 ghost use Rattle.ad_ldap.specs.MessageValue.{search_seen};
@@ -27,7 +26,7 @@ use crate::parents::{Parent, is_seen, no_parent};
 use crate::subtree::{ROOT, subtree};
 use ad_dir::Dir;
 use ad_dn::Dn;
-use ad_entries::{Kinds, Sight, entry_judged, no_kinds};
+use ad_entries::{Asking, Kinds, Sight, entry_judged, no_kinds};
 use ad_filter::{Truth, truth};
 use ad_ids::Token;
 use ad_ldap::result_code::{INVALID_DN_SYNTAX, NO_SUCH_OBJECT};
@@ -37,19 +36,17 @@ use std::alloc::{AllocError, Global};
 
 // Whether the filter is true of an object.
 #[tactic(auto, unfolding(ad_entries::specs::Seen::reads))]
-fn is_true_of(
-    alloc: Global,
-    dir: &Dir,
-    token: &Token,
-    number: u32,
-    search: &Search,
-) -> Result<bool, AllocError>
-    ensures { IfOk result (λ is. is
-        ≡ is_true (truth (reads dir.now.schema (seen_of dir.now token.now number))
-        (search_seen search.now).filter)) }
+fn is_true_of(alloc: Global, asking: &Asking<'_>, number: u32) -> Result<bool, AllocError>
+    ensures { IfOk result (λ is. is ≡ is_true (truth (reads asking.now.dir.now.schema
+        (seen_of asking.now.dir.now asking.now.token.now number))
+        (search_seen asking.now.search.now).filter)) }
 {
-    let sight = Sight { dir, token, number };
-    match truth(alloc, &search.filter, &sight)? {
+    let sight = Sight {
+        dir: asking.dir,
+        token: asking.token,
+        number,
+    };
+    match truth(alloc, &asking.search.filter, &sight)? {
         Truth::True => Ok(true),
         Truth::False => Ok(false),
         Truth::Undefined => Ok(false),
@@ -60,31 +57,33 @@ fn is_true_of(
 #[tactic(auto, unfolding(crate::specs::Search::is_found, ad_entries::specs::Seen::seen_of))]
 pub(crate) fn found_name(
     alloc: Global,
-    dir: &Dir,
-    token: &Token,
-    list_mode: bool,
+    asking: &Asking<'_>,
     number: u32,
-    search: &Search,
     base: &Dn,
     last: &mut Parent,
 ) -> Result<Option<Dn>, AllocError>
-    requires live { is_live dir.now.objects number ≡ true }
-    requires mode { list_mode ≡ list_object_mode dir.now }
-    requires kept { IsKept dir.now token.now last.old }
+    requires live { is_live asking.now.dir.now.objects number ≡ true }
+    requires kept { IsKept asking.now.dir.now asking.now.token.now last.old }
     ensures found { IfOk result (λ name. is_some name
-        ≡ (is_visible dir.now token.now number && is_found dir.now.schema (search_seen search.now)
-        base.now (seen_of dir.now token.now number))) }
-    ensures name { IfOk result (λ name. IfSome name (λ dn. dn.rdns ≡ rdns_of dir.now number)) }
-    ensures kept { IsKept dir.now token.now last.new }
+        ≡ (is_visible asking.now.dir.now asking.now.token.now number
+        && is_found asking.now.dir.now.schema (search_seen asking.now.search.now) base.now
+        (seen_of asking.now.dir.now asking.now.token.now number))) }
+    ensures name { IfOk result (λ name. IfSome name (λ dn. dn.rdns
+        ≡ rdns_of asking.now.dir.now number)) }
+    ensures kept { IsKept asking.now.dir.now asking.now.token.now last.new }
 {
-    if !is_seen(dir, token, list_mode, number, last) {
+    if !is_seen(asking.dir, asking.token, number, last) {
         return Ok(None);
     }
-    let name = dir.dn(alloc, number)?;
-    if !in_scope(search.scope, base.rdns.as_slice(), name.rdns.as_slice()) {
+    let name = asking.dir.dn(alloc, number)?;
+    if !in_scope(
+        asking.search.scope,
+        base.rdns.as_slice(),
+        name.rdns.as_slice(),
+    ) {
         return Ok(None);
     }
-    if is_true_of(alloc, dir, token, number, search)? {
+    if is_true_of(alloc, asking, number)? {
         return Ok(Some(name));
     }
     Ok(None)
@@ -93,77 +92,65 @@ pub(crate) fn found_name(
 // Joins the entry of one more object, where it has one, or gives the code with which the search ends before it.
 fn step(
     alloc: Global,
-    dir: &Dir,
-    token: &Token,
-    list_mode: bool,
+    asking: &Asking<'_>,
     number: u32,
-    id: u32,
-    search: &Search,
-    flags: u8,
     base: &Dn,
     last: &mut Parent,
     kinds: &mut Kinds,
     joined: &mut Joined,
 ) -> Result<Option<u8>, AllocError>
-    requires live { is_live dir.now.objects number ≡ true }
-    requires mode { list_mode ≡ list_object_mode dir.now }
-    requires kept { IsKept dir.now token.now last.old }
-    requires kinds { AreKinds dir.now token.now (search_seen search.now) kinds.old }
-    ensures kept { IsKept dir.now token.now last.new }
-    ensures kinds { OnOk result (AreKinds dir.now token.now (search_seen search.now) kinds.new) }
-    ensures steps { IfOk result (λ code. Steps id search.now.size joined.old
-        (entries_among dir.now token.now id (search_seen search.now) flags base.now (number ∷ []))
+    requires live { is_live asking.now.dir.now.objects number ≡ true }
+    requires kept { IsKept asking.now.dir.now asking.now.token.now last.old }
+    requires kinds { AreKinds asking.now.dir.now asking.now.token.now
+        (search_seen asking.now.search.now) kinds.old }
+    ensures kept { IsKept asking.now.dir.now asking.now.token.now last.new }
+    ensures kinds { OnOk result (AreKinds asking.now.dir.now asking.now.token.now
+        (search_seen asking.now.search.now) kinds.new) }
+    ensures steps { IfOk result (λ code. Steps asking.now.id asking.now.search.now.size joined.old
+        (entries_among asking.now.dir.now asking.now.token.now asking.now.id
+        (search_seen asking.now.search.now) asking.now.flags base.now (number ∷ []))
         joined.new code) }
 {
-    let Some(name) = found_name(alloc, dir, token, list_mode, number, search, base, last)? else {
+    let Some(name) = found_name(alloc, asking, number, base, last)? else {
         return Ok(None);
     };
-    let made = entry_judged(alloc, dir, token, number, &name, id, search, flags, kinds)?;
-    join(joined, search.size, &made)
+    let made = entry_judged(alloc, asking, number, &name, kinds)?;
+    join(joined, asking.search.size, &made)
 }
 
 // The entries of these objects, and the message at the end.
 fn entries(
     alloc: Global,
-    dir: &Dir,
-    token: &Token,
+    asking: &Asking<'_>,
     numbers: &[u32],
-    id: u32,
-    search: &Search,
-    flags: u8,
     base: &Dn,
 ) -> Result<Vec<u8>, AllocError>
-    requires { AllByRecursion (λ number. is_live dir.now.objects number ≡ true) numbers.now }
+    requires { AllByRecursion (λ number. is_live asking.now.dir.now.objects number ≡ true)
+        numbers.now }
     ensures { IfOk result (λ bytes. bytes.items
-        ≡ entries_from id search.now.size 0 0 false
-        (entries_among dir.now token.now id (search_seen search.now) flags base.now
-        numbers.now)) }
+        ≡ entries_from asking.now.id asking.now.search.now.size 0 0 false
+        (entries_among asking.now.dir.now asking.now.token.now asking.now.id
+        (search_seen asking.now.search.now) asking.now.flags base.now numbers.now)) }
 {
-    let list_mode = dir.list_mode();
-    let mut last = no_parent();
-    let mut kinds = no_kinds(alloc, dir, token, search)?;
+    let mut last = no_parent(asking.dir);
+    let mut kinds = no_kinds(alloc, asking)?;
     let mut joined = Joined::new(alloc);
     'each: for number in numbers {
         let stop = step(
             alloc,
-            dir,
-            token,
-            list_mode,
+            asking,
             *number,
-            id,
-            search,
-            flags,
             base,
             &mut last,
             &mut kinds,
             &mut joined,
         )?;
         if let Some(code) = stop {
-            return ended(alloc, joined, id, code);
+            return ended(alloc, joined, asking.id, code);
         }
     }
     let code = end_code(joined.is_short);
-    ended(alloc, joined, id, code)
+    ended(alloc, joined, asking.id, code)
 }
 
 fn copied(alloc: Global, numbers: &[u32]) -> Result<Vec<u32>, AllocError>
@@ -210,40 +197,26 @@ pub(crate) fn objects_asked(
 }
 
 // The answer where the base could be read.
-fn answer_at(
-    alloc: Global,
-    dir: &Dir,
-    token: &Token,
-    id: u32,
-    search: &Search,
-    flags: u8,
-    base: &Dn,
-) -> Result<Vec<u8>, AllocError>
-    ensures { IfOk result (λ bytes. bytes.items ≡ answer_at dir.now.schema (view dir.now token.now)
-        id (search_seen search.now) flags (Some base.now)) }
+fn answer_at(alloc: Global, asking: &Asking<'_>, base: &Dn) -> Result<Vec<u8>, AllocError>
+    ensures { IfOk result (λ bytes. bytes.items ≡ answer_at asking.now.dir.now.schema
+        (view asking.now.dir.now asking.now.token.now) asking.now.id
+        (search_seen asking.now.search.now) asking.now.flags (Some base.now)) }
 {
+    let dir = asking.dir;
+    let search = asking.search;
     dir.stands();
-    match seen_named(alloc, dir, token, base)? {
+    match seen_named(alloc, dir, asking.token, base)? {
         Some(number) => match indexed_of(alloc, dir, search, number)? {
-            Some(found) => entries(alloc, dir, token, found.as_slice(), id, search, flags, base),
+            Some(found) => entries(alloc, asking, found.as_slice(), base),
             None => {
                 let asked = objects_asked(alloc, dir, search.scope, number)?;
                 let numbers = left_of(alloc, dir, search, asked)?;
-                entries(
-                    alloc,
-                    dir,
-                    token,
-                    numbers.as_slice(),
-                    id,
-                    search,
-                    flags,
-                    base,
-                )
+                entries(alloc, asking, numbers.as_slice(), base)
             }
         },
         None => {
-            let name = matched(alloc, dir, token, base)?;
-            done(alloc, id, NO_SUCH_OBJECT, name)
+            let name = matched(alloc, dir, asking.token, base)?;
+            done(alloc, asking.id, NO_SUCH_OBJECT, name)
         }
     }
 }
@@ -261,8 +234,15 @@ fn answer_read(
     ensures { IfOk result (λ bytes. bytes.items ≡ search_answer dir.now token.now id
         (search_seen search.now) flags) }
 {
+    let asking = Asking {
+        dir,
+        token,
+        search,
+        id,
+        flags,
+    };
     match read_name(alloc, search.base.as_slice())? {
-        Some(base) => answer_at(alloc, dir, token, id, search, flags, &base),
+        Some(base) => answer_at(alloc, &asking, &base),
         None => done(alloc, id, INVALID_DN_SYNTAX, Vec::new(alloc)),
     }
 }

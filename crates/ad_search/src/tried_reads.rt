@@ -6,7 +6,6 @@ ghost use Rattle.std.specs.List.{AllByRecursion};
 ghost use Rattle.ad_schema.specs.Attributes.{attrs_of};
 ghost use Rattle.ad_ldap.specs.MessageValue.{search_seen};
 ghost use Rattle.ad_dir_model.specs.Objects.{is_live};
-ghost use Rattle.ad_dir_model.specs.Settings.{list_object_mode};
 ghost use Rattle.ad_dir_model.specs.Shown.{shown};
 ghost use Rattle.ad_tried.specs.Tried.{tried_value, tried_values};
 ghost use Rattle.ad_entries.specs.Judged.{AreKinds};
@@ -23,7 +22,9 @@ use crate::searching::{found_name, objects_asked};
 use ad_acl::{ACCESS_SYSTEM_SECURITY, READ_CONTROL, READ_PROPERTY};
 use ad_dir::{Dir, class_of};
 use ad_dn::Dn;
-use ad_entries::{Descriptor, Kinds, descriptor_judged, entry_judged, no_kinds, places_judged};
+use ad_entries::{
+    Asking, Descriptor, Kinds, descriptor_judged, entry_judged, no_kinds, places_judged,
+};
 use ad_ids::Token;
 use ad_ldap::{DACL_PART, GROUP_PART, OWNER_PART, SACL_PART, Search};
 use ad_needs_rules::read_name;
@@ -127,22 +128,20 @@ fn push_parts(number: u32, flags: u8, into: &mut Vec<Tried>) -> Result<(), Alloc
 #[tactic(auto, unfolding(crate::specs::Reads::descriptor_reads))]
 fn push_descriptor(
     alloc: Global,
-    dir: &Dir,
-    token: &Token,
+    asking: &Asking<'_>,
     number: u32,
-    search: &Search,
-    flags: u8,
     kinds: &Kinds,
     into: &mut Vec<Tried>,
 ) -> Result<(), AllocError>
-    requires live { is_live dir.now.objects number ≡ true }
-    requires kinds { AreKinds dir.now token.now (search_seen search.now) kinds.now }
-    ensures { OnOk result (tried_values into.new.items
-        ≡ tried_values into.old.items ++ descriptor_reads dir.now token.now number
-        (search_seen search.now) flags) }
+    requires live { is_live asking.now.dir.now.objects number ≡ true }
+    requires kinds { AreKinds asking.now.dir.now asking.now.token.now
+        (search_seen asking.now.search.now) kinds.now }
+    ensures { OnOk result (tried_values into.new.items ≡ tried_values into.old.items
+        ++ descriptor_reads asking.now.dir.now asking.now.token.now number
+        (search_seen asking.now.search.now) asking.now.flags) }
 {
-    match descriptor_judged(alloc, dir, token, number, search, flags, kinds)? {
-        Descriptor::Written(_) => push_parts(number, flags, into),
+    match descriptor_judged(alloc, asking, number, kinds)? {
+        Descriptor::Written(_) => push_parts(number, asking.flags, into),
         Descriptor::Absent => Ok(()),
         Descriptor::TooLong => Ok(()),
     }
@@ -152,24 +151,23 @@ fn push_descriptor(
 #[tactic(auto, unfolding(crate::specs::Reads::entry_reads))]
 fn push_entry(
     alloc: Global,
-    dir: &Dir,
-    token: &Token,
+    asking: &Asking<'_>,
     number: u32,
-    search: &Search,
-    flags: u8,
     kinds: &Kinds,
     places: &[u32],
     into: &mut Vec<Tried>,
 ) -> Result<(), AllocError>
-    requires live { is_live dir.now.objects number ≡ true }
-    requires kinds { AreKinds dir.now token.now (search_seen search.now) kinds.now }
-    requires places { HasPlaces dir.now token.now number (search_seen search.now) places.now }
-    ensures { OnOk result (tried_values into.new.items
-        ≡ tried_values into.old.items ++ entry_reads dir.now token.now (search_seen search.now)
-        flags number) }
+    requires live { is_live asking.now.dir.now.objects number ≡ true }
+    requires kinds { AreKinds asking.now.dir.now asking.now.token.now
+        (search_seen asking.now.search.now) kinds.now }
+    requires places { HasPlaces asking.now.dir.now asking.now.token.now number
+        (search_seen asking.now.search.now) places.now }
+    ensures { OnOk result (tried_values into.new.items ≡ tried_values into.old.items
+        ++ entry_reads asking.now.dir.now asking.now.token.now (search_seen asking.now.search.now)
+        asking.now.flags number) }
 {
-    push_reads(alloc, dir, number, places, into)?;
-    push_descriptor(alloc, dir, token, number, search, flags, kinds, into)
+    push_reads(alloc, asking.dir, number, places, into)?;
+    push_descriptor(alloc, asking, number, kinds, into)
 }
 
 // ---- the entries
@@ -206,92 +204,74 @@ fn counts(count: &mut Count, size: u32, long: usize) -> Result<bool, AllocError>
 // What the entry of an object tried, by what was judged of its kind.
 fn push_judged(
     alloc: Global,
-    dir: &Dir,
-    token: &Token,
+    asking: &Asking<'_>,
     number: u32,
-    search: &Search,
-    flags: u8,
     kinds: &mut Kinds,
     into: &mut Vec<Tried>,
 ) -> Result<(), AllocError>
-    requires live { is_live dir.now.objects number ≡ true }
-    requires kinds { AreKinds dir.now token.now (search_seen search.now) kinds.old }
-    ensures kinds { OnOk result (AreKinds dir.now token.now (search_seen search.now) kinds.new) }
-    ensures tried { OnOk result (tried_values into.new.items
-        ≡ tried_values into.old.items ++ entry_reads dir.now token.now (search_seen search.now)
-        flags number) }
+    requires live { is_live asking.now.dir.now.objects number ≡ true }
+    requires kinds { AreKinds asking.now.dir.now asking.now.token.now
+        (search_seen asking.now.search.now) kinds.old }
+    ensures kinds { OnOk result (AreKinds asking.now.dir.now asking.now.token.now
+        (search_seen asking.now.search.now) kinds.new) }
+    ensures tried { OnOk result (tried_values into.new.items ≡ tried_values into.old.items
+        ++ entry_reads asking.now.dir.now asking.now.token.now (search_seen asking.now.search.now)
+        asking.now.flags number) }
 {
-    let places = places_judged(alloc, dir, token, number, search, kinds)?;
-    push_entry(
-        alloc,
-        dir,
-        token,
-        number,
-        search,
-        flags,
-        kinds,
-        places.as_slice(),
-        into,
-    )
+    let places = places_judged(alloc, asking, number, kinds)?;
+    push_entry(alloc, asking, number, kinds, places.as_slice(), into)
 }
 
-// What the entry of one more object tried, where it has one, and whether the search goes on behind it.
+// What the entry of one more object tried, where it has one, and whether the search goes on after it.
 fn read_one(
     alloc: Global,
-    dir: &Dir,
-    token: &Token,
-    list_mode: bool,
+    asking: &Asking<'_>,
     number: u32,
-    id: u32,
-    search: &Search,
-    flags: u8,
     base: &Dn,
     last: &mut Parent,
     kinds: &mut Kinds,
     count: &mut Count,
     into: &mut Vec<Tried>,
 ) -> Result<bool, AllocError>
-    requires live { is_live dir.now.objects number ≡ true }
-    requires mode { list_mode ≡ list_object_mode dir.now }
-    requires kept { IsKept dir.now token.now last.old }
-    requires kinds { AreKinds dir.now token.now (search_seen search.now) kinds.old }
-    ensures kept { IsKept dir.now token.now last.new }
-    ensures kinds { OnOk result (AreKinds dir.now token.now (search_seen search.now) kinds.new) }
-    ensures one { IfOk result (λ goes. ReadsOne dir.now token.now id (search_seen search.now) flags
-        base.now number
+    requires live { is_live asking.now.dir.now.objects number ≡ true }
+    requires kept { IsKept asking.now.dir.now asking.now.token.now last.old }
+    requires kinds { AreKinds asking.now.dir.now asking.now.token.now
+        (search_seen asking.now.search.now) kinds.old }
+    ensures kept { IsKept asking.now.dir.now asking.now.token.now last.new }
+    ensures kinds { OnOk result (AreKinds asking.now.dir.now asking.now.token.now
+        (search_seen asking.now.search.now) kinds.new) }
+    ensures one { IfOk result (λ goes. ReadsOne asking.now.dir.now asking.now.token.now
+        asking.now.id (search_seen asking.now.search.now) asking.now.flags base.now number
         count.old into.old.items count.new into.new.items goes) }
 {
-    let Some(name) = found_name(alloc, dir, token, list_mode, number, search, base, last)? else {
+    let Some(name) = found_name(alloc, asking, number, base, last)? else {
         return Ok(true);
     };
-    let made = entry_judged(alloc, dir, token, number, &name, id, search, flags, kinds)?;
-    if !counts(count, search.size, made.message.as_slice().len())? {
+    let made = entry_judged(alloc, asking, number, &name, kinds)?;
+    if !counts(count, asking.search.size, made.message.as_slice().len())? {
         return Ok(false);
     }
-    push_judged(alloc, dir, token, number, search, flags, kinds, into)?;
+    push_judged(alloc, asking, number, kinds, into)?;
     Ok(true)
 }
 
 // What the entries of these objects tried.
 fn reads_among(
     alloc: Global,
-    dir: &Dir,
-    token: &Token,
+    asking: &Asking<'_>,
     numbers: &[u32],
-    id: u32,
-    search: &Search,
-    flags: u8,
     base: &Dn,
 ) -> Result<Vec<Tried>, AllocError>
-    requires { AllByRecursion (λ number. is_live dir.now.objects number ≡ true) numbers.now }
-    ensures { IfOk result (λ tried. tried_values tried.items ≡ reads_behind dir.now token.now id
-        (search_seen search.now) flags
-        (record { given = 0; joined = 0 })
-        (found_among dir.now token.now (search_seen search.now) base.now numbers.now)) }
+    requires { AllByRecursion (λ number. is_live asking.now.dir.now.objects number ≡ true)
+        numbers.now }
+    ensures { IfOk result (λ tried. tried_values tried.items
+        ≡ reads_behind asking.now.dir.now asking.now.token.now asking.now.id
+        (search_seen asking.now.search.now) asking.now.flags (record { given = 0; joined = 0 })
+        (found_among asking.now.dir.now asking.now.token.now (search_seen asking.now.search.now)
+        base.now numbers.now)) }
 {
-    let list_mode = dir.list_mode();
-    let mut last = no_parent();
-    let mut kinds = no_kinds(alloc, dir, token, search)?;
+    let mut last = no_parent(asking.dir);
+    let mut kinds = no_kinds(alloc, asking)?;
     let mut count = Count {
         given: 0,
         joined: 0,
@@ -299,8 +279,7 @@ fn reads_among(
     let mut tried = Vec::new(alloc);
     'each: for number in numbers {
         let goes = read_one(
-            alloc, dir, token, list_mode, *number, id, search, flags, base, &mut last, &mut kinds,
-            &mut count, &mut tried,
+            alloc, asking, *number, base, &mut last, &mut kinds, &mut count, &mut tried,
         )?;
         if !goes {
             return Ok(tried);
@@ -310,32 +289,17 @@ fn reads_among(
 }
 
 // What a search tried whose base could be read.
-fn reads_at(
-    alloc: Global,
-    dir: &Dir,
-    token: &Token,
-    id: u32,
-    search: &Search,
-    flags: u8,
-    base: &Dn,
-) -> Result<Vec<Tried>, AllocError>
+fn reads_at(alloc: Global, asking: &Asking<'_>, base: &Dn) -> Result<Vec<Tried>, AllocError>
     ensures { IfOk result (λ tried. tried_values tried.items
-        ≡ reads_at dir.now token.now id (search_seen search.now) flags (Some base.now)) }
+        ≡ reads_at asking.now.dir.now asking.now.token.now asking.now.id
+        (search_seen asking.now.search.now) asking.now.flags (Some base.now)) }
 {
+    let dir = asking.dir;
     dir.stands();
-    match seen_named(alloc, dir, token, base)? {
+    match seen_named(alloc, dir, asking.token, base)? {
         Some(number) => {
-            let numbers = objects_asked(alloc, dir, search.scope, number)?;
-            reads_among(
-                alloc,
-                dir,
-                token,
-                numbers.as_slice(),
-                id,
-                search,
-                flags,
-                base,
-            )
+            let numbers = objects_asked(alloc, dir, asking.search.scope, number)?;
+            reads_among(alloc, asking, numbers.as_slice(), base)
         }
         None => Ok(Vec::new(alloc)),
     }
@@ -361,8 +325,15 @@ pub fn reads(
     ensures { IfOk result (λ tried. tried_values tried.items ≡ reads_of dir.now token.now id
         (search_seen search.now) flags) }
 {
+    let asking = Asking {
+        dir,
+        token,
+        search,
+        id,
+        flags,
+    };
     match read_name(alloc, search.base.as_slice())? {
-        Some(base) => reads_at(alloc, dir, token, id, search, flags, &base),
+        Some(base) => reads_at(alloc, &asking, &base),
         None => Ok(Vec::new(alloc)),
     }
 }

@@ -17,7 +17,7 @@ use Rattle.ad_schema_defaults.specs.NewClass.{class_by_names, if_structural, is_
 use Rattle.ad_constructed_dir.specs.Changing.{may_create}
 use Rattle.ad_dir_objects.specs.declared.act.Act.{Act}
 use Rattle.ad_dir_model.specs.Directory.{Directory}
-use Rattle.ad_dir_write.proofs.ObjectLaws.{guid_is}
+use Rattle.ad_dir_objects.proofs.ClassGuids.{guid_there}
 use Rattle.ad_access_dir.specs.Sight.{is_granted}
 use Rattle.ad_needs_rules.specs.Checks.{Check, Refusal, code, hidden, missing, first_failing, by_checks, or_code}
 use Rattle.ad_needs_rules.specs.Checks.{refused, or_missing, all_met}
@@ -75,7 +75,7 @@ module _ (dir : Directory) (token : Token) (number class : ℕ) where
           ap (λ (found : Option ClassInfo). option_map_or
           (λ (i : ClassInfo). is_granted dir token number (i.guid ∷ []) create_child) found false) there
           ∙ ap (λ (guid : _). is_granted dir token number (guid ∷ []) create_child)
-          (guid_is dir.schema class info there)
+          (guid_there dir.schema class info there)
 
   record Holds : Type 0 where
     structural : is_structural dir.schema class ≡ true

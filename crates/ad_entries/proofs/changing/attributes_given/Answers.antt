@@ -11,14 +11,14 @@ use Rattle.ad_entries.proofs.changing.attributes_given.Goals as goal
 pub returns-then-not-asked : goal.returns-then-not-asked
 unfolding attributes_name
 returns-then-not-asked c =
-    not_sent (search_seen c.args.search.now) attributes_name
-    (changing_of c.args.dir.now c.args.token.now c.args.number).attributes
+    not_sent (search_seen c.args.asking.now.search.now) attributes_name
+    (changing_of c.args.asking.now.dir.now c.args.asking.now.token.now c.args.number).attributes
     (sym c.if-not-asked.true ∙ c.requires.asked)
 
 pub returns : goal.returns
 unfolding attributes_name
 returns c =
-    let search = search_seen c.args.search.now in
+    let search = search_seen c.args.asking.now.search.now in
     if_ok c.given_values.result
     (λ given so. ap (λ (g : Option Given). option_to_list g) so
     ∙ given_sent search attributes_name (all_items c.in_ok-names.names.items)

@@ -11,15 +11,16 @@ use Rattle.ad_entries.proofs.changing.parts_given.Goals as goal
 pub returns-then-not-asked : goal.returns-then-not-asked
 unfolding parts_name
 returns-then-not-asked c =
-    not_sent (search_seen c.args.search.now) parts_name
-    (changing_of c.args.dir.now c.args.token.now c.args.number).parts
+    not_sent (search_seen c.args.asking.now.search.now) parts_name
+    (changing_of c.args.asking.now.dir.now c.args.asking.now.token.now c.args.number).parts
     (sym c.if-not-asked.true ∙ c.requires.asked)
 
 pub returns : goal.returns
 unfolding parts_name changing_of
 returns c =
-    let search = search_seen c.args.search.now in
-    let is : all_items c.in_ok-values.values.items ≡ (changing_of c.args.dir.now c.args.token.now c.args.number).parts
+    let search = search_seen c.args.asking.now.search.now in
+    let changing = changing_of c.args.asking.now.dir.now c.args.asking.now.token.now c.args.number in
+    let is : all_items c.in_ok-values.values.items ≡ changing.parts
     = c.in_ok-values.ensures ∙ ap (λ (n : ℕ). decimal n ∷ []) c.parts_written.ensures in
     if_ok c.given_values.result
     (λ given so. ap (λ (g : Option Given). option_to_list g) so

@@ -8,6 +8,7 @@ use Rattle.ad_entries.proofs.descriptor.descriptor_given.Goals as goal
 pub returns : goal.returns
 returns c =
     subst (λ (given : Option (Result (List ℕ) AclWriteFault)). IfOk c.written.result (λ d. descriptor_seen d ≡ given))
-    (descriptor_is c.args.dir.now c.args.token.now c.args.number (search_seen c.args.search.now) c.args.flags
+    (descriptor_is c.args.asking.now.dir.now c.args.asking.now.token.now c.args.number
+    (search_seen c.args.asking.now.search.now) c.args.asking.now.flags
     (sym c.if-not-asked.false ∙ c.requires.asked) c.if-not-are_read.ensures)
     c.written.ensures

@@ -7,6 +7,7 @@ use Rattle.ad_entries.proofs.entry.attrs_given.Goals as goal
 pub returns : goal.returns
 returns c =
     subst (λ (given : List Given). IfOk c.attrs_shown.result (λ attrs. attrs ≡ given))
-    (given_at_places c.args.dir.now c.args.token.now c.args.number (search_seen c.args.search.now) c.args.places.now
+    (given_at_places c.args.asking.now.dir.now c.args.asking.now.token.now c.args.number
+    (search_seen c.args.asking.now.search.now) c.args.places.now
     c.requires.places)
     c.attrs_shown.ensures

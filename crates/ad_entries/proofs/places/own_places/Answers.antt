@@ -16,15 +16,17 @@ use Rattle.ad_entries.proofs.places.own_places.Goals as goal
 
 pub class_info-requires : goal.class_info-requires
 class_info-requires c =
-    class_within c.args.dir.now c.schema.result.now c.args.number c.live_object-object.result.now
+    class_within c.args.asking.now.dir.now c.schema.result.now c.args.number c.live_object-object.result.now
     c.stands.ensures c.requires.live c.schema.ensures c.live_object-object.ensures
 
 pub returns-clause-places : goal.returns-clause-places
 returns-clause-places c =
-    let o = object_seen c.live_object-object.result.now (sd_at c.args.dir.now.objects c.args.number) in
-    let given = is_given_at c.args.dir.now c.args.token.now c.args.number (search_seen c.args.search.now) in
-    has_own c.args.dir.now c.args.token.now c.args.number c.class_info.result.now.naming.0
-    (search_seen c.args.search.now) o c.args.asked.now.computed.items
+    let dir = c.args.asking.now.dir.now in
+    let token = c.args.asking.now.token.now in
+    let search = search_seen c.args.asking.now.search.now in
+    let o = object_seen c.live_object-object.result.now (sd_at dir.objects c.args.number) in
+    let given = is_given_at dir token c.args.number search in
+    has_own dir token c.args.number c.class_info.result.now.naming.0 search o c.args.asked.now.computed.items
     c.push_held.new.places.items c.push_given.new.places.items c.push_each.new.places.items c.rise.new.numbers.items
     c.live_object-object.ensures
     (subst (λ (s : List SchemaRecord). c.class_info.result.now.naming.0
@@ -39,4 +41,4 @@ returns-clause-places c =
     (map held_seen values))) c.as_slice-values.ensures)
     c.in_ok-push_given.ensures.places
     (c.in_ok-push_each.ensures.places ∙ ap (λ (these : List ℕ). c.push_given.new.places.items ++ filter given these)
-    c.as_slice.ensures.value) c.rise.ensures.rises c.rise.ensures.same
+    c.as_slice-computed.ensures.value) c.rise.ensures.rises c.rise.ensures.same

@@ -14,6 +14,9 @@ next_of-returns-in-AllOf t c =
     next_all c.args.dir.now c.args.need.now c.in-AllOf.needs c.as_slice-in-AllOf.result.now c.args.above
     c.next_of_all.result c.in-AllOf.is c.as_slice-in-AllOf.ensures.value c.next_of_all.ensures
 
+pub next_of-returns-in-Present : goal.next_of-returns-in-Present
+next_of-returns-in-Present t c = c.next_of_some.ensures c.args.need.now
+
 pub next_of_all-returns-in-None : goal.next_of_all-returns-in-None
 next_of_all-returns-in-None t c =
     let dir = c.args.dir.now in

@@ -1,6 +1,9 @@
-use Rattle.ad_search.proofs.NextLaws.{next_behind}
+use Rattle.std.proofs.Common.{ℕ}
+use Rattle.ad_search.specs.Needed.{IsMet}
+use Rattle.ad_search.proofs.NextLaws.{next_after}
 use Rattle.ad_search.proofs.candidates.next_of_some.Goals as goal
 
 pub returns : goal.returns
-returns c = next_behind c.args.dir.now _ c.args.above c.behind.result c.stands.ensures c.behind.ensures.above
-    c.behind.ensures.nearest
+returns c = λ need.
+    next_after c.args.dir.now (λ (n : ℕ). IsMet c.args.dir.now n need) c.args.above c.after.result c.stands.ensures
+    c.after.ensures.above c.after.ensures.nearest

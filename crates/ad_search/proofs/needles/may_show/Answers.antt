@@ -25,6 +25,6 @@ returns c = λ never ordinary.
     (sym c.live_object-object.ensures) ordinary
     (subst (λ (s : List SchemaRecord). is_naming s o.class.0 attr ≡ false) c.schema.ensures
     (sym c.is_naming.ensures ∙ c.if-is_naming.false))
-    (ap (list_any (may_have key)) (sym (c.stored_of.ensures
-    ∙ ap (λ (values : List (AttrId × List StoredIn)). stored_in (map held_seen values) attr) c.as_slice.ensures))
-    ∙ sym (any_map stored_seen (may_have key) c.stored_of.result.now) ∙ sym c.any_may.ensures ∙ never)
+    (ap (list_any (may_have key)) (sym (c.stored_of-stored.ensures
+    ∙ ap (λ (values : List (AttrId × List StoredIn)). stored_in (map held_seen values) attr) c.as_slice-values.ensures))
+    ∙ sym (any_map stored_seen (may_have key) c.stored_of-stored.result.now) ∙ sym c.any_may.ensures ∙ never)

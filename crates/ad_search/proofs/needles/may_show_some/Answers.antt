@@ -23,5 +23,5 @@ returns c = λ none ordinary.
     (subst (λ (s : List SchemaRecord). is_naming s o.class.0 attr ≡ false) c.schema.ensures
     (sym c.is_naming.ensures ∙ c.if-is_naming.false))
     (sym (c.stored_of.ensures
-    ∙ ap (λ (values : List (AttrId × List StoredIn)). stored_in (map held_seen values) attr) c.as_slice.ensures)
+    ∙ ap (λ (values : List (AttrId × List StoredIn)). stored_in (map held_seen values) attr) c.as_slice-values.ensures)
     ∙ c.is_some.ensures none)

@@ -9,19 +9,31 @@ use Rattle.ad_search.proofs.searching.step.Goals as goal
 
 pub returns-in_default-clause-steps : goal.returns-in_default-clause-steps
 returns-in_default-clause-steps c =
-    steps_none c.args.id c.args.search.now.size c.args.joined.now
-    (entries_among c.args.dir.now c.args.token.now c.args.id (search_seen c.args.search.now) c.args.flags
-    c.args.base.now (c.args.number ∷ []))
-    (no_entry c.args.dir.now c.args.token.now c.args.id (search_seen c.args.search.now) c.args.flags c.args.base.now
+    let dir = c.args.asking.now.dir.now in
+    let token = c.args.asking.now.token.now in
+    let search = search_seen c.args.asking.now.search.now in
+    let id = c.args.asking.now.id in
+    let flags = c.args.asking.now.flags in
+    let base = c.args.base.now in
+    steps_none id c.args.asking.now.search.now.size c.args.joined.now
+    (entries_among dir token id search flags
+    base (c.args.number ∷ []))
+    (no_entry dir token id search flags base
     c.args.number (rw c.in_default.is at c.in_ok-name.ensures.found))
 
 pub returns-clause-steps : goal.returns-clause-steps
 returns-clause-steps c =
-    steps_joined c.join.result c.args.id c.args.search.now.size c.args.joined.now c.join.new.joined
+    let dir = c.args.asking.now.dir.now in
+    let token = c.args.asking.now.token.now in
+    let search = search_seen c.args.asking.now.search.now in
+    let id = c.args.asking.now.id in
+    let flags = c.args.asking.now.flags in
+    let base = c.args.base.now in
+    steps_joined c.join.result id c.args.asking.now.search.now.size c.args.joined.now c.join.new.joined
     (made_seen c.in_ok-made.made)
-    (entries_among c.args.dir.now c.args.token.now c.args.id (search_seen c.args.search.now) c.args.flags
-    c.args.base.now (c.args.number ∷ []))
-    (one_entry c.args.dir.now c.args.token.now c.args.id (search_seen c.args.search.now) c.args.flags c.args.base.now
+    (entries_among dir token id search flags
+    base (c.args.number ∷ []))
+    (one_entry dir token id search flags base
     c.args.number (rw c.in-Some.is at c.in_ok-name.ensures.found)
     ∙ ap (λ (e : Entry). e ∷ []) (sym c.in_ok-made.ensures.made))
     c.join.ensures

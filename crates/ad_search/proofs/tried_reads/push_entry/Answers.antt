@@ -5,7 +5,11 @@ use Rattle.ad_search.proofs.tried_reads.push_entry.Goals as goal
 
 pub returns : goal.returns
 returns c =
-    entry_ok c.push_descriptor.result c.args.dir.now c.args.token.now (search_seen c.args.search.now) c.args.flags
+    let dir = c.args.asking.now.dir.now in
+    let token = c.args.asking.now.token.now in
+    let search = search_seen c.args.asking.now.search.now in
+    let flags = c.args.asking.now.flags in
+    entry_ok c.push_descriptor.result dir token search flags
     c.args.number c.args.places.now
     (tried_values c.args.into.now.items) (tried_values c.push_reads.new.into.items)
     (tried_values c.push_descriptor.new.into.items)
