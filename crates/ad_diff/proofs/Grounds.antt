@@ -1,5 +1,5 @@
 -- What is known before objects are looked at one by one: families, kinds and their lines.
-use Rattle.std.proofs.Common.{◌≡◌, ◌∙◌, ◌<◌, ◌+◌, ℕ, true, false, List, [], ◌∷◌, ◌++◌, length, map, get_or, refl, sym}
+use Rattle.std.proofs.Common.{◌≡◌, ◌∙◌, ◌+◌, ℕ, true, false, List, [], ◌∷◌, ◌++◌, length, get_or, refl, sym}
 use Rattle.std.proofs.Common.{ap}
 use Rattle.std.proofs.Common.{subst, arith, Bool, Option, Some, None, inl, inr}
 use Rattle.std.specs.Prelude.{All, slice_get, ◌==◌, ◌&&◌, ◌||◌, ◌≢◌, cond}
@@ -10,28 +10,31 @@ use Rattle.std.proofs.lemmas.List.{append-nil}
 use Rattle.std.proofs.lemmas.List.Folds.{list_any-append}
 use Rattle.std.proofs.lemmas.List.Elements.{All-append, All-cons, All-nil}
 use Rattle.std.proofs.lemmas.Option.{same_Some, get_or_from_slice_get, slice_get_within}
-use Rattle.indexmap.specs.IndexMap.{IndexMap, get}
 use Rattle.std.specs.Global.{Vec}
+use Rattle.indexmap.specs.IndexMap.{IndexMap, get}
 use Rattle.ad_ids.specs.SidValue.{SidValue, same_sid}
 use Rattle.ad_ids.proofs.SidLaws.{same_sid-Decides}
-use Rattle.ad_ids.specs.declared.token.Token.{Token}
 use Rattle.ad_access.specs.Holder.{first_holder, holds}
 use Rattle.ad_dir_model.specs.Directory.{Directory}
 use Rattle.ad_dir_model.specs.Protection.{has}
-use Rattle.ad_diff.specs.declared.both.Both.{Both}
-use Rattle.ad_diff.specs.declared.both.Grouped.{Grouped}
-use Rattle.ad_diff.specs.declared.tokens.Party.{Party}
+use Rattle.ad_diff_rights.specs.declared.both.Both.{Both}
+use Rattle.ad_diff_rights.specs.declared.steady.Sides.{Sides}
+use Rattle.ad_diff_rights.specs.declared.tokens.Party.{Party}
+use Rattle.ad_diff_rights.specs.Own.{changes_in, holds_own, IsBare}
+use Rattle.ad_diff_rights.specs.Parties.{IsParty}
+use Rattle.ad_diff_rights.specs.Same.{IsAlike}
+use Rattle.ad_diff_rights.specs.Named.{IsNamedBoth, IsLike}
+use Rattle.ad_diff_rights.proofs.Likeness.{same_changes}
+use Rattle.ad_diff_rights.proofs.Holding.{like_changes}
+use Rattle.ad_diff.specs.declared.numbering.Grouped.{Grouped}
 use Rattle.ad_diff.specs.declared.bases.Frame.{Frame}
-use Rattle.ad_diff.specs.Own.{changes_in, holds_own, IsBare}
-use Rattle.ad_diff.specs.Steps.{IsParty, IsAlike, IsAlikeIn}
 use Rattle.ad_diff.specs.Families.{IsOfFamily, AreOfFamilies, IsNext}
-use Rattle.ad_diff.specs.Kinds.{IsNamedBoth, HoldAlike, AreTokensAlike, IsLike, IsLikeAt, IsOfKind, AreKinds}
+use Rattle.ad_diff.specs.Kinds.{IsOfKind, AreKinds}
 use Rattle.ad_diff.specs.Kinds.{IsNextKind}
 use Rattle.ad_diff.specs.Holders.{listed, listed_if, Gains, token_in, AreHolders}
-use Rattle.ad_diff.specs.Frames.{bare_at, bares_on, all_bares, row_texts, base_at, HasBase, AreBases}
-use Rattle.ad_diff.proofs.Lists.{all_at, mapped_at, there_at, more_at, last_in, last_cases}
-use Rattle.ad_diff.proofs.Likeness.{same_changes}
-use Rattle.ad_diff.proofs.Holding.{like_changes}
+use Rattle.ad_diff.specs.Frames.{bare_at, bares_on, all_bares, row_texts, HasBase, AreBases}
+use Rattle.ad_diff_rights.proofs.Lists.{last_cases}
+use Rattle.ad_diff.proofs.Lists.{all_at, mapped_at, there_at, more_at, last_in}
 
 -- ---- families
 
@@ -127,13 +130,16 @@ bare_party before after party is = (
   record { deny_only = is.is.deny_only; restricting = is.is.restricting },
 )
 
-pub bases_are : (before after : Directory) (named : List SidValue) (parties : List Party) (firsts : List Both)
-    (places : List ℕ) (frame : Frame) → All (IsParty before after) parties → All (IsNamedBoth before after named) firsts
-    → row_texts frame.rows.items ≡ all_bares before after parties places firsts
-    → length frame.kinds.items ≡ length parties → AreKinds named parties places frame.kinds.items
-    → AreBases before after parties frame firsts
-bases_are before after named parties firsts places frame are names rows count kinds family first there place party
-    here =
+pub bases_are : (sides : Sides) (named : List SidValue) (firsts : List Both) (places : List ℕ) (frame : Frame)
+    → All (IsParty sides.before.now sides.after.now) sides.parties.now
+    → All (IsNamedBoth sides.before.now sides.after.now named) firsts
+    → row_texts frame.rows.items ≡ all_bares sides places firsts
+    → length frame.kinds.items ≡ length sides.parties.now
+    → AreKinds named sides.parties.now places frame.kinds.items → AreBases sides frame firsts
+bases_are sides named firsts places frame are names rows count kinds family first there place party here =
+    let before = sides.before.now in
+    let after = sides.after.now in
+    let parties = sides.parties.now in
     let inside = slice_get_within parties place party here in
     let kind = there_at frame.kinds.items place (omega (arith, inside, count)) in
     let its : IsOfKind named parties places kind.0 party = kinds place kind.0 party kind.1 here in
@@ -145,27 +151,26 @@ bases_are before after named parties firsts places frame are names rows count ki
     (get_or_from_slice_get frame.kinds.items place kind.0 0 kind.1)
     ∙ ap (λ (all : List (List (List ℕ))). get_or (get_or all family []) kind.0 []) rows
     ∙ ap (λ (row : List (List ℕ)). get_or row kind.0 [])
-    (mapped_at (bares_on before after parties places) firsts family first [] there)
-    ∙ mapped_at (bare_at before after parties first) places kind.0 its.first [] its.there
+    (mapped_at (bares_on sides places) firsts family first [] there)
+    ∙ mapped_at (bare_at sides first) places kind.0 its.first [] its.there
     ∙ ap (λ (p : Option Party). option_map_or (λ (q : Party). changes_in before after q.was q.is false first) p [])
     its.like.there
     ∙ like_changes named before after other party first bare_other.0 bare_other.1 bare.0 bare.1 its.like.like
     (all_at (IsNamedBoth before after named) firsts family first names there)
 
 -- those of a family are those of its first object
-pub family_base : (before after : Directory) (parties : List Party) (firsts : List Both) (frame : Frame) (family : ℕ)
-    (o : Both) → AreBases before after parties frame firsts → IsOfFamily before after firsts family o
-    → HasBase before after parties frame family o
-family_base before after parties firsts frame family o bases is place party here =
+pub family_base : (sides : Sides) (firsts : List Both) (frame : Frame) (family : ℕ) (o : Both)
+    → AreBases sides frame firsts → IsOfFamily sides.before.now sides.after.now firsts family o
+    → HasBase sides frame family o
+family_base sides firsts frame family o bases is place party here =
     bases family is.first is.there place party here
-    ∙ same_changes before after party.was party.is is.first o is.alike
+    ∙ same_changes sides.before.now sides.after.now party.was party.is is.first o is.alike
 
-pub all_based : (before after : Directory) (parties : List Party) (firsts : List Both) (frame : Frame)
-    (objects : List Grouped) → AreBases before after parties frame firsts → AreOfFamilies before after firsts objects
-    → All (λ (g : Grouped). HasBase before after parties frame g.group g.both) objects
-all_based before after parties firsts frame objects bases all i d lt =
-    family_base before after parties firsts frame (get_or objects i d).group (get_or objects i d).both bases
-    (all i d lt)
+pub all_based : (sides : Sides) (firsts : List Both) (frame : Frame) (objects : List Grouped)
+    → AreBases sides frame firsts → AreOfFamilies sides.before.now sides.after.now firsts objects
+    → All (λ (g : Grouped). HasBase sides frame g.group g.both) objects
+all_based sides firsts frame objects bases all i d lt =
+    family_base sides firsts frame (get_or objects i d).group (get_or objects i d).both bases (all i d lt)
 
 and_true : {a b : Bool} → a ≡ true → b ≡ true → (a && b) ≡ true
 and_true {a} {b} e f = ap (λ (q : Bool). q && b) e ∙ f

@@ -1,20 +1,20 @@
 -- Columns, groups of objects and groups of principals, as they grow.
-use Rattle.std.proofs.Common.{◌≡◌, ◌∙◌, ◌+◌, ◌-◌, ◌<◌, ℕ, zero, suc, inl, inr, List, [], ◌∷◌, ◌++◌, length}
+use Rattle.std.proofs.Common.{◌≡◌, ◌∙◌, ◌+◌, ◌<◌, ℕ, zero, suc, inl, inr, List, [], ◌∷◌, ◌++◌, length}
 use Rattle.std.proofs.Common.{length-append, map, get_or, refl, sym, ap, subst, arith, Option, Some}
 use Rattle.std.specs.Prelude.{All, slice_get}
 use Rattle.std.specs.Option.{option_map_or}
 use Rattle.std.proofs.lemmas.List.{get_or_append_left, length-map, append-nil, map-append}
 use Rattle.std.proofs.lemmas.List.Elements.{All-append, All-cons, All-nil}
 use Rattle.std.proofs.lemmas.Option.{slice_get_within}
-use Rattle.ad_dir_model.specs.Directory.{Directory}
-use Rattle.ad_diff.specs.declared.both.Both.{Both}
-use Rattle.ad_diff.specs.declared.both.Grouped.{Grouped}
-use Rattle.ad_diff.specs.declared.tokens.Party.{Party}
+use Rattle.ad_diff_rights.specs.declared.both.Both.{Both}
+use Rattle.ad_diff_rights.specs.declared.steady.Sides.{Sides}
+use Rattle.ad_diff.specs.declared.numbering.Grouped.{Grouped}
 use Rattle.ad_diff.specs.declared.bases.Frame.{Frame}
 use Rattle.ad_diff.specs.declared.columns.Column.{Column}
 use Rattle.ad_diff.specs.Frames.{lines_at, group_lines, IsRight, IsAdded}
 use Rattle.ad_diff.specs.Table.{IsPlaced, ArePlaced, IsRow, IsLed, AreRows}
-use Rattle.ad_diff.proofs.Lists.{mapped_at, there_at, left_at, last_at, last_cases}
+use Rattle.ad_diff_rights.proofs.Lists.{last_cases}
+use Rattle.ad_diff.proofs.Lists.{mapped_at, there_at, left_at, last_at}
 
 -- ---- columns that are added
 
@@ -70,10 +70,9 @@ lines_still frame old new more (suc n) place are within =
     ap (λ (all : List Column). lines (slice_get all n)) are
     ∙ ap lines (left_at old more n found.0 found.1 ∙ sym found.1)
 
-placed_still : (before after : Directory) (parties : List Party) (frame : Frame) (old new more : List Column)
-    (g : Grouped)
-    → new ≡ old ++ more → IsPlaced before after parties frame old g → IsPlaced before after parties frame new g
-placed_still before after parties frame old new more g are is =
+placed_still : (sides : Sides) (frame : Frame) (old new more : List Column) (g : Grouped) → new ≡ old ++ more
+    → IsPlaced sides frame old g → IsPlaced sides frame new g
+placed_still sides frame old new more g are is =
     let count : length new ≡ length old + length more = ap length are ∙ length-append old more in
     record {
       within = omega (arith, is.within, count);
@@ -82,19 +81,17 @@ placed_still before after parties frame old new more g are is =
     }
 
 -- one more object, with its group
-pub placed_more : (before after : Directory) (parties : List Party) (frame : Frame) (old new : List Column)
-    (column : Column) (objects others : List Grouped) (o : Both) (group : ℕ)
-    → IsAdded frame old new column group
-    → ((place : ℕ) → IsRight before after parties o frame column place)
-    → ArePlaced before after parties frame old objects
-    → others ≡ objects ++ (record { both = o; group = group } ∷ []) → ArePlaced before after parties frame new others
-placed_more before after parties frame old new column objects others o group added right placed are =
+pub placed_more : (sides : Sides) (frame : Frame) (old new : List Column) (column : Column)
+    (objects others : List Grouped) (o : Both) (group : ℕ)
+    → IsAdded frame old new column group → ((place : ℕ) → IsRight sides o frame column place)
+    → ArePlaced sides frame old objects
+    → others ≡ objects ++ (record { both = o; group = group } ∷ []) → ArePlaced sides frame new others
+placed_more sides frame old new column objects others o group added right placed are =
     let g : Grouped = record { both = o; group = group } in
-    let P : Grouped → Type 0 = IsPlaced before after parties frame new in
+    let P : Grouped → Type 0 = IsPlaced sides frame new in
     subst (All P) (sym are)
     (All-append P objects (g ∷ [])
-    (λ i d lt. placed_still before after parties frame old new added.more (get_or objects i d) added.are
-    (placed i d lt))
+    (λ i d lt. placed_still sides frame old new added.more (get_or objects i d) added.are (placed i d lt))
     (All-cons P g [] (record {
       within = added.within;
       lines = λ place party there. added.lines place ∙ right place party there;

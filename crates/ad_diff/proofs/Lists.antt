@@ -1,11 +1,10 @@
 -- What stands at places of lists.
 use Rattle.std.proofs.Common.{◌≡◌, ◌∙◌, ◌<◌, ℕ, zero, suc, inl, inr, List, [], ◌∷◌, ◌++◌, length, map, get_or, refl}
-use Rattle.std.proofs.Common.{ap, subst, arith, Option, Some, None, Bool, true, ◌||◌}
-use Rattle.std.specs.Prelude.{All, slice_get, ◌⊎◌, ◌==◌}
-use Rattle.std.specs.Option.{option_map}
+use Rattle.std.proofs.Common.{ap, subst, arith, Some, true}
+use Rattle.std.specs.Prelude.{All, slice_get, ◌==◌}
 use Rattle.std.proofs.lemmas.Bool.{false≢true, or_cases}
 use Rattle.std.proofs.lemmas.List.{get_or-map}
-use Rattle.std.proofs.lemmas.Option.{none-some, same_Some, slice_get_within, get_or_from_slice_get}
+use Rattle.std.proofs.lemmas.Option.{none-some, slice_get_within, get_or_from_slice_get}
 use Rattle.std.proofs.lemmas.Bool.Decides.{Decides-eqb}
 use Rattle.ad_dir_model.specs.Protection.{has}
 
@@ -40,16 +39,6 @@ pub last_in : {A : Type 0} (old new : List A) (x : A) (i : ℕ) → new ≡ old 
     → slice_get new i ≡ Some x
 last_in {A} old new x i are same =
     ap (λ (l : List A). slice_get l i) are ∙ ap (slice_get (old ++ (x ∷ []))) same ∙ last_at old x
-
-pub last_cases : {A : Type 0} (xs : List A) (x y : A) (i : ℕ) → slice_get (xs ++ (x ∷ [])) i ≡ Some y
-    → (slice_get xs i ≡ Some y) ⊎ ((i ≡ length xs) × (x ≡ y))
-last_cases [] x y zero is = inr (refl, same_Some x y is)
-last_cases [] x y (suc i) is = absurd (none-some y is)
-last_cases (z ∷ zs) x y zero is = inl is
-last_cases (z ∷ zs) x y (suc i) is = elim (last_cases zs x y i is) [
-  | inl before ↦ inl before
-  | inr last ↦ inr (ap suc last.0, last.1)
-]
 
 -- what holds of all holds of a number that is among them
 pub all_has : (P : ℕ → Type 0) (ns : List ℕ) (n : ℕ) → All P ns → has ns n ≡ true → P n

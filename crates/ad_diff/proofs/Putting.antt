@@ -1,7 +1,7 @@
 -- A column has what each principal gains and loses.
-use Rattle.std.proofs.Common.{◌≡◌, ◌∙◌, ℕ, Bool, true, false, List, [], sym, ap, subst, Option, Some, None}
+use Rattle.std.proofs.Common.{◌≡◌, ◌∙◌, ℕ, true, false, List, [], sym, ap, subst, Option, Some}
 use Rattle.std.proofs.Common.{inl, inr, refl}
-use Rattle.std.specs.Prelude.{All, slice_get, nat_eq}
+use Rattle.std.specs.Prelude.{All, nat_eq}
 use Rattle.std.specs.Option.{option_map_or}
 use Rattle.std.specs.Global.{Vec}
 use Rattle.std.proofs.lemmas.Bool.{cases_Bool}
@@ -9,19 +9,20 @@ use Rattle.std.proofs.lemmas.Bool.Decides.{Decides-eqb}
 use Rattle.std.proofs.lemmas.Option.{same_Some}
 use Rattle.std.specs.Map.{lookup}
 use Rattle.indexmap.specs.IndexMap.{get, Updates}
-use Rattle.ad_dir_model.specs.Directory.{Directory}
 use Rattle.ad_dir_model.specs.Protection.{has}
-use Rattle.ad_diff.specs.declared.both.Both.{Both}
-use Rattle.ad_diff.specs.declared.tokens.Party.{Party}
+use Rattle.ad_diff_rights.specs.declared.both.Both.{Both}
+use Rattle.ad_diff_rights.specs.declared.steady.Sides.{Sides}
+use Rattle.ad_diff_rights.specs.declared.tokens.Party.{Party}
+use Rattle.ad_diff_rights.specs.Own.{asked_in, changes_in}
+use Rattle.ad_diff_rights.specs.Sides.{changes_at}
+use Rattle.ad_diff_rights.specs.Parties.{IsParty}
+use Rattle.ad_diff_rights.proofs.Owned.{changes_bare}
 use Rattle.ad_diff.specs.declared.bases.Frame.{Frame}
 use Rattle.ad_diff.specs.declared.columns.Column.{Column}
 use Rattle.ad_diff.specs.declared.ground.Ground.{Ground}
-use Rattle.ad_diff.specs.Own.{asked_in, changes_in}
-use Rattle.ad_diff.specs.Steps.{IsParty}
 use Rattle.ad_diff.specs.Holders.{listed_if}
 use Rattle.ad_diff.specs.Frames.{base_at, HasBase, lines_at, IsRight, Keeps, IsPut, IsGround}
 use Rattle.ad_diff.proofs.Lists.{all_at, all_has}
-use Rattle.ad_diff.proofs.Owned.{changes_bare}
 use Rattle.ad_diff.proofs.Grounds.{bare_party, not_holder}
 
 -- ---- no other lines
@@ -52,57 +53,56 @@ put_lines frame old new place lines one updates =
           ∙ ap (λ (family : ℕ). by family other (get nat_eq old.others other)) one;
     }
 
-pub put_right : (before after : Directory) (parties : List Party) (o : Both) (frame : Frame) (old new : Column)
-    (place : ℕ) (party : Party) (lines : List ℕ) → slice_get parties place ≡ Some party
-    → lines ≡ changes_in before after party.was party.is true o → IsPut frame old new place lines
-    → IsRight before after parties o frame new place
-put_right before after parties o frame old new place party lines there are put other own =
-    put.own ∙ are ∙ ap (λ (p : Party). changes_in before after p.was p.is true o)
-    (same_Some party other (sym there ∙ own))
+pub put_right : (sides : Sides) (o : Both) (frame : Frame) (old new : Column) (place : ℕ) (lines : List ℕ)
+    → lines ≡ changes_at sides true o place → IsPut frame old new place lines → IsRight sides o frame new place
+put_right sides o frame old new place lines are put party own =
+    put.own ∙ are ∙ ap (λ (p : Option Party). option_map_or
+    (λ (q : Party). changes_in sides.before.now sides.after.now q.was q.is true o) p []) own
 
-pub put_keeps : (before after : Directory) (parties : List Party) (o : Both) (frame : Frame) (old new : Column)
-    (place : ℕ) (party : Party) (lines : List ℕ) → slice_get parties place ≡ Some party
-    → lines ≡ changes_in before after party.was party.is true o → IsPut frame old new place lines
-    → Keeps before after parties o frame old new
-put_keeps before after parties o frame old new place party lines there are put other right =
+pub put_keeps : (sides : Sides) (o : Both) (frame : Frame) (old new : Column) (place : ℕ) (lines : List ℕ)
+    → lines ≡ changes_at sides true o place → IsPut frame old new place lines → Keeps sides o frame old new
+put_keeps sides o frame old new place lines are put other right =
     elim (cases_Bool (nat_eq place other)) [
-      | inl same ↦ subst (IsRight before after parties o frame new) ((Decides-eqb place other).0 same)
-          (put_right before after parties o frame old new place party lines there are put)
+      | inl same ↦ subst (IsRight sides o frame new) ((Decides-eqb place other).0 same)
+          (put_right sides o frame old new place lines are put)
       | inr apart ↦ λ one own. put.others other apart ∙ right one own
     ]
 
 -- ---- all
 
-module _ (before after : Directory) (parties : List Party) (o : Both) (ground : Ground) (family : ℕ)
-    (plain mid new : Column) (first second : List ℕ) where
-  pub column_right : All (IsParty before after) parties → IsGround before after parties ground
-      → HasBase before after parties ground.frame family o
-      → ((place : ℕ) → lines_at ground.frame plain place ≡ base_at ground.frame family place)
-      → first ≡ listed_if ground.holders.places (asked_in before o.before)
-      → second ≡ listed_if ground.holders_after.places (asked_in after o.after)
-      → All (IsRight before after parties o ground.frame mid) first
-      → Keeps before after parties o ground.frame plain mid
-      → All (IsRight before after parties o ground.frame new) second
-      → Keeps before after parties o ground.frame mid new
-      → (place : ℕ) → IsRight before after parties o ground.frame new place
-  column_right are is base plainly is_first is_second right keeps right_too keeps_too place =
-      elim (cases_Bool (has first place)) [
-        | inl held ↦ keeps_too place (all_has (IsRight before after parties o ground.frame mid) first place right held)
-        | inr none ↦ elim (cases_Bool (has second place)) [
-          | inl held ↦ all_has (IsRight before after parties o ground.frame new) second place right_too held
-          | inr neither ↦ λ party own.
-              let bare = bare_party before after party (all_at (IsParty before after) parties place party are own) in
-              keeps_too place (keeps place (λ one there.
-              plainly place ∙ base place one there
-              ∙ ap (λ (p : Party). changes_in before after p.was p.is false o) (same_Some one party (sym there ∙ own))
-              ∙ sym (changes_bare before after party.was party.is o bare.0 bare.1
-              (not_holder ground.holders.places parties true (asked_in before o.before) place party
-              is.before_holders own
-              (ap (λ (l : List ℕ). has l place) (sym is_first) ∙ none))
-              (not_holder ground.holders_after.places parties false (asked_in after o.after) place party
-              is.after_holders own
-              (ap (λ (l : List ℕ). has l place) (sym is_second) ∙ neither)))
-              ∙ ap (λ (p : Party). changes_in before after p.was p.is true o) (same_Some party one (sym own ∙ there))))
-              party own
+module _ (sides : Sides) (o : Both) (ground : Ground) (family : ℕ) (plain mid new : Column) (first second : List ℕ)
+  where
+    pub column_right : All (IsParty sides.before.now sides.after.now) sides.parties.now
+        → IsGround sides.parties.now ground → HasBase sides ground.frame family o
+        → ((place : ℕ) → lines_at ground.frame plain place ≡ base_at ground.frame family place)
+        → first ≡ listed_if ground.holders.places (asked_in sides.before.now o.before)
+        → second ≡ listed_if ground.holders_after.places (asked_in sides.after.now o.after)
+        → All (IsRight sides o ground.frame mid) first → Keeps sides o ground.frame plain mid
+        → All (IsRight sides o ground.frame new) second → Keeps sides o ground.frame mid new
+        → (place : ℕ) → IsRight sides o ground.frame new place
+    column_right are is base plainly is_first is_second right keeps right_too keeps_too place =
+        let before = sides.before.now in
+        let after = sides.after.now in
+        let parties = sides.parties.now in
+        elim (cases_Bool (has first place)) [
+          | inl held ↦ keeps_too place (all_has (IsRight sides o ground.frame mid) first place right held)
+          | inr none ↦ elim (cases_Bool (has second place)) [
+            | inl held ↦ all_has (IsRight sides o ground.frame new) second place right_too held
+            | inr neither ↦ λ party own.
+                let bare = bare_party before after party (all_at (IsParty before after) parties place party are own) in
+                keeps_too place (keeps place (λ one there.
+                plainly place ∙ base place one there
+                ∙ ap (λ (p : Party). changes_in before after p.was p.is false o)
+                (same_Some one party (sym there ∙ own))
+                ∙ sym (changes_bare before after party.was party.is o bare.0 bare.1
+                (not_holder ground.holders.places parties true (asked_in before o.before) place party
+                is.before_holders own
+                (ap (λ (l : List ℕ). has l place) (sym is_first) ∙ none))
+                (not_holder ground.holders_after.places parties false (asked_in after o.after) place party
+                is.after_holders own
+                (ap (λ (l : List ℕ). has l place) (sym is_second) ∙ neither)))
+                ∙ ap (λ (p : Party). changes_in before after p.was p.is true o)
+                (same_Some party one (sym own ∙ there))))
+                party own
+          ]
         ]
-      ]

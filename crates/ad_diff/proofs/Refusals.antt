@@ -8,12 +8,13 @@ use Rattle.std.proofs.lemmas.List.Filters.{length-filter_both}
 use Rattle.std.proofs.lemmas.List.{get_or-map}
 use Rattle.ad_dir_model.specs.Directory.{Directory}
 use Rattle.ad_principals.proofs.Remaining.{too_many}
-use Rattle.ad_diff.specs.declared.both.Both.{Both}
-use Rattle.ad_diff.specs.declared.both.Grouped.{Grouped}
-use Rattle.ad_diff.specs.declared.tokens.DiffFault.{DiffFault}
-use Rattle.ad_diff.specs.Both.{are_principals, objects_of_both, principals_of_both}
+use Rattle.ad_diff_rights.specs.declared.both.Both.{Both}
+use Rattle.ad_diff_rights.specs.declared.tokens.DiffFault.{DiffFault}
+use Rattle.ad_diff_rights.specs.Both.{are_principals, objects_of_both, principals_of_both}
+use Rattle.ad_diff_rights.specs.Parties.{HasToken, IsRefused}
+use Rattle.ad_diff.specs.declared.numbering.Grouped.{Grouped}
 use Rattle.ad_diff.specs.Text.{members}
-use Rattle.ad_diff.specs.Answers.{HasToken, IsRefused, DiffTold}
+use Rattle.ad_diff.specs.Answers.{DiffTold}
 
 no_refusal : (before after : Directory) (principals : List Both) (fault : DiffFault)
     → All (λ (p : Both). HasToken before p.before × HasToken after p.after) principals

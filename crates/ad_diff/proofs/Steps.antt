@@ -2,12 +2,12 @@
 use Rattle.std.proofs.Common.{◌≡◌, ◌∙◌, ℕ, List, [], get_or, map, sym}
 use Rattle.std.proofs.Common.{◌<◌, ◌+◌, ◌++◌, length, take, ap, arith, append_assoc}
 use Rattle.std.proofs.lemmas.List.{map_more, length-map, length-take-le}
-use Rattle.ad_diff.specs.Text.{cell_text, row_text, table_text}
-use Rattle.ad_diff.proofs.Texts.{row_more, table_more}
 use Rattle.ad_diff.specs.declared.columns.Column.{Column}
 use Rattle.ad_diff.specs.declared.bases.Frame.{Frame}
+use Rattle.ad_diff.specs.Text.{cell_text, row_text, table_text}
 use Rattle.ad_diff.specs.Frames.{lines_at}
 use Rattle.ad_diff.specs.Table.{row_of}
+use Rattle.ad_diff.proofs.Texts.{row_more, table_more}
 
 -- ---- the text of columns
 

@@ -1,18 +1,19 @@
 -- The whole text, of principals and objects in groups.
-use Rattle.std.proofs.Common.{◌≡◌, ◌∙◌, ◌<◌, ℕ, List, [], ◌∷◌, ◌++◌, map, refl, sym, ap, subst}
+use Rattle.std.proofs.Common.{◌≡◌, ◌∙◌, ◌<◌, ℕ, List, ◌++◌, map, refl, sym, ap, subst}
 use Rattle.std.specs.Prelude.{All, codes}
 use Rattle.std.specs.List.{flat_map}
 use Rattle.std.proofs.lemmas.List.{get_or-map, length-map}
 use Rattle.std.proofs.lemmas.List.Elements.{All-filter}
 use Rattle.ad_dir_model.specs.Directory.{Directory}
-use Rattle.ad_diff.specs.declared.both.Both.{Both}
-use Rattle.ad_diff.specs.declared.both.Grouped.{Grouped}
-use Rattle.ad_diff.specs.declared.tokens.Party.{Party}
+use Rattle.ad_diff_rights.specs.declared.both.Both.{Both}
+use Rattle.ad_diff_rights.specs.declared.steady.Sides.{Sides}
+use Rattle.ad_diff_rights.specs.declared.tokens.Party.{Party}
+use Rattle.ad_diff_rights.specs.Both.{are_principals, objects_of_both, principals_of_both, IsLiveBoth}
+use Rattle.ad_diff_rights.specs.Parties.{IsParty}
+use Rattle.ad_diff.specs.declared.numbering.Grouped.{Grouped}
 use Rattle.ad_diff.specs.declared.bases.Frame.{Frame}
 use Rattle.ad_diff.specs.declared.columns.Column.{Column}
-use Rattle.ad_diff.specs.Both.{are_principals, objects_of_both, principals_of_both}
 use Rattle.ad_diff.specs.Text.{members, principal_line, object_line, row_text, table_text, only_text, IsDiffText}
-use Rattle.ad_diff.specs.Steps.{IsLiveBoth, IsParty}
 use Rattle.ad_diff.specs.Frames.{lines_at}
 use Rattle.ad_diff.specs.Table.{ArePlaced, row_of, table_of, AreRows}
 use Rattle.ad_diff.proofs.Exact.{exact_all, none_of_objects, none_of_principals}
@@ -23,23 +24,28 @@ table_is : (frame : Frame) (columns : List Column) (leaders : List ℕ)
 unfolding table_text row_text
 table_is frame columns leaders = refl
 
-pub whole : (before after : Directory) (parties : List Party) (frame : Frame) (columns : List Column)
-    (objects groups : List Grouped) (leaders : List ℕ) (text : List ℕ)
-    → map (λ (party : Party). party.both) parties ≡ members groups → All (IsParty before after) parties
-    → ArePlaced before after parties frame columns objects → AreRows frame columns leaders groups
-    → members groups ≡ principals_of_both before after → members objects ≡ objects_of_both before after
-    → text ≡ flat_map (principal_line after) groups ++ (flat_map (object_line after) objects
+pub whole : (sides : Sides) (frame : Frame) (columns : List Column) (objects groups : List Grouped)
+    (leaders : List ℕ) (text : List ℕ)
+    → map (λ (party : Party). party.both) sides.parties.now ≡ members groups
+    → All (IsParty sides.before.now sides.after.now) sides.parties.now
+    → ArePlaced sides frame columns objects → AreRows frame columns leaders groups
+    → members groups ≡ principals_of_both sides.before.now sides.after.now
+    → members objects ≡ objects_of_both sides.before.now sides.after.now
+    → text ≡ flat_map (principal_line sides.after.now) groups ++ (flat_map (object_line sides.after.now) objects
     ++ (table_text 1 (map (λ (column : Column). row_of leaders (lines_at frame column)) columns)
-    ++ (only_text (codes "only before ") before after ++ only_text (codes "only after ") after before)))
-    → IsDiffText before after text
-whole before after parties frame columns objects groups leaders text same are placed rows they_are things_are is
-    = record {
+    ++ (only_text (codes "only before ") sides.before.now sides.after.now
+    ++ only_text (codes "only after ") sides.after.now sides.before.now)))
+    → IsDiffText sides.before.now sides.after.now text
+whole sides frame columns objects groups leaders text same are placed rows they_are things_are is =
+    let before = sides.before.now in
+    let after = sides.after.now in
+    record {
       principals = groups;
       objects = objects;
       table = table_of frame columns leaders;
       are_principals = they_are;
       are_objects = things_are;
-      exact = exact_all before after parties frame columns objects groups leaders same are placed rows;
+      exact = exact_all sides frame columns objects groups leaders same are placed rows;
       unlisted_objects = λ k. none_of_objects frame columns leaders k;
       unlisted_principals = λ l. none_of_principals frame columns leaders l;
       lines = is ∙ ap (λ (t : List ℕ). flat_map (principal_line after) groups ++ (flat_map (object_line after) objects
@@ -68,30 +74,3 @@ pub placed_live : (before after : Directory) (objects : List Both) (gs : List Gr
     → All (λ (g : Grouped). IsLiveBoth before after g.both) gs
 placed_live before after objects gs live of_them =
     all_members (IsLiveBoth before after) gs (subst (All (IsLiveBoth before after)) (sym of_them) live)
-
--- the same, where parts are seen as slices
-pub whole_seen : (before after : Directory) (parties ps : List Party) (frame : Frame) (columns cs cols : List Column)
-    (objects os groups gs : List Grouped) (leaders ls : List ℕ) (principals things : List Both) (text : List ℕ)
-    → ps ≡ parties → cs ≡ columns → cols ≡ columns → gs ≡ groups → os ≡ objects → ls ≡ leaders
-    → map (λ (party : Party). party.both) parties ≡ principals → members groups ≡ principals
-    → members objects ≡ things → All (IsParty before after) parties
-    → ArePlaced before after ps frame columns objects → AreRows frame cs leaders groups
-    → principals ≡ principals_of_both before after → things ≡ objects_of_both before after
-    → text ≡ flat_map (principal_line after) gs ++ (flat_map (object_line after) os
-    ++ (table_text 1 (map (λ (column : Column). row_of ls (lines_at frame column)) cols)
-    ++ (only_text (codes "only before ") before after ++ only_text (codes "only after ") after before)))
-    → IsDiffText before after text
-whole_seen before after parties ps frame columns cs cols objects os groups gs leaders ls principals things text same_ps
-    same_cs same_cols same_gs same_os same_ls both_are groups_are objects_are are placed rows they_are things_are is =
-    let F = λ (g o : List Grouped) (c : List Column) (l : List ℕ). flat_map (principal_line after) g
-    ++ (flat_map (object_line after) o
-    ++ (table_text 1 (map (λ (column : Column). row_of l (lines_at frame column)) c)
-    ++ (only_text (codes "only before ") before after ++ only_text (codes "only after ") after before))) in
-    whole before after parties frame columns objects groups leaders text (both_are ∙ sym groups_are) are
-    (subst (λ (p : List Party). ArePlaced before after p frame columns objects) same_ps placed)
-    (subst (λ (c : List Column). AreRows frame c leaders groups) same_cs rows)
-    (groups_are ∙ they_are) (objects_are ∙ things_are)
-    (is ∙ ap (λ (x : List Grouped). F x os cols ls) same_gs
-    ∙ ap (λ (x : List Grouped). F groups x cols ls) same_os
-    ∙ ap (λ (x : List Column). F groups objects x ls) same_cols
-    ∙ ap (λ (x : List ℕ). F groups objects columns x) same_ls)

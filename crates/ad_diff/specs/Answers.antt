@@ -1,14 +1,12 @@
 -- What is told: the differences, or the line that says why there are none.
-use Rattle.std.specs.Prelude.{◌≡◌, ◌⊎◌, ℕ, Bool, true, false, List, [], ◌∷◌, codes}
-use Rattle.ad_ids.specs.declared.token.Token.{Token}
+use Rattle.std.specs.Prelude.{◌≡◌, ℕ, Bool, true, false, List, [], codes}
+use Rattle.ad_bytes.specs.Puts.{labelled}
 use Rattle.ad_dir_model.specs.Directory.{Directory}
 use Rattle.ad_dir_model.specs.Names.{name_text}
-use Rattle.ad_principals.specs.Tokens.{IsTokenOf, HasTooManyGroups}
-use Rattle.ad_diff.specs.Words.{labelled}
-use Rattle.ad_diff.specs.declared.both.Both.{Both}
-use Rattle.ad_diff.specs.declared.tokens.DiffFault.{DiffFault}
-use Rattle.ad_diff.specs.declared.tokens.DiffFault.TheVariants.{Before, After, Memory}
-use Rattle.ad_diff.specs.Both.{principals_of_both}
+use Rattle.ad_diff_rights.specs.declared.tokens.DiffFault.{DiffFault}
+use Rattle.ad_diff_rights.specs.declared.tokens.DiffFault.TheVariants.{Before, After, Memory}
+use Rattle.ad_diff_rights.specs.Both.{principals_of_both}
+use Rattle.ad_diff_rights.specs.Parties.{IsRefused}
 use Rattle.ad_diff.specs.Text.{IsDiffText}
 
 -- the line of a fault; want of memory has none
@@ -16,19 +14,6 @@ abbrev pub fault_line : Directory → Directory → DiffFault → List ℕ
 fault_line before after (Before number) = labelled (codes "too many groups before ") (name_text before number)
 fault_line before after (After number) = labelled (codes "too many groups after ") (name_text after number)
 fault_line before after Memory = []
-
-abbrev pub HasToken : Directory → ℕ → Type 0
-HasToken dir number = (token : Token) × IsTokenOf dir number [] token
-
--- Of the first of these principals that has no token: it has too many groups in the first directory, or has a token
--- there and too many in the second.
-abbrev pub IsRefused : Directory → Directory → List Both → DiffFault → Type 0
-IsRefused before after [] fault = ⊥
-IsRefused before after (p ∷ others) fault =
-    ((fault ≡ Before p.before) × HasTooManyGroups before p.before [])
-    ⊎ (HasToken before p.before
-    × (((fault ≡ After p.after) × HasTooManyGroups after p.after [])
-    ⊎ (HasToken after p.after × IsRefused before after others fault)))
 
 -- the line of the first fault
 abbrev pub IsRefusal : Directory → Directory → List ℕ → Type 0

@@ -1,34 +1,32 @@
 -- Only for private contracts, invariants and proofs: the lines of kinds on families, and columns.
-use Rattle.std.specs.Prelude.{◌≡◌, ℕ, zero, suc, ◌<◌, Bool, true, false, nat_eq, Some, List, [], ◌++◌, map, get_or}
-use Rattle.std.specs.Prelude.{length}
+use Rattle.std.specs.Prelude.{◌≡◌, ℕ, zero, suc, ◌<◌, true, false, nat_eq, Some, List, [], ◌++◌, map, get_or, length}
 use Rattle.std.specs.Prelude.{slice_get}
 use Rattle.std.specs.Option.{option_map_or}
 use Rattle.std.specs.Global.{Vec}
 use Rattle.indexmap.specs.IndexMap.{get}
-use Rattle.ad_dir_model.specs.Directory.{Directory}
-use Rattle.ad_diff.specs.declared.both.Both.{Both}
-use Rattle.ad_diff.specs.declared.tokens.Party.{Party}
+use Rattle.ad_diff_rights.specs.declared.both.Both.{Both}
+use Rattle.ad_diff_rights.specs.declared.steady.Sides.{Sides}
+use Rattle.ad_diff_rights.specs.declared.tokens.Party.{Party}
+use Rattle.ad_diff_rights.specs.Own.{changes_in}
+use Rattle.ad_diff_rights.specs.Sides.{changes_at}
+use Rattle.ad_diff_rights.specs.Steps.{texts}
 use Rattle.ad_diff.specs.declared.bases.Frame.{Frame}
 use Rattle.ad_diff.specs.declared.columns.Column.{Column}
 use Rattle.ad_diff.specs.declared.ground.Ground.{Ground}
-use Rattle.ad_diff.specs.Own.{changes_in}
-use Rattle.ad_diff.specs.Same.{AreSteady}
-use Rattle.ad_diff.specs.Steps.{texts}
 use Rattle.ad_diff.specs.Holders.{AreHolders}
 
 -- ---- where own identifiers don't count
 
 -- what the principal at a place gains and loses on an object
-abbrev pub bare_at : Directory → Directory → List Party → Both → ℕ → List ℕ
-bare_at before after parties o place = option_map_or
-    (λ (party : Party). changes_in before after party.was party.is false o) (slice_get parties place) []
+abbrev pub bare_at : Sides → Both → ℕ → List ℕ
+bare_at sides o place = changes_at sides false o place
 
 -- those at these places, on one object and on each of many
-abbrev pub bares_on : Directory → Directory → List Party → List ℕ → Both → List (List ℕ)
-bares_on before after parties places o = map (bare_at before after parties o) places
+abbrev pub bares_on : Sides → List ℕ → Both → List (List ℕ)
+bares_on sides places o = map (bare_at sides o) places
 
-abbrev pub all_bares : Directory → Directory → List Party → List ℕ → List Both → List (List (List ℕ))
-all_bares before after parties places objects = map (bares_on before after parties places) objects
+abbrev pub all_bares : Sides → List ℕ → List Both → List (List (List ℕ))
+all_bares sides places objects = map (bares_on sides places) objects
 
 -- ---- the lines of kinds on families
 
@@ -41,9 +39,9 @@ base_at frame family place = get_or (get_or (row_texts frame.rows.items) family 
     []
 
 -- they are those that each principal has on an object where own identifiers don't count
-abbrev pub HasBase : Directory → Directory → List Party → Frame → ℕ → Both → Type 0
-HasBase before after parties frame family o = (place : ℕ) (party : Party) → slice_get parties place ≡ Some party
-    → base_at frame family place ≡ changes_in before after party.was party.is false o
+abbrev pub HasBase : Sides → Frame → ℕ → Both → Type 0
+HasBase sides frame family o = (place : ℕ) (party : Party) → slice_get sides.parties.now place ≡ Some party
+    → base_at frame family place ≡ changes_in sides.before.now sides.after.now party.was party.is false o
 
 -- ---- columns
 
@@ -53,14 +51,13 @@ lines_at frame column place = option_map_or (λ (lines : Vec ℕ). lines.items) 
     (base_at frame column.family place)
 
 -- they are what it gains and loses on an object
-abbrev pub IsRight : Directory → Directory → List Party → Both → Frame → Column → ℕ → Type 0
-IsRight before after parties o frame column place = (party : Party) → slice_get parties place ≡ Some party
-    → lines_at frame column place ≡ changes_in before after party.was party.is true o
+abbrev pub IsRight : Sides → Both → Frame → Column → ℕ → Type 0
+IsRight sides o frame column place = (party : Party) → slice_get sides.parties.now place ≡ Some party
+    → lines_at frame column place ≡ changes_in sides.before.now sides.after.now party.was party.is true o
 
 -- where they are, they stay so
-abbrev pub Keeps : Directory → Directory → List Party → Both → Frame → Column → Column → Type 0
-Keeps before after parties o frame old new = (place : ℕ) → IsRight before after parties o frame old place
-    → IsRight before after parties o frame new place
+abbrev pub Keeps : Sides → Both → Frame → Column → Column → Type 0
+Keeps sides o frame old new = (place : ℕ) → IsRight sides o frame old place → IsRight sides o frame new place
 
 -- the lines at this place, and no others' than were
 pub record IsPut (frame : Frame) (old new : Column) (place : ℕ) (lines : List ℕ) : Type 0 where
@@ -69,16 +66,15 @@ pub record IsPut (frame : Frame) (old new : Column) (place : ℕ) (lines : List 
 
 -- ---- what columns are made of
 
--- what is known of the principals
-pub record IsGround (before after : Directory) (parties : List Party) (ground : Ground) : Type 0 where
-  pub marks : AreSteady before after parties ground.marks.items
+-- who holds an identifier
+pub record IsGround (parties : List Party) (ground : Ground) : Type 0 where
   pub before_holders : AreHolders parties true (length parties) ground.holders.places
   pub after_holders : AreHolders parties false (length parties) ground.holders_after.places
 
 -- the families that begin with these objects have their lines
-abbrev pub AreBases : Directory → Directory → List Party → Frame → List Both → Type 0
-AreBases before after parties frame firsts = (family : ℕ) (first : Both) → slice_get firsts family ≡ Some first
-    → HasBase before after parties frame family first
+abbrev pub AreBases : Sides → Frame → List Both → Type 0
+AreBases sides frame firsts = (family : ℕ) (first : Both) → slice_get firsts family ≡ Some first
+    → HasBase sides frame family first
 
 -- ---- groups
 

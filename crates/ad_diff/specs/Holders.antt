@@ -7,7 +7,7 @@ use Rattle.ad_ids.specs.SidValue.{SidValue, same_sid}
 use Rattle.ad_ids.specs.declared.token.Token.{Token}
 use Rattle.ad_access.specs.Holder.{first_holder, holds}
 use Rattle.ad_dir_model.specs.Protection.{has}
-use Rattle.ad_diff.specs.declared.tokens.Party.{Party}
+use Rattle.ad_diff_rights.specs.declared.tokens.Party.{Party}
 
 -- the places that a table has of an identifier
 abbrev pub listed : {S : Type 0} → IndexMap SidValue (Vec ℕ) S → SidValue → List ℕ

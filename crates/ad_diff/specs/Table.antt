@@ -1,26 +1,26 @@
 -- Only for private contracts, invariants and proofs: columns of the table and groups of its rows.
 use Rattle.std.specs.Prelude.{◌≡◌, ℕ, suc, ◌<◌, true, Some, List, [], ◌∷◌, ◌++◌, All, map, get_or, length, slice_get}
-use Rattle.ad_dir_model.specs.Directory.{Directory}
-use Rattle.ad_diff.specs.declared.both.Both.{Both}
-use Rattle.ad_diff.specs.declared.both.Grouped.{Grouped}
-use Rattle.ad_diff.specs.declared.tokens.Party.{Party}
+use Rattle.ad_diff_rights.specs.declared.both.Both.{Both}
+use Rattle.ad_diff_rights.specs.declared.steady.Sides.{Sides}
+use Rattle.ad_diff_rights.specs.declared.tokens.Party.{Party}
+use Rattle.ad_diff_rights.specs.Own.{changes_in}
+use Rattle.ad_diff.specs.declared.numbering.Grouped.{Grouped}
 use Rattle.ad_diff.specs.declared.bases.Frame.{Frame}
 use Rattle.ad_diff.specs.declared.columns.Column.{Column}
 use Rattle.ad_diff.specs.Text.{members}
-use Rattle.ad_diff.specs.Own.{changes_in}
 use Rattle.ad_diff.specs.Frames.{lines_at, group_lines}
 
 -- ---- the table
 
 -- the object's group is that of a column with its lines
-pub record IsPlaced (before after : Directory) (parties : List Party) (frame : Frame) (columns : List Column)
-    (g : Grouped) : Type 0 where
+pub record IsPlaced (sides : Sides) (frame : Frame) (columns : List Column) (g : Grouped) : Type 0 where
   pub within : g.group < suc (length columns)
-  pub lines : (place : ℕ) (party : Party) → slice_get parties place ≡ Some party
-      → group_lines frame columns g.group place ≡ changes_in before after party.was party.is true g.both
+  pub lines : (place : ℕ) (party : Party) → slice_get sides.parties.now place ≡ Some party
+      → group_lines frame columns g.group place
+      ≡ changes_in sides.before.now sides.after.now party.was party.is true g.both
 
-abbrev pub ArePlaced : Directory → Directory → List Party → Frame → List Column → List Grouped → Type 0
-ArePlaced before after parties frame columns objects = All (IsPlaced before after parties frame columns) objects
+abbrev pub ArePlaced : Sides → Frame → List Column → List Grouped → Type 0
+ArePlaced sides frame columns objects = All (IsPlaced sides frame columns) objects
 
 -- ---- groups of principals
 
@@ -59,7 +59,7 @@ pub record AreGrouped (frame : Frame) (columns : List Column) (done : List Both)
   pub rows : AreRows frame columns leaders groups
 
 -- the objects so far are placed
-pub record IsPlacing (before after : Directory) (parties : List Party) (frame : Frame) (done : List Both)
-    (objects : List Grouped) (columns : List Column) : Type 0 where
+pub record IsPlacing (sides : Sides) (frame : Frame) (done : List Both) (objects : List Grouped)
+    (columns : List Column) : Type 0 where
   pub members_are : members objects ≡ done
-  pub placed : ArePlaced before after parties frame columns objects
+  pub placed : ArePlaced sides frame columns objects

@@ -3,16 +3,16 @@ use Rattle.std.specs.Prelude.{◌≡◌, ℕ, ◌+◌, ◌==◌, if◌then◌els
 use Rattle.std.specs.Prelude.{◌++◌, codes, decimal, map, get_or, All}
 use Rattle.std.specs.List.{flat_map}
 use Rattle.std.specs.Option.{option_map_or}
+use Rattle.ad_bytes.specs.Puts.{spaced, ended, labelled}
 use Rattle.ad_ids.specs.SidText.{sid_text}
 use Rattle.ad_dir_model.specs.Directory.{Directory}
 use Rattle.ad_dir_model.specs.Objects.{numbers}
 use Rattle.ad_dir_model.specs.Names.{name_text}
 use Rattle.ad_dir_model.specs.Identity.{self_sid}
-use Rattle.ad_diff.specs.Words.{spaced, ended, labelled}
-use Rattle.ad_diff.specs.declared.both.Both.{Both}
-use Rattle.ad_diff.specs.declared.both.Grouped.{Grouped}
-use Rattle.ad_diff.specs.Both.{counterpart, objects_of_both, principals_of_both}
-use Rattle.ad_diff.specs.Changes.{Differs}
+use Rattle.ad_diff_rights.specs.declared.both.Both.{Both}
+use Rattle.ad_diff_rights.specs.Both.{counterpart, objects_of_both, principals_of_both}
+use Rattle.ad_diff_rights.specs.Changes.{Differs}
+use Rattle.ad_diff.specs.declared.numbering.Grouped.{Grouped}
 
 -- ---- groups
 

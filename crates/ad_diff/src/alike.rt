@@ -3,9 +3,10 @@
 
 ghost use Rattle.std.specs.Prelude.{◌≡◌, true, IfSome};
 ghost use Rattle.ad_dir_model.specs.Objects.{is_live};
-ghost use Rattle.ad_diff.specs.Steps.{IsAlike, IsAlikeIn, IsLiveBoth};
+ghost use Rattle.ad_diff_rights.specs.Same.{IsAlike, IsAlikeIn};
+ghost use Rattle.ad_diff_rights.specs.Both.{IsLiveBoth};
 
-use crate::both::Both;
+use ad_diff_rights::Both;
 use ad_dir::{Dir, class_of};
 
 // Whether two live objects have the same class and descriptor.

@@ -1,15 +1,12 @@
 //! What the principals of each kind gain and lose on the objects of each family where own identifiers don't count.
 
 ghost use Rattle.std.specs.Prelude.{◌≡◌, [], ℕ, true, All, get_or, IfOk};
-ghost use Rattle.ad_diff.specs.Same.{IsUnchanged, AreSteady};
-ghost use Rattle.ad_diff.specs.Steps.{texts, IsLiveBoth};
-ghost use Rattle.ad_diff.specs.Frames.{bare_at, bares_on, all_bares, row_texts, base_at};
+ghost use Rattle.ad_diff_rights.specs.Both.{IsLiveBoth};
+ghost use Rattle.ad_diff_rights.specs.Sides.{AreMarked};
+ghost use Rattle.ad_diff_rights.specs.Steps.{texts};
+ghost use Rattle.ad_diff.specs.Frames.{bares_on, all_bares, row_texts, base_at};
 
-use crate::both::Both;
-use crate::same::is_unchanged;
-use crate::steady::{is_marked, lines_of};
-use crate::tokens::{Party, party_at};
-use ad_dir::Dir;
+use ad_diff_rights::{Both, Sides, changes_at, is_unchanged};
 use std::alloc::{AllocError, Global};
 
 /// The lines of each kind on each family, and the kind of each principal.
@@ -19,51 +16,21 @@ pub struct Frame {
     pub kinds: Vec<u32>,
 }
 
-// The lines of the principal at a place on an object that is live in both, as if it had no own identifiers.
-fn lines_at_place(
-    alloc: Global,
-    before: &Dir,
-    after: &Dir,
-    parties: &[Party],
-    marks: &[bool],
-    place: usize,
-    o: Both,
-    unchanged: bool,
-) -> Result<Vec<u8>, AllocError>
-    requires live { IsLiveBoth before.now after.now o }
-    requires steady { AreSteady before.now after.now parties.now marks.now }
-    requires unchanged { unchanged ≡ true → IsUnchanged before.now after.now o }
-    ensures { IfOk result (λ lines. lines.items
-        ≡ bare_at before.now after.now parties.now o place) }
-{
-    match party_at(parties, place) {
-        Some(party) => {
-            let steady = is_marked(marks, place);
-            lines_of(alloc, before, after, party, steady, false, o, unchanged)
-        }
-        None => Ok(Vec::new(alloc)),
-    }
-}
-
-// Those of the principals at these places.
+// The lines of the principals at these places on an object that is live in both, as if it had no own identifiers.
 fn row_of(
     alloc: Global,
-    before: &Dir,
-    after: &Dir,
-    parties: &[Party],
-    marks: &[bool],
+    sides: &Sides<'_>,
     places: &[usize],
     o: Both,
 ) -> Result<Vec<Vec<u8>>, AllocError>
-    requires live { IsLiveBoth before.now after.now o }
-    requires steady { AreSteady before.now after.now parties.now marks.now }
-    ensures { IfOk result (λ row. texts row.items
-        ≡ bares_on before.now after.now parties.now places.now o) }
+    requires live { IsLiveBoth sides.now.before.now sides.now.after.now o }
+    requires marked { AreMarked sides.now }
+    ensures { IfOk result (λ row. texts row.items ≡ bares_on sides.now places.now o) }
 {
     let mut row = Vec::new(alloc);
-    let unchanged = is_unchanged(before, after, o);
+    let unchanged = is_unchanged(sides.before, sides.after, o);
     for place in places {
-        let lines = lines_at_place(alloc, before, after, parties, marks, *place, o, unchanged)?;
+        let lines = changes_at(alloc, sides, *place, false, o, unchanged)?;
         row.push(lines)?;
     }
     Ok(row)
@@ -76,21 +43,18 @@ fn row_of(
 /// Out of memory.
 pub(crate) fn rows_of(
     alloc: Global,
-    before: &Dir,
-    after: &Dir,
-    parties: &[Party],
-    marks: &[bool],
+    sides: &Sides<'_>,
     places: &[usize],
     objects: &[Both],
 ) -> Result<Vec<Vec<Vec<u8>>>, AllocError>
-    requires live { All (IsLiveBoth before.now after.now) objects.now }
-    requires steady { AreSteady before.now after.now parties.now marks.now }
+    requires live { All (IsLiveBoth sides.now.before.now sides.now.after.now) objects.now }
+    requires marked { AreMarked sides.now }
     ensures { IfOk result (λ rows. row_texts rows.items
-        ≡ all_bares before.now after.now parties.now places.now objects.now) }
+        ≡ all_bares sides.now places.now objects.now) }
 {
     let mut rows = Vec::new(alloc);
     for o in objects {
-        let row = row_of(alloc, before, after, parties, marks, places, *o)?;
+        let row = row_of(alloc, sides, places, *o)?;
         rows.push(row)?;
     }
     Ok(rows)

@@ -1,13 +1,14 @@
 //! The objects in families: those of a family have the same class and the same descriptor in each directory.
 
 ghost use Rattle.std.specs.Prelude.{◌≡◌, ◌++◌, ◌∷◌, [], true, All, slice_get, IfOk, OnOk};
+ghost use Rattle.ad_dir_model.specs.Directory.{Directory};
+ghost use Rattle.ad_diff_rights.specs.Both.{IsLiveBoth};
 ghost use Rattle.ad_diff.specs.Text.{members};
-ghost use Rattle.ad_diff.specs.Steps.{IsLiveBoth};
 ghost use Rattle.ad_diff.specs.Families.{IsOfFamily, AreOfFamilies, IsNext};
 
 use crate::alike::{hash_of, is_alike};
-use crate::both::{Both, Grouped};
-use crate::columns::number_of;
+use crate::numbering::{Grouped, number_of};
+use ad_diff_rights::Both;
 use ad_dir::Dir;
 use indexmap::IndexMap;
 use std::alloc::{AllocError, Global};
@@ -42,16 +43,11 @@ fn is_of(before: &Dir, after: &Dir, firsts: &[Both], family: u32, o: Both) -> bo
 }
 
 // A new family, of this object.
-fn begin(before: &Dir, after: &Dir, firsts: &mut Vec<Both>, o: Both) -> Result<u32, AllocError>
-    requires firsts { All (IsLiveBoth before.now after.now) firsts.now.items }
-    requires live { IsLiveBoth before.now after.now o }
-    ensures firsts { OnOk result (All (IsLiveBoth before.now after.now) firsts.new.items) }
-    ensures family { IfOk result (λ family. IsNext before.now after.now firsts.old.items
-        firsts.new.items
-        family o) }
+fn begin(firsts: &mut Vec<Both>, o: Both) -> Result<u32, AllocError>
+    ensures firsts { OnOk result (firsts.new.items ≡ firsts.old.items ++ (o ∷ [])) }
+    ensures family { IfOk result (λ family. (before after : Directory)
+        → IsNext before after firsts.old.items firsts.new.items family o) }
 {
-    let _ = before;
-    let _ = after;
     let family = number_of(firsts.as_slice().len())?;
     firsts.push(o)?;
     Ok(family)
@@ -77,7 +73,7 @@ fn family_of(
             return Ok(family);
         }
     }
-    begin(before, after, firsts, o)
+    begin(firsts, o)
 }
 
 // Puts one more object into a family.

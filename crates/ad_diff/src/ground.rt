@@ -2,25 +2,21 @@
 //! and lose where own identifiers don't count, and who holds an identifier.
 
 ghost use Rattle.std.specs.Prelude.{◌≡◌, true, All, IfOk};
-ghost use Rattle.ad_diff.specs.Steps.{IsLiveBoth, IsParty};
+ghost use Rattle.ad_diff_rights.specs.Both.{IsLiveBoth};
+ghost use Rattle.ad_diff_rights.specs.Parties.{IsParty};
+ghost use Rattle.ad_diff_rights.specs.Sides.{AreMarked};
 ghost use Rattle.ad_diff.specs.Frames.{AreBases, IsGround};
 
 use crate::bases::{Frame, rows_of};
-use crate::both::Both;
 use crate::holders::{Holders, holders_in};
 use crate::kinds::kinds_of;
-use crate::named::named_by;
-use crate::steady::steady_marks;
-use crate::tokens::Party;
-use ad_dir::Dir;
+use ad_diff_rights::{Both, Sides, named_by};
 use std::alloc::{AllocError, Global};
 
 /// What the columns are made of.
 #[derive(Drop)]
 pub struct Ground {
     pub frame: Frame,
-    /// Of each principal whether its tokens are equal, and the schemas.
-    pub marks: Vec<bool>,
     pub holders: Holders,
     pub holders_after: Holders,
 }
@@ -32,37 +28,26 @@ pub struct Ground {
 /// Out of memory.
 pub(crate) fn ground_of(
     alloc: Global,
-    before: &Dir,
-    after: &Dir,
-    parties: &[Party],
+    sides: &Sides<'_>,
     firsts: &[Both],
 ) -> Result<Ground, AllocError>
-    requires live { All (IsLiveBoth before.now after.now) firsts.now }
-    requires parties { All (IsParty before.now after.now) parties.now }
-    ensures ground { IfOk result (IsGround before.now after.now parties.now) }
-    ensures bases { IfOk result (λ ground. AreBases before.now after.now parties.now ground.frame
-        firsts.now) }
+    requires live { All (IsLiveBoth sides.now.before.now sides.now.after.now) firsts.now }
+    requires marked { AreMarked sides.now }
+    requires parties { All (IsParty sides.now.before.now sides.now.after.now)
+        sides.now.parties.now }
+    ensures ground { IfOk result (IsGround sides.now.parties.now) }
+    ensures bases { IfOk result (λ ground. AreBases sides.now ground.frame firsts.now) }
 {
-    let marks = steady_marks(alloc, before, after, parties)?;
-    let named = named_by(alloc, before, after, firsts)?;
-    let kinds = kinds_of(alloc, &named, parties)?;
-    let rows = rows_of(
-        alloc,
-        before,
-        after,
-        parties,
-        marks.as_slice(),
-        kinds.firsts.as_slice(),
-        firsts,
-    )?;
-    let holders = holders_in(alloc, parties, true)?;
-    let holders_after = holders_in(alloc, parties, false)?;
+    let named = named_by(alloc, sides.before, sides.after, firsts)?;
+    let kinds = kinds_of(alloc, &named, sides.parties)?;
+    let rows = rows_of(alloc, sides, kinds.firsts.as_slice(), firsts)?;
+    let holders = holders_in(alloc, sides.parties, true)?;
+    let holders_after = holders_in(alloc, sides.parties, false)?;
     Ok(Ground {
         frame: Frame {
             rows,
             kinds: kinds.of,
         },
-        marks,
         holders,
         holders_after,
     })

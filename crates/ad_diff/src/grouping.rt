@@ -2,17 +2,19 @@
 
 ghost use Rattle.std.specs.Prelude.{◌≡◌, ◌++◌, ◌∷◌, [], ℕ, true, All, slice_get, OnOk, IfOk};
 ghost use Rattle.std.specs.Option.{option_copied};
+ghost use Rattle.ad_diff_rights.specs.Both.{IsLiveBoth};
+ghost use Rattle.ad_diff_rights.specs.Parties.{IsParty};
+ghost use Rattle.ad_diff_rights.specs.Sides.{AreMarked};
+ghost use Rattle.ad_diff.specs.declared.bases.Frame.{Frame as FrameValue};
 ghost use Rattle.ad_diff.specs.Text.{members};
-ghost use Rattle.ad_diff.specs.Steps.{IsLiveBoth, IsParty};
 ghost use Rattle.ad_diff.specs.Frames.{lines_at, HasBase, IsGround, IsAdded};
 ghost use Rattle.ad_diff.specs.Table.{ArePlaced};
 
 use crate::bases::{Frame, is_quiet_family};
-use crate::both::Grouped;
-use crate::columns::{Column, column_of, is_plain, number_of};
+use crate::columns::{Column, column_of, is_plain};
 use crate::ground::Ground;
-use crate::tokens::Party;
-use ad_dir::Dir;
+use crate::numbering::{Grouped, number_of};
+use ad_diff_rights::Sides;
 use indexmap::IndexMap;
 use std::alloc::{AllocError, Global};
 
@@ -24,11 +26,10 @@ pub struct Placing {
 }
 
 // Whether both are those of one family.
-fn are_of_one(frame: &Frame, a: &Column, b: &Column) -> bool
-    ensures { result ≡ true → (place : ℕ) → lines_at frame.now a.now place
-        ≡ lines_at frame.now b.now place }
+fn are_of_one(a: &Column, b: &Column) -> bool
+    ensures { result ≡ true → (frame : FrameValue) (place : ℕ) → lines_at frame a.now place
+        ≡ lines_at frame b.now place }
 {
-    let _ = frame;
     a.family == b.family && is_plain(a) && is_plain(b)
 }
 
@@ -39,23 +40,24 @@ fn column_at(columns: &[Column], place: usize) -> Option<&Column>
 }
 
 // Whether the column of a group, which has one, has the lines of this one: both are those of their family.
-fn is_same(frame: &Frame, columns: &[Column], group: u32, column: &Column) -> bool
-    ensures { result ≡ true → IsAdded frame.now columns.now columns.now column.now group }
+fn is_same(columns: &[Column], group: u32, column: &Column) -> bool
+    ensures { result ≡ true → (frame : FrameValue) → IsAdded frame columns.now columns.now
+        column.now group }
 {
     if group == 0 {
         return false;
     }
     match column_at(columns, group as usize - 1) {
-        Some(other) => are_of_one(frame, other, column),
+        Some(other) => are_of_one(other, column),
         None => false,
     }
 }
 
 // The group of the lines of a column that has some, which is added.
-fn add(frame: &Frame, columns: &mut Vec<Column>, column: Column) -> Result<u32, AllocError>
-    ensures { IfOk result (IsAdded frame.now columns.old.items columns.new.items column) }
+fn add(columns: &mut Vec<Column>, column: Column) -> Result<u32, AllocError>
+    ensures { IfOk result (λ group. (frame : FrameValue) → IsAdded frame columns.old.items
+        columns.new.items column group) }
 {
-    let _ = frame;
     columns.push(column)?;
     number_of(columns.as_slice().len())
 }
@@ -80,36 +82,36 @@ fn group_of(
         return Ok(0);
     }
     if let Some(group) = hint {
-        if is_same(frame, columns.as_slice(), group, &column) {
+        if is_same(columns.as_slice(), group, &column) {
             return Ok(group);
         }
     }
-    add(frame, columns, column)
+    add(columns, column)
 }
 
 // Places one more object.
 fn place(
     alloc: Global,
-    before: &Dir,
-    after: &Dir,
-    parties: &[Party],
+    sides: &Sides<'_>,
     ground: &Ground,
     placing: &mut Placing,
     hint: Option<u32>,
     g: Grouped,
 ) -> Result<u32, AllocError>
-    requires live { IsLiveBoth before.now after.now g.both }
-    requires parties { All (IsParty before.now after.now) parties.now }
-    requires ground { IsGround before.now after.now parties.now ground.now }
-    requires base { HasBase before.now after.now parties.now ground.now.frame g.group g.both }
-    requires placed { ArePlaced before.now after.now parties.now ground.now.frame
-        placing.now.columns.items placing.now.objects.items }
+    requires live { IsLiveBoth sides.now.before.now sides.now.after.now g.both }
+    requires marked { AreMarked sides.now }
+    requires parties { All (IsParty sides.now.before.now sides.now.after.now)
+        sides.now.parties.now }
+    requires ground { IsGround sides.now.parties.now ground.now }
+    requires base { HasBase sides.now ground.now.frame g.group g.both }
+    requires placed { ArePlaced sides.now ground.now.frame placing.now.columns.items
+        placing.now.objects.items }
     ensures members { OnOk result (members placing.new.objects.items
         ≡ members placing.old.objects.items ++ (g.both ∷ [])) }
-    ensures placed { OnOk result (ArePlaced before.now after.now parties.now ground.now.frame
-        placing.new.columns.items placing.new.objects.items) }
+    ensures placed { OnOk result (ArePlaced sides.now ground.now.frame placing.new.columns.items
+        placing.new.objects.items) }
 {
-    let column = column_of(alloc, before, after, parties, ground, g)?;
+    let column = column_of(alloc, sides, ground, g)?;
     let group = group_of(&ground.frame, &mut placing.columns, hint, column)?;
     placing.objects.push(Grouped {
         both: g.both,
@@ -126,21 +128,21 @@ fn place(
 /// Out of memory.
 pub(crate) fn placed(
     alloc: Global,
-    before: &Dir,
-    after: &Dir,
-    parties: &[Party],
+    sides: &Sides<'_>,
     ground: &Ground,
     objects: &[Grouped],
 ) -> Result<Placing, AllocError>
-    requires live { All (λ g. IsLiveBoth before.now after.now g.both) objects.now }
-    requires parties { All (IsParty before.now after.now) parties.now }
-    requires ground { IsGround before.now after.now parties.now ground.now }
-    requires bases { All (λ g. HasBase before.now after.now parties.now ground.now.frame g.group
-        g.both) objects.now }
+    requires live { All (λ g. IsLiveBoth sides.now.before.now sides.now.after.now g.both)
+        objects.now }
+    requires marked { AreMarked sides.now }
+    requires parties { All (IsParty sides.now.before.now sides.now.after.now)
+        sides.now.parties.now }
+    requires ground { IsGround sides.now.parties.now ground.now }
+    requires bases { All (λ g. HasBase sides.now ground.now.frame g.group g.both) objects.now }
     ensures members { IfOk result (λ placing. members placing.objects.items
         ≡ members objects.now) }
-    ensures placed { IfOk result (λ placing. ArePlaced before.now after.now parties.now
-        ground.now.frame placing.columns.items placing.objects.items) }
+    ensures placed { IfOk result (λ placing. ArePlaced sides.now ground.now.frame
+        placing.columns.items placing.objects.items) }
 {
     let mut hints: IndexMap<u32, u32> = IndexMap::new(alloc);
     let mut placing = Placing {
@@ -149,16 +151,7 @@ pub(crate) fn placed(
     };
     for g in objects {
         let hint = hints.get(&g.group).copied();
-        let group = place(
-            alloc,
-            before,
-            after,
-            parties,
-            ground,
-            &mut placing,
-            hint,
-            *g,
-        )?;
+        let group = place(alloc, sides, ground, &mut placing, hint, *g)?;
         hints.insert(g.group, group)?;
     }
     Ok(placing)

@@ -6,7 +6,7 @@ ghost use Rattle.ad_ids.specs.SidValue.{same_sid, contains_sid};
 ghost use Rattle.ad_access.specs.Holder.{first_holder, holds};
 ghost use Rattle.ad_diff.specs.Holders.{listed, listed_if, Gains, token_in, AreHolders};
 
-use crate::tokens::Party;
+use ad_diff_rights::Party;
 use ad_ids::{Sid, Token};
 use indexmap::IndexMap;
 use std::alloc::{AllocError, Global};

@@ -1,14 +1,17 @@
 //! The principals in kinds: those of a kind hold alike the identifiers that are named, so they are granted alike
 //! where own identifiers don't count.
 
-ghost use Rattle.std.specs.Prelude.{◌≡◌, ◌<◌, ◌+◌, ◌++◌, ◌∷◌, [], true, All, length, slice_get, IfOk, OnOk};
+ghost use Rattle.std.specs.Prelude.{◌≡◌, ◌<◌, ◌+◌, true, List, length, slice_get, IfOk, OnOk};
+ghost use Rattle.ad_ids.specs.SidValue.{SidValue};
 ghost use Rattle.ad_access.specs.Holder.{first_holder, holds};
-ghost use Rattle.ad_diff.specs.Kinds.{HoldAlike, AreTokensAlike, IsLike, IsLikeAt};
+ghost use Rattle.ad_diff_rights.specs.declared.tokens.Party.{Party as PartyValue};
+ghost use Rattle.ad_diff_rights.specs.Named.{HoldAlike, AreTokensAlike, IsLike};
+ghost use Rattle.ad_diff.specs.Kinds.{IsLikeAt};
 ghost use Rattle.ad_diff.specs.Kinds.{IsOfKind, AreKinds, IsNextKind};
 
 use crate::alike::{NOTHING, mixed};
-use crate::columns::number_of;
-use crate::tokens::{Party, party_at};
+use crate::numbering::number_of;
+use ad_diff_rights::{Party, party_at};
 use ad_ids::{Sid, Token};
 use indexmap::{IndexMap, IndexSet};
 use std::alloc::{AllocError, Global};
@@ -90,18 +93,10 @@ fn is_of(named: &[Sid], parties: &[Party], firsts: &[usize], kind: u32, party: &
 }
 
 // A new kind, of the principal at the place.
-fn begin(
-    named: &[Sid],
-    parties: &[Party],
-    firsts: &mut Vec<usize>,
-    place: usize,
-) -> Result<u32, AllocError>
-    requires { place < length parties.now }
-    ensures { IfOk result (IsNextKind named.now parties.now firsts.old.items firsts.new.items
-        place) }
+fn begin(firsts: &mut Vec<usize>, place: usize) -> Result<u32, AllocError>
+    ensures { IfOk result (λ kind. (named : List SidValue) (parties : List PartyValue)
+        → IsNextKind named parties firsts.old.items firsts.new.items place kind) }
 {
-    let _ = named;
-    let _ = parties;
     let kind = number_of(firsts.as_slice().len())?;
     firsts.push(place)?;
     Ok(kind)
@@ -124,7 +119,7 @@ fn kind_of(
             return Ok(kind);
         }
     }
-    begin(named, parties, firsts, place)
+    begin(firsts, place)
 }
 
 // The kinds of one more principal.

@@ -32,30 +32,22 @@
 
 mod alike;
 mod bases;
-mod both;
-mod changes;
-mod codes;
 mod columns;
 mod families;
 mod ground;
 mod grouping;
 mod holders;
 mod kinds;
-mod labelling;
 mod laws;
-mod leaf_masks;
 mod listing;
-mod named;
-mod own;
+mod numbering;
 mod pieces;
-mod rights;
+mod refusing;
 mod rows;
-mod same;
-mod steady;
 mod table;
 mod telling;
-mod tokens;
 
-pub use both::{Both, Grouped};
+pub use ad_diff_rights::Both;
 pub use laws::no_difference_is_both_told_and_refused;
+pub use numbering::Grouped;
 pub use telling::{Told, diff};

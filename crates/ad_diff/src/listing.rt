@@ -5,9 +5,11 @@ ghost use Rattle.std.specs.List.{flat_map};
 ghost use Rattle.ad_dir_model.specs.Objects.{is_live};
 ghost use Rattle.ad_diff.specs.Text.{principal_line, object_line, only_line, only_text};
 
-use crate::both::{Grouped, counterpart};
-use crate::pieces::{put, put_name, put_name_line, put_number, put_sid_of};
+use crate::numbering::Grouped;
+use crate::pieces::{put_name_line, put_number, put_sid_of};
+use ad_diff_rights::counterpart;
 use ad_dir::Dir;
+use ad_principals::{put, put_name};
 use std::alloc::{AllocError, Global};
 
 #[tactic(auto, unfolding(crate::specs::Text::principal_line))]

@@ -1,14 +1,17 @@
 //! The principals in groups: those of a group have the same lines in each column, and those of group 0 have none.
 
-ghost use Rattle.std.specs.Prelude.{◌≡◌, ◌++◌, ◌∷◌, [], true, All, IfOk, OnOk};
+ghost use Rattle.std.specs.Prelude.{◌≡◌, ◌++◌, ◌∷◌, [], true, List, All, IfOk, OnOk};
+ghost use Rattle.ad_diff.specs.declared.bases.Frame.{Frame as FrameValue};
+ghost use Rattle.ad_diff.specs.declared.columns.Column.{Column as ColumnValue};
 ghost use Rattle.ad_diff.specs.Text.{members};
 ghost use Rattle.ad_diff.specs.Frames.{lines_at};
 ghost use Rattle.ad_diff.specs.Table.{IsRow, IsLed, AreRows};
 
 use crate::alike::{NOTHING, mixed, mixed_bytes};
 use crate::bases::Frame;
-use crate::both::{Both, Grouped};
-use crate::columns::{Column, lines_at, number_of};
+use crate::columns::{Column, lines_at};
+use crate::numbering::{Grouped, number_of};
+use ad_diff_rights::Both;
 use indexmap::IndexMap;
 use std::alloc::{AllocError, Global};
 
@@ -76,16 +79,10 @@ fn is_of(frame: &Frame, columns: &[Column], leaders: &[usize], place: usize, gro
 }
 
 // A new group of the principal at the place.
-fn lead(
-    frame: &Frame,
-    columns: &[Column],
-    leaders: &mut Vec<usize>,
-    place: usize,
-) -> Result<u32, AllocError>
-    ensures { IfOk result (IsLed frame.now columns.now leaders.old.items leaders.new.items place) }
+fn lead(leaders: &mut Vec<usize>, place: usize) -> Result<u32, AllocError>
+    ensures { IfOk result (λ group. (frame : FrameValue) (columns : List ColumnValue)
+        → IsLed frame columns leaders.old.items leaders.new.items place group) }
 {
-    let _ = frame;
-    let _ = columns;
     leaders.push(place)?;
     number_of(leaders.as_slice().len())
 }
@@ -108,7 +105,7 @@ fn group_of(
             return Ok(group);
         }
     }
-    lead(frame, columns, leaders, place)
+    lead(leaders, place)
 }
 
 // ---- where to look for one

@@ -6,8 +6,10 @@ ghost use Rattle.ad_diff.specs.Frames.{lines_at};
 ghost use Rattle.ad_diff.specs.Table.{row_of};
 
 use crate::bases::Frame;
-use crate::columns::{Column, lines_at, number_of};
-use crate::pieces::{put, put_number, put_number_line};
+use crate::columns::{Column, lines_at};
+use crate::numbering::number_of;
+use crate::pieces::{put_number, put_number_line};
+use ad_principals::put;
 use std::alloc::AllocError;
 
 // The lines of a group of each, after the line that names both.

@@ -2,23 +2,25 @@
 
 ghost use Rattle.std.specs.Prelude.{◌≡◌, ◌++◌, false, true, All, map, codes, IfOk, IfErr, OnOk};
 ghost use Rattle.std.specs.List.{flat_map};
-ghost use Rattle.ad_diff.specs.Both.{objects_of_both, principals_of_both};
+ghost use Rattle.ad_diff_rights.specs.Both.{objects_of_both, principals_of_both, IsLiveBoth};
+ghost use Rattle.ad_diff_rights.specs.Parties.{IsParty, AreNoParties, IsOfLive};
+ghost use Rattle.ad_diff_rights.specs.Sides.{AreMarked};
 ghost use Rattle.ad_diff.specs.Text.{principal_line, object_line, table_text, only_text, IsDiffText};
 ghost use Rattle.ad_diff.specs.Answers.{DiffTold};
 ghost use Rattle.ad_diff.specs.Frames.{lines_at};
-ghost use Rattle.ad_diff.specs.Steps.{AreNoParties, IsOfLive, IsLiveBoth};
 ghost use Rattle.ad_diff.specs.Table.{row_of};
 
 use crate::bases::Frame;
-use crate::both::{Both, Grouped, objects_of_both, principals_among};
-use crate::columns::Column;
 use crate::families::families_of;
 use crate::ground::ground_of;
-use crate::grouping::placed;
+use crate::grouping::{Placing, placed};
 use crate::listing::{put_object_lines, put_only, put_principal_lines};
-use crate::rows::grouped;
+use crate::refusing::line_of;
+use crate::rows::{Rows, grouped};
 use crate::table::put_table;
-use crate::tokens::{DiffFault, line_of, parties};
+use ad_diff_rights::{
+    Both, DiffFault, Sides, objects_of_both, parties, principals_among, steady_marks,
+};
 use ad_dir::Dir;
 use std::alloc::{AllocError, Global};
 
@@ -34,28 +36,67 @@ fn text_of(
     alloc: Global,
     before: &Dir,
     after: &Dir,
-    principals: &[Grouped],
-    objects: &[Grouped],
     frame: &Frame,
-    columns: &[Column],
-    leaders: &[usize],
+    placing: &Placing,
+    rows: &Rows,
 ) -> Result<Vec<u8>, AllocError>
-    requires principals { All (λ g. IsLiveBoth before.now after.now g.both) principals.now }
-    requires objects { All (λ g. IsLiveBoth before.now after.now g.both) objects.now }
-    ensures { IfOk result (λ text. text.items ≡ flat_map (principal_line after.now) principals.now
-        ++ (flat_map (object_line after.now) objects.now
-        ++ (table_text 1 (map (λ column. row_of leaders.now (lines_at frame.now column))
-        columns.now)
+    requires principals { All (λ g. IsLiveBoth before.now after.now g.both)
+        rows.now.groups.items }
+    requires objects { All (λ g. IsLiveBoth before.now after.now g.both)
+        placing.now.objects.items }
+    ensures { IfOk result (λ text. text.items ≡ flat_map (principal_line after.now)
+        rows.now.groups.items
+        ++ (flat_map (object_line after.now) placing.now.objects.items
+        ++ (table_text 1 (map (λ column. row_of rows.now.leaders.items
+        (lines_at frame.now column)) placing.now.columns.items)
         ++ (only_text (codes "only before ") before.now after.now
         ++ only_text (codes "only after ") after.now before.now)))) }
 {
     let mut text = Vec::new(alloc);
-    put_principal_lines(alloc, &mut text, after, principals)?;
-    put_object_lines(alloc, &mut text, after, objects)?;
-    put_table(&mut text, frame, columns, leaders)?;
+    put_principal_lines(alloc, &mut text, after, rows.groups.as_slice())?;
+    put_object_lines(alloc, &mut text, after, placing.objects.as_slice())?;
+    put_table(
+        &mut text,
+        frame,
+        placing.columns.as_slice(),
+        rows.leaders.as_slice(),
+    )?;
     put_only(alloc, &mut text, b"only before ", before, after)?;
     put_only(alloc, &mut text, b"only after ", after, before)?;
     Ok(text)
+}
+
+// The text of the differences of these principals, which have their tokens, on these objects.
+fn text_by(
+    alloc: Global,
+    sides: &Sides<'_>,
+    objects: &[Both],
+    principals: &[Both],
+) -> Result<Vec<u8>, AllocError>
+    requires objects { objects.now
+        ≡ objects_of_both sides.now.before.now sides.now.after.now }
+    requires live { All (IsLiveBoth sides.now.before.now sides.now.after.now) objects.now }
+    requires principals { principals.now
+        ≡ principals_of_both sides.now.before.now sides.now.after.now }
+    requires both { map (λ party. party.both) sides.now.parties.now ≡ principals.now }
+    requires parties { All (IsParty sides.now.before.now sides.now.after.now)
+        sides.now.parties.now }
+    requires marked { AreMarked sides.now }
+    ensures { IfOk result (λ text. IsDiffText sides.now.before.now sides.now.after.now
+        text.items) }
+{
+    let families = families_of(alloc, sides.before, sides.after, objects)?;
+    let ground = ground_of(alloc, sides, families.firsts.as_slice())?;
+    let placing = placed(alloc, sides, &ground, families.objects.as_slice())?;
+    let rows = grouped(alloc, &ground.frame, placing.columns.as_slice(), principals)?;
+    text_of(
+        alloc,
+        sides.before,
+        sides.after,
+        &ground.frame,
+        &placing,
+        &rows,
+    )
 }
 
 // The text of the differences of these principals on these objects.
@@ -74,28 +115,14 @@ fn differences(
     ensures live { IfErr result (IsOfLive before.now after.now) }
 {
     let parties = parties(alloc, before, after, principals)?;
-    let families = families_of(alloc, before, after, objects)?;
-    let firsts = families.firsts.as_slice();
-    let ground = ground_of(alloc, before, after, parties.as_slice(), firsts)?;
-    let placing = placed(
-        alloc,
+    let marks = steady_marks(alloc, before, after, parties.as_slice())?;
+    let sides = Sides {
         before,
         after,
-        parties.as_slice(),
-        &ground,
-        families.objects.as_slice(),
-    )?;
-    let rows = grouped(alloc, &ground.frame, placing.columns.as_slice(), principals)?;
-    Ok(text_of(
-        alloc,
-        before,
-        after,
-        rows.groups.as_slice(),
-        placing.objects.as_slice(),
-        &ground.frame,
-        placing.columns.as_slice(),
-        rows.leaders.as_slice(),
-    )?)
+        parties: parties.as_slice(),
+        marks: marks.as_slice(),
+    };
+    Ok(text_by(alloc, &sides, objects, principals)?)
 }
 
 // The text of the differences, or the fault.

@@ -1,6 +1,6 @@
 //! Which rights a token is granted at an object: on a path, and at a property set.
 
-ghost use Rattle.std.specs.Prelude.{◌≡◌, ◌<◌, ◌++◌, ◌∷◌, [], true, All, length, filter, if◌then◌else◌, IfOk, OnOk};
+ghost use Rattle.std.specs.Prelude.{◌≡◌, ◌<◌, true, All, length, filter, IfOk};
 ghost use Rattle.ad_schema.specs.Attributes.{attrs_of};
 ghost use Rattle.ad_schema.specs.Classes.{classes_of};
 ghost use Rattle.ad_types.specs.Path.{guids_of};
@@ -12,7 +12,7 @@ ghost use Rattle.ad_access_dir.specs.Sight.{is_granted};
 ghost use Rattle.ad_access_dir.specs.Masks.{IsMask};
 ghost use Rattle.ad_dsacls.specs.Effective.{has_set, is_of_set, set_path, set_grants};
 
-use ad_access_dir::{granted, tree_masks};
+use ad_access_dir::{granted, push_if, tree_masks};
 use ad_dir::Dir;
 use ad_ids::{Guid, Token};
 use ad_schema::{AttrId, AttrInfo, ClassId};
@@ -39,16 +39,6 @@ pub(crate) fn mask_on(dir: &Dir, token: &Token, number: u32, path: &Path, want: 
 }
 
 // ---- attributes of a class
-
-fn push_if(attrs: &mut Vec<AttrId>, wanted: bool, attr: AttrId) -> Result<(), AllocError>
-    ensures { OnOk result (attrs.new.items ≡ attrs.old.items
-        ++ (if wanted then attr ∷ [] else [])) }
-{
-    if wanted {
-        attrs.push(attr)?;
-    }
-    Ok(())
-}
 
 fn has_set(info: &AttrInfo, set: Guid) -> bool
     ensures { result ≡ has_set set info.now }

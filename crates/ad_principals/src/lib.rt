@@ -1,5 +1,6 @@
 //! Principals: the token that a directory gives each of them, by the groups whose members they are, and the object
-//! that a text names. The rules are written in `docs/profile/principals.md`.
+//! that a text names; and the pieces of lines in which objects and identifiers are told. The rules are written in
+//! `docs/profile/principals.md`.
 //!
 //! # Example
 //!
@@ -28,6 +29,7 @@ mod enabled;
 mod fault;
 mod groups;
 mod laws;
+mod lines;
 mod listing;
 mod members;
 mod named;
@@ -42,6 +44,7 @@ pub use laws::{
     a_principal_has_one_token, more_members_give_no_fewer_groups,
     the_order_of_members_and_identifiers_is_free, who_has_too_many_groups_has_no_token,
 };
+pub use lines::{put, put_ended, put_labelled, put_name, put_sid, put_spaced};
 pub use listing::principals;
 pub use members::Members;
 pub use named::{principal_named, sid_of_text};

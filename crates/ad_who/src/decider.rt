@@ -1,6 +1,6 @@
 //! What decides a right for a token.
 
-ghost use Rattle.std.specs.Prelude.{◌≡◌, ◌<◌, ◌&&◌, [], not, true};
+ghost use Rattle.std.specs.Prelude.{◌≡◌, ◌<◌, ◌&&◌, [], true};
 ghost use Rattle.std.specs.List.{list_any};
 ghost use Rattle.std.specs.Option.{option_copied};
 ghost use Rattle.ad_acl.specs.EntrySeen.{entry_seen};
@@ -8,13 +8,13 @@ ghost use Rattle.ad_acl.specs.Mask.{has_bit, mapped_has};
 ghost use Rattle.ad_sd.specs.Seen.{seen};
 ghost use Rattle.ad_types.specs.Path.{guids_of};
 ghost use Rattle.ad_access.specs.Holder.{first_holder};
-ghost use Rattle.ad_access.specs.Matching.{decides_access, is_inherit_only};
+ghost use Rattle.ad_access.specs.Matching.{is_inherit_only};
 ghost use Rattle.ad_access.specs.Grant.{decides, sets_owner_rights, is_of_owners, granted_as_owner};
 ghost use Rattle.ad_dir_model.specs.Objects.{is_live};
 ghost use Rattle.ad_access_dir.specs.Sight.{is_granted};
 ghost use Rattle.ad_who.specs.Decider.{by_kind, deciding_from, decider_for, decider, grants, decider_at};
 
-use ad_access::{Rank, is_about, is_inherit_only, matches};
+use ad_access::{Rank, is_about, is_inherit_only, is_spoken, matches};
 use ad_acl::{AceIn, AceKind, map_generic};
 use ad_dir::{Dir, live_sd};
 use ad_ids::{Guid, Sid, TAKE_OWNERSHIP, Token};
@@ -57,14 +57,6 @@ fn has_right(mask: u32, bit: u32) -> bool
     ensures { result ≡ mapped_has mask bit }
 {
     (map_generic(mask) >> bit) % 2 == 1
-}
-
-// Whether the entry allows or denies something of the object itself.
-fn is_spoken(ace: &AceIn<'_>) -> bool
-    ensures { result ≡ (decides_access (entry_seen ace.now).kind
-        && not (is_inherit_only (entry_seen ace.now))) }
-{
-    ace.kind() != AceKind::Audit && !is_inherit_only(ace)
 }
 
 // Whether the entry decides the right for the first principal of the token.

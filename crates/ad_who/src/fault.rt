@@ -5,8 +5,8 @@ ghost use Rattle.ad_dir_model.specs.Objects.{is_live};
 ghost use Rattle.ad_who.specs.declared.fault.AskFault.TheVariants as ask_fault;
 ghost use Rattle.ad_who.specs.Faults.{fault_line, IsOfLive};
 
-use crate::pieces::{put, put_name};
 use ad_dir::Dir;
+use ad_principals::{put, put_name};
 use std::alloc::{AllocError, Global};
 
 /// Why a question isn't answered.

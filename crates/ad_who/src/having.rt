@@ -14,11 +14,11 @@ ghost use Rattle.ad_who.specs.Answers.{IsWhoText, IsWhoRefusal};
 use crate::asked::{Asked, path_at, right_asked};
 use crate::decider::decider_on;
 use crate::fault::AskFault;
-use crate::pieces::{put_decider, put_name, put_sid};
+use crate::pieces::put_decider;
 use crate::tokens::object_named;
 use ad_dir::Dir;
 use ad_ids::Token;
-use ad_principals::{Members, TokenFault, principals};
+use ad_principals::{Members, TokenFault, principals, put_name, put_sid};
 use ad_types::Path;
 use std::alloc::{AllocError, Global};
 

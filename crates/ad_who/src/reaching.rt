@@ -14,11 +14,12 @@ ghost use Rattle.ad_who.specs.Answers.{base_named, IsCanText, IsCanRefusal};
 use crate::asked::{Asked, path_at, right_asked};
 use crate::decider::decider_on;
 use crate::fault::AskFault;
-use crate::pieces::{put_decider, put_name};
+use crate::pieces::put_decider;
 use crate::tokens::{object_named, token_for};
 use ad_dir::Dir;
 use ad_ids::Token;
 use ad_needs_rules::{ROOT, goes_with};
+use ad_principals::put_name;
 use std::alloc::{AllocError, Global};
 
 // ---- the lines

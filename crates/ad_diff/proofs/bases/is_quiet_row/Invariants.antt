@@ -1,5 +1,5 @@
 use Rattle.std.proofs.Common.{◌≡◌, [], ℕ, get_or, take}
-use Rattle.ad_diff.specs.Steps.{texts}
+use Rattle.ad_diff_rights.specs.Steps.{texts}
 use Rattle.ad_diff.proofs.bases.is_quiet_row.Given as goal
 
 -- none so far has lines

@@ -4,4 +4,4 @@ use Rattle.ad_diff.proofs.bases.rows_of.Given as goal
 
 -- the rows so far
 abbrev pub invariant-loop-o : goal.invariant-loop-o
-invariant-loop-o l = row_texts l.rows.items ≡ all_bares l.before l.after l.parties l.places (take l.o-index l.objects)
+invariant-loop-o l = row_texts l.rows.items ≡ all_bares l.sides l.places (take l.o-index l.objects)

@@ -1,12 +1,10 @@
-use Rattle.std.proofs.Common.{subst}
-use Rattle.std.specs.Prelude.{All}
 use Rattle.std.proofs.lemmas.List.Elements.{All-more}
 use Rattle.ad_diff.specs.Frames.{IsRight}
 use Rattle.ad_diff.proofs.columns.judge_all.Goals as goal
 
 pub loop-place-preserved : goal.loop-place-preserved
 loop-place-preserved c =
-    let Right = IsRight c.args.before.now c.args.after.now c.args.parties.now c.args.o c.args.frame.now in
+    let Right = IsRight c.args.sides.now c.args.o c.args.frame.now in
     record {
       right = All-more (Right c.judge.new.column) c.args.places.now c.loop-place.place-index 0
           c.loop-place-test.true

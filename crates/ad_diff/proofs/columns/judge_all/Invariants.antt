@@ -7,6 +7,6 @@ use Rattle.ad_diff.proofs.columns.judge_all.Given as goal
 abbrev pub invariant-loop-place : goal.invariant-loop-place
 invariant-loop-place l =
     record {
-      right : All (IsRight l.before l.after l.parties l.fn.o l.frame l.column) (take l.place-index l.places);
-      keeps : Keeps l.before l.after l.parties l.fn.o l.frame l.initial.column l.column;
+      right : All (IsRight l.sides l.fn.o l.frame l.column) (take l.place-index l.places);
+      keeps : Keeps l.sides l.fn.o l.frame l.initial.column l.column;
     }

@@ -2,5 +2,5 @@ use Rattle.ad_diff.proofs.Putting.{none_other}
 use Rattle.ad_diff.proofs.columns.plain.Goals as goal
 
 pub returns : goal.returns
-returns c = λ place. none_other c.args.frame.now (record { family = c.args.family; others = c.new.result })
+returns c = λ frame place. none_other frame (record { family = c.args.family; others = c.new.result })
     c.new.ensures.empty place

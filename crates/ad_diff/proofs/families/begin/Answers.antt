@@ -3,6 +3,6 @@ use Rattle.ad_diff.proofs.Grounds.{family_new}
 use Rattle.ad_diff.proofs.families.begin.Goals as goal
 
 pub returns-clause-family : goal.returns-clause-family
-returns-clause-family c = family_new c.args.before.now c.args.after.now c.args.firsts.now.items c.push.new.self.items
+returns-clause-family c = λ before after. family_new before after c.args.firsts.now.items c.push.new.self.items
     c.in_ok-family.family c.args.o c.in_ok-push.ensures.items
     (c.in_ok-family.ensures ∙ ap length c.as_slice.ensures.value)

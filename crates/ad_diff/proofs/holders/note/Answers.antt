@@ -1,7 +1,5 @@
-use Rattle.std.proofs.Common.{◌≡◌, Option, Some, true, refl, sym, ap, subst}
-use Rattle.std.specs.Prelude.{IsSome, is_some}
-use Rattle.std.specs.Global.{Vec}
-use Rattle.std.proofs.Common.{ℕ}
+use Rattle.std.proofs.Common.{◌≡◌, Some, sym, ap}
+use Rattle.std.specs.Prelude.{is_some}
 use Rattle.indexmap.specs.IndexMap.{get}
 use Rattle.ad_ids.specs.SidValue.{same_sid}
 use Rattle.ad_diff.proofs.Grounds.{gains_one}

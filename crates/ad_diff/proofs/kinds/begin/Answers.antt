@@ -3,5 +3,5 @@ use Rattle.ad_diff.proofs.Grounds.{kind_new}
 use Rattle.ad_diff.proofs.kinds.begin.Goals as goal
 
 pub returns : goal.returns
-returns c = kind_new c.args.named.now c.args.parties.now c.args.firsts.now.items c.push.new.self.items c.args.place
+returns c = λ named parties. kind_new named parties c.args.firsts.now.items c.push.new.self.items c.args.place
     c.in_ok-kind.kind c.in_ok-push.ensures.items (c.in_ok-kind.ensures ∙ ap length c.as_slice.ensures.value)

@@ -3,7 +3,7 @@ use Rattle.std.proofs.lemmas.List.{take_all}
 use Rattle.std.proofs.lemmas.List.Elements.{All-more}
 use Rattle.ad_ids.specs.SidValue.{SidValue}
 use Rattle.ad_access.specs.Holder.{first_holder, holds}
-use Rattle.ad_diff.specs.Kinds.{HoldAlike}
+use Rattle.ad_diff_rights.specs.Named.{HoldAlike}
 use Rattle.ad_diff.proofs.kinds.hold_alike.Goals as goal
 
 pub loop-sid-preserved : goal.loop-sid-preserved

@@ -1,7 +1,7 @@
 use Rattle.std.proofs.Common.{◌≡◌, ◌∙◌, ℕ, true, sym, subst}
 use Rattle.std.specs.List.{All}
 use Rattle.ad_dir_model.specs.Objects.{is_live}
-use Rattle.ad_diff.proofs.Live.{numbers_live}
+use Rattle.ad_diff_rights.proofs.Live.{numbers_live}
 use Rattle.ad_diff.proofs.listing.put_only.Goals as goal
 
 pub put_only_lines-requires : goal.put_only_lines-requires

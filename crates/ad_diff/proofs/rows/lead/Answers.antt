@@ -5,7 +5,6 @@ use Rattle.ad_diff.proofs.rows.lead.Goals as goal
 
 pub returns : goal.returns
 returns c = if_ok c.number_of.result
-    (λ group is. row_last c.args.frame.now c.args.columns.now c.args.leaders.now.items c.push.new.self.items
-    c.args.place group
-    c.in_ok-push.ensures.items (is ∙ ap length c.as_slice.ensures.value))
+    (λ group is. λ frame columns. row_last frame columns c.args.leaders.now.items c.push.new.self.items c.args.place
+    group c.in_ok-push.ensures.items (is ∙ ap length c.as_slice.ensures.value))
     c.number_of.ensures

@@ -1,9 +1,0 @@
-use Rattle.std.proofs.Common.{◌≡◌, drop}
-use Rattle.ad_diff.specs.Changes.{has_label}
-use Rattle.ad_diff.specs.Steps.{texts}
-use Rattle.ad_diff.proofs.changes.has_label.Given as goal
-
--- none so far is this one
-abbrev pub invariant-loop-other : goal.invariant-loop-other
-invariant-loop-other l =
-    has_label (texts (drop l.other-index l.labels)) l.label ≡ has_label (texts l.labels) l.label

@@ -1,0 +1,15 @@
+pub mod Lists
+pub mod Pointwise
+pub mod Unasked
+pub mod Owned
+pub mod Likeness
+pub mod Holding
+pub mod Unchanged
+pub mod Naming
+pub mod Live
+pub mod Lacking
+pub mod Masks
+pub mod Leaves
+pub mod Labels
+pub mod OneValue
+pub mod Marks

@@ -1,0 +1,18 @@
+-- Two directories with their principals: what each gains and loses on an object.
+use Rattle.std.specs.Prelude.{ℕ, Bool, List, [], slice_get}
+use Rattle.std.specs.Option.{option_map_or}
+use Rattle.ad_diff_rights.specs.declared.both.Both.{Both}
+use Rattle.ad_diff_rights.specs.declared.steady.Sides.{Sides}
+use Rattle.ad_diff_rights.specs.declared.tokens.Party.{Party}
+use Rattle.ad_diff_rights.specs.Own.{changes_in}
+use Rattle.ad_diff_rights.specs.Same.{AreSteady}
+
+-- the principal at a place
+abbrev pub changes_at : Sides → Bool → Both → ℕ → List ℕ
+changes_at sides own o place = option_map_or
+    (λ (party : Party). changes_in sides.before.now sides.after.now party.was party.is own o)
+    (slice_get sides.parties.now place) []
+
+-- a principal whose mark is set is granted what differs by objects alone
+abbrev pub AreMarked : Sides → Type 0
+AreMarked sides = AreSteady sides.before.now sides.after.now sides.parties.now sides.marks.now

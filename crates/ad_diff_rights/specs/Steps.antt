@@ -1,0 +1,26 @@
+-- Only for private contracts, invariants and proofs: rights of masks.
+use Rattle.std.specs.Prelude.{◌≡◌, ℕ, ◌<◌, true, List, [], Vec, All, map, codes, slice_get}
+use Rattle.std.specs.declared.alloc.Global.{Global}
+use Rattle.std.specs.Option.{option_map_or}
+use Rattle.ad_acl.specs.Mask.{has_bit, mapped_has}
+use Rattle.ad_acl.specs.declared.codes.Code.{Code}
+use Rattle.ad_schema.specs.declared.line.SchemaRecord.{SchemaRecord}
+use Rattle.ad_schema.specs.declared.info.AttrId.{AttrId}
+use Rattle.ad_schema.specs.declared.info.AttrInfo.{AttrInfo}
+use Rattle.ad_schema.specs.Attributes.{attrs_of}
+use Rattle.ad_dsacls.specs.Effective.{label_of}
+use Rattle.ad_diff_rights.specs.Rights.{labels, attribute_codes}
+
+-- the texts of a list
+abbrev pub texts : List (Vec ℕ Global) → List (List ℕ)
+texts all = map (λ (text : Vec ℕ Global). text.items) all
+
+-- each of the codes is a right that is asked for
+abbrev pub AreWanted : ℕ → List Code → Type 0
+AreWanted want all = All (λ (code : Code). (code.place < 32) × (mapped_has want code.place ≡ true)) all
+
+-- the labels of an attribute whose rights the mask has
+unfoldable pub masked_attribute : List SchemaRecord → AttrId → ℕ → List (List ℕ)
+masked_attribute schema id mask = option_map_or
+    (λ (info : AttrInfo). labels (has_bit mask) (label_of (codes "attribute ") info.name) attribute_codes)
+    (slice_get (attrs_of schema) id.0) []

@@ -1,0 +1,49 @@
+//! What a principal gains and loses on an object from one directory to another: which objects and principals stand in
+//! both, which token each directory gives a principal, and which rights a token is granted on an object, as lines.
+//!
+//! The rules are written in `docs/profile/diff.md`, and defined in `specs/` apart from the code.
+//!
+//! # Example
+//!
+//! ```text
+//! let objects = ad_diff_rights::objects_of_both(alloc, &before, &after)?;
+//! let principals = ad_diff_rights::principals_among(alloc, &before, &after, objects.as_slice())?;
+//! let parties = ad_diff_rights::parties(alloc, &before, &after, principals.as_slice())?;
+//! ```
+//!
+//! # Proved
+//!
+//! The lines of a principal on an object are those of the rules, with the object's own identifier or as if it had none.
+//! Tokens are those of the directories, or the first principal is told that has too many groups. Laws, in `proofs/`:
+//! which objects are alike, which principals are, and for whom the own identifier counts.
+//!
+//! # The caller owes
+//!
+//! Objects that are live in both directories, and principals that stand in both. Marks of `steady_marks`.
+//!
+//! # Cost
+//!
+//! A principal on an object takes a sweep over the descriptor of each directory for the tree of attributes, and one for
+//! each right and class that is asked for. Nothing is judged where nothing can differ: the schemas are equal, so are
+//! the principal's tokens, and the object has the class, the descriptor and the identifier in both.
+#![tactic(auto)]
+
+mod asked;
+mod both;
+mod changes;
+mod codes;
+mod labelling;
+mod leaf_masks;
+mod named;
+mod own;
+mod rights;
+mod same;
+mod steady;
+mod tokens;
+
+pub use both::{Both, counterpart, objects_of_both, principals_among};
+pub use named::named_by;
+pub use own::asked_in;
+pub use same::is_unchanged;
+pub use steady::{Sides, changes_at, steady_marks};
+pub use tokens::{DiffFault, Party, parties, party_at};
