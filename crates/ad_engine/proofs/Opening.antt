@@ -14,6 +14,7 @@ use Rattle.gate_log.proofs.Images.{rests_has}
 use Rattle.row_store.specs.declared.store.Store.{Store}
 use Rattle.row_store.specs.declared.fault.StoreFault.{StoreFault}
 use Rattle.row_store.specs.declared.fault.StoreFault.TheVariants as store
+use Rattle.row_store.specs.Created.{IsCreated}
 use Rattle.row_store.specs.Rows.{HasTable, HoldsTable, IsBrokenTable}
 use Rattle.row_store.specs.declared.row.Row.{Row as StoredRow}
 use Rattle.row_store.specs.Table.{Table, table_of}
@@ -345,30 +346,24 @@ site_of T store.Site only is = refl
 site_of T store.Memory only is = absurd cc
 
 -- the store refused
-pub refused_creating : {S : Type 0} (T U : Type 0) (site : Ghosts S) (old new : S) (fault : StoreFault)
-    (e : OpenFault) (result : Result U OpenFault) → result ≡ Err e → e ≡ of_store fault
-    → (IsErrOf {T = T} (Err fault) store.Taken → IfSome (site.reads old)
-    (λ held. (0 < length held.a) ⊎ (0 < length held.b)))
-    → (IsErrOf {T = T} (Err fault) store.Taken ⊎ IsErrOf {T = T} (Err fault) store.Memory → StaysTold (site.reads old)
-    (site.reads new) × LeavesSame (site.now old) (site.left old) (site.left new))
-    → OnlyStoreTaken {T = T} (Err fault) → TouchesSlots site old new
-    → (IsErrOf {T = T} (Err fault) store.Site → HasRisen (site.slot_faults old) (site.slot_faults new))
-    → IsCreating site old new result
-refused_creating T U site old new fault e result is e_is taken unwritten only outside cause =
+pub refused_creating : {S : Type 0} (U : Type 0) (site : Ghosts S) (old new : S) (written : List StoredRow)
+    (fault : StoreFault) (e : OpenFault) (result : Result U OpenFault) → result ≡ Err e → e ≡ of_store fault
+    → IsCreated site old new written (Err fault) → IsCreating site old new result
+refused_creating U site old new written fault e result is e_is made =
     subst (λ (r : Result U OpenFault). IsCreating site old new r) (sym (is ∙ ap (λ (f : OpenFault). Err f) e_is))
     (record {
-      taken = λ t. taken (err_is T fault store.Taken (taken_of fault (open_same U (of_store fault) Taken t)));
-      unwritten = λ may. unwritten (known may);
-      faults = of_create T fault only;
-      outside = outside;
-      cause = λ s. cause (err_is T fault store.Site
-          (site_of T fault only (open_same U (of_store fault) opening.Site s)));
+      taken = λ t. made.taken (err_is Store fault store.Taken (taken_of fault (open_same U (of_store fault) Taken t)));
+      unwritten = λ may. made.unwritten (known may);
+      faults = of_create Store fault made.faults;
+      outside = made.outside;
+      cause = λ s. made.cause (err_is Store fault store.Site
+          (site_of Store fault made.faults (open_same U (of_store fault) opening.Site s)));
     })
   where
     known : IsErrOf {T = U} (Err (of_store fault)) Taken ⊎ IsErrOf {T = U} (Err (of_store fault)) Memory
-        → IsErrOf {T = T} (Err fault) store.Taken ⊎ IsErrOf {T = T} (Err fault) store.Memory
-    known (inl t) = inl (err_is T fault store.Taken (taken_of fault (open_same U (of_store fault) Taken t)))
-    known (inr m) = inr (err_is T fault store.Memory (memory_of fault (open_same U (of_store fault) Memory m)))
+        → IsErrOf {T = Store} (Err fault) store.Taken ⊎ IsErrOf {T = Store} (Err fault) store.Memory
+    known (inl t) = inl (err_is Store fault store.Taken (taken_of fault (open_same U (of_store fault) Taken t)))
+    known (inr m) = inr (err_is Store fault store.Memory (memory_of fault (open_same U (of_store fault) Memory m)))
 
 -- memory ran out before the site was touched
 pub memory_creating : {S : Type 0} (U : Type 0) (site : Ghosts S) (x : S)

@@ -14,7 +14,7 @@ ghost use Rattle.ad_dir_model.specs.Soundness.{IsSound};
 ghost use Rattle.ad_needs.specs.Verdicts.{IsChange};
 ghost use Rattle.ad_change.specs.Effects.{changes_to, effect};
 
-use ad_bytes::{Bytes, List};
+use ad_bytes::{Bytes, List, are_bytes};
 use ad_change::{
     a_delete_keeps_a_directory_sound, a_modify_keeps_a_directory_sound,
     a_rename_keeps_a_directory_sound, an_add_keeps_a_directory_sound,
@@ -22,25 +22,11 @@ use ad_change::{
 use ad_dir::Dir;
 use ad_ldap::{Item, Op};
 
-fn are_bytes(bytes: &[u8])
-    ensures { IsBytes bytes.now }
-{
-    let _ = bytes;
-}
-
-fn values_are_bytes(values: &[Bytes])
-    ensures { AllByRecursion IsBytes values.now }
-{
-    for value in values {
-        are_bytes(value.as_slice());
-    }
-}
-
 fn items_are_bytes(items: &[Item])
     ensures { AllByRecursion (λ item. AllByRecursion IsBytes item.values) items.now }
 {
     for item in items {
-        values_are_bytes(item.values.as_slice());
+        are_bytes(item.values.as_slice());
     }
 }
 
@@ -48,7 +34,7 @@ fn attrs_are_bytes(attrs: &[(Bytes, List<Bytes>)])
     ensures { AllByRecursion (λ attr. AllByRecursion IsBytes attr.1) attrs.now }
 {
     for attr in attrs {
-        values_are_bytes(attr.1.as_slice());
+        are_bytes(attr.1.as_slice());
     }
 }
 

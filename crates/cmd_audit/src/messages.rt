@@ -2,9 +2,7 @@
 
 ghost use Rattle.std.specs.Prelude.{◌≡◌, [], false, IfOk};
 ghost use Rattle.ad_ldap.specs.MessageValue.{op_seen, search_seen, message_seen};
-ghost use Rattle.ad_ldap.specs.Ranges.{HasOpRanges};
 ghost use Rattle.ad_ldap.specs.Settings.{settings_of};
-ghost use Rattle.ad_needs.specs.Verdicts.{IsChange};
 ghost use Rattle.ad_search.specs.Reads.{reads_of};
 ghost use Rattle.ad_search.specs.Compared.{compared_of};
 ghost use Rattle.ad_tried.specs.Tried.{tried_values};
@@ -12,9 +10,7 @@ ghost use Rattle.cmd_audit.specs.Tries.{with_settings, change_tries, op_tries, m
 
 use ad_dir::Dir;
 use ad_ids::Token;
-use ad_ldap::{
-    Compare, LdapFault, Message, Op, Search, read_message, settings, what_a_message_has,
-};
+use ad_ldap::{Compare, LdapFault, Message, Op, Search, read_message, settings};
 use ad_needs_tries::trace;
 use ad_search::{compared, reads};
 use ad_types::Tried;
@@ -67,7 +63,6 @@ fn of_change(
     token: &Token,
     message: &Message,
 ) -> Result<Vec<Tried>, AllocError>
-    requires { IsChange (op_seen message.now.op) }
     ensures { IfOk result (λ tried. tried_values tried.items ≡ change_tries dir.now token.now
         (message_seen message.now)) }
 {
@@ -84,7 +79,6 @@ fn of_operation(
     token: &Token,
     message: &Message,
 ) -> Result<Vec<Tried>, AllocError>
-    requires { HasOpRanges (op_seen message.now.op) }
     ensures { IfOk result (λ tried. tried_values tried.items ≡ op_tries dir.now token.now
         (message_seen message.now) (op_seen message.now.op)) }
 {
@@ -127,7 +121,6 @@ fn of_message(
     token: &Token,
     message: &Message,
 ) -> Result<Heard, AllocError>
-    requires { HasOpRanges (op_seen message.now.op) }
     ensures tried { IfOk result (λ heard. tried_values heard.tried.items
         ≡ op_tries dir.now token.now (message_seen message.now) (op_seen message.now.op)) }
     ensures looks { IfOk result (λ heard. heard.looks ≡ looks (op_seen message.now.op)) }
@@ -166,7 +159,6 @@ pub(crate) fn hear(
         ≡ message_tries dir.now token.now bytes.now) }
     ensures looks { IfOk result (λ heard. heard.looks ≡ message_looks bytes.now) }
 {
-    what_a_message_has();
     match read_message(alloc, bytes) {
         Ok(message) => of_message(alloc, dir, token, &message),
         Err(LdapFault::Memory) => Err(AllocError),

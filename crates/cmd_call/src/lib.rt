@@ -27,6 +27,6 @@ mod lines;
 mod outcome;
 mod store;
 
-pub use lines::{put, put_counted, put_number};
+pub use lines::{fault_line, put, put_counted, put_number};
 pub use outcome::Outcome;
 pub use store::{are_empty, say};

@@ -1,9 +1,9 @@
 //! The parts of the lines that commands emit.
 
-ghost use Rattle.std.specs.Prelude.{◌≡◌, ◌++◌, decimal, OnOk};
-ghost use Rattle.cmd_call.specs.Lines.{counted};
+ghost use Rattle.std.specs.Prelude.{◌≡◌, ◌++◌, decimal, IfOk, OnOk};
+ghost use Rattle.cmd_call.specs.Lines.{counted, fault_line};
 
-use std::alloc::AllocError;
+use std::alloc::{AllocError, Global};
 
 /// A number in decimal.
 ///
@@ -39,4 +39,21 @@ pub fn put_counted(into: &mut Vec<u8>, word: &str, n: u64) -> Result<(), AllocEr
     put(into, " ")?;
     put_number(into, n)?;
     put(into, "\n")
+}
+
+/// Which line of a text has a fault, and what is wrong with it, as a line.
+///
+/// # Errors
+///
+/// Memory ran out.
+pub fn fault_line(alloc: Global, line: u32, words: &[u8]) -> Result<Vec<u8>, AllocError>
+    ensures { IfOk result (λ text. text.items ≡ fault_line line words.now) }
+{
+    let mut text = Vec::new(alloc);
+    put(&mut text, "line ")?;
+    put_number(&mut text, u64::from(line))?;
+    put(&mut text, " ")?;
+    text.extend_from_slice(words)?;
+    put(&mut text, "\n")?;
+    Ok(text)
 }

@@ -1,7 +1,7 @@
 -- What `adsd change` answers.
 use Rattle.std.specs.Prelude.{◌≡◌, ◌⊎◌, ℕ, suc, Bool, nat_lt, nat_le, if◌then◌else◌, Option, Some, None, Result, Ok}
 use Rattle.std.specs.Prelude.{Err}
-use Rattle.std.specs.Prelude.{List, [], ◌∷◌, ◌++◌, length, take, codes, decimal}
+use Rattle.std.specs.Prelude.{List, [], ◌∷◌, ◌++◌, length, take, codes}
 use Rattle.site_io.specs.Told.{BothTold, StaysTold}
 use Rattle.ad_bytes.specs.Numbers.{be_bytes}
 use Rattle.ad_ldif.specs.declared.fault.LdifKind.{LdifKind}
@@ -12,6 +12,7 @@ use Rattle.ad_ldif.specs.Changes.{changes}
 use Rattle.ad_ldifmod_message.specs.Asked.{message_asked}
 use Rattle.ad_ldifmod_message.specs.Written.{message_bytes}
 use Rattle.cmd_call.specs.Call.{Call, Healthy, IsTold}
+use Rattle.cmd_call.specs.Lines.{fault_line}
 use Rattle.cmd_call.specs.Outcome.{IsStopped}
 use Rattle.cmd_call.specs.declared.outcome.Outcome.{Outcome}
 use Rattle.cmd_call.specs.declared.outcome.Outcome.TheVariants.{Done, NotOfForm, SiteFailed, NoMemory}
@@ -56,7 +57,7 @@ refusal line word = record { line = line; word = word }
 
 -- the line that is emitted
 abbrev pub line_of : Refusal → List ℕ
-line_of r = codes "line " ++ (decimal r.line ++ (32 ∷ (r.word ++ 10 ∷ [])))
+line_of r = fault_line r.line r.word
 
 -- ---- the answer
 

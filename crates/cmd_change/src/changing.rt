@@ -11,7 +11,7 @@ ghost use Rattle.cmd_change.specs.Reply.{IsReply, IsReplyFor, ReadToEnd};
 
 use ad_ldif::{LdifChange, LdifFault, LdifKind, Reader, what_changes_have};
 use ad_ldifmod_message::{message, what_a_change_asks, write_message};
-use cmd_call::{Outcome, put, put_number};
+use cmd_call::{Outcome, fault_line};
 use site_io::{Failed, Site, Source, WholeFault, read_whole};
 use std::alloc::{AllocError, Global};
 
@@ -45,13 +45,7 @@ fn word_of(kind: LdifKind) -> &'static str
 fn refusal(alloc: Global, line: u32, word: &str) -> Result<Vec<u8>, AllocError>
     ensures { IfOk result (λ text. text.items ≡ line_of (refusal line word.now)) }
 {
-    let mut text = Vec::new(alloc);
-    put(&mut text, "line ")?;
-    put_number(&mut text, u64::from(line))?;
-    put(&mut text, " ")?;
-    put(&mut text, word)?;
-    put(&mut text, "\n")?;
-    Ok(text)
+    fault_line(alloc, line, word.as_bytes())
 }
 
 // The frame of a message on connection 0.

@@ -1,5 +1,5 @@
 -- What is emitted for a text: the frames of its messages, or a line that says which line goes wrong, and why.
-use Rattle.std.specs.Prelude.{ℕ, nat_lt, if◌then◌else◌, List, [], ◌∷◌, ◌++◌, length, codes, decimal, Result, Ok, Err}
+use Rattle.std.specs.Prelude.{ℕ, nat_lt, if◌then◌else◌, List, [], length, codes, Result, Ok, Err}
 use Rattle.ad_ldap.specs.declared.requests.Message.{Message}
 use Rattle.ad_dir_model.specs.Directory.{Directory}
 use Rattle.ad_ldifmod.specs.declared.fault.GrantKind.{GrantKind}
@@ -7,6 +7,7 @@ use Rattle.ad_ldifmod.specs.declared.fault.GrantKind.TheVariants.{Form, Entry, N
 use Rattle.ad_ldifmod.specs.declared.fault.GrantFault.{GrantFault}
 use Rattle.ad_ldifmod.specs.declared.fault.GrantFault.TheVariants.{Bad, Memory}
 use Rattle.ad_ldifmod.specs.Grants.{messages_of}
+use Rattle.cmd_call.specs.Lines.{fault_line}
 use Rattle.cmd_call.specs.declared.outcome.Outcome.{Outcome}
 use Rattle.cmd_call.specs.declared.outcome.Outcome.TheVariants.{Done, NotOfForm, NoMemory}
 use Rattle.cmd_grants.specs.Frames.{frames_of}
@@ -27,7 +28,7 @@ word_of TooLong = codes "too long"
 
 -- the line of a fault; want of memory has none
 abbrev pub grant_line : GrantFault → List ℕ
-grant_line (Bad line kind) = codes "line " ++ (decimal line ++ (32 ∷ (word_of kind ++ 10 ∷ [])))
+grant_line (Bad line kind) = fault_line line (word_of kind)
 grant_line Memory = []
 
 -- what is emitted, and how the command ends then

@@ -5,7 +5,7 @@ ghost use Rattle.ad_ldifmod.specs.declared.fault.GrantFault.TheVariants.{Bad};
 ghost use Rattle.cmd_grants.specs.Lines.{word_of, grant_line};
 
 use ad_ldifmod::GrantKind;
-use cmd_call::{put, put_number};
+use cmd_call::fault_line;
 use std::alloc::{AllocError, Global};
 
 fn word_of(kind: GrantKind) -> &'static str
@@ -27,11 +27,5 @@ fn word_of(kind: GrantKind) -> &'static str
 pub(crate) fn grant_line(alloc: Global, line: u32, kind: GrantKind) -> Result<Vec<u8>, AllocError>
     ensures { IfOk result (λ text. text.items ≡ grant_line (Bad line kind)) }
 {
-    let mut text = Vec::new(alloc);
-    put(&mut text, "line ")?;
-    put_number(&mut text, u64::from(line))?;
-    put(&mut text, " ")?;
-    put(&mut text, word_of(kind))?;
-    put(&mut text, "\n")?;
-    Ok(text)
+    fault_line(alloc, line, word_of(kind).as_bytes())
 }

@@ -1,5 +1,5 @@
 -- A directory is kept in a store: from what is said of making the store and of the emit.
-use Rattle.std.proofs.Common.{◌≡◌, ◌⊎◌, inl, inr, ⊎_elim, ℕ, ◌≤◌, List, Option, Some, None, refl, sym, subst, arith}
+use Rattle.std.proofs.Common.{◌≡◌, ◌⊎◌, inl, inr, ⊎_elim, ℕ, ◌≤◌, List, Option, Some, None, Err, refl, sym, subst, arith}
 use Rattle.std.specs.Option.{IfSome}
 use Rattle.std.proofs.lemmas.Bool.{cases_lt}
 use Rattle.site_io.specs.Counts.{HasRisen}
@@ -9,7 +9,9 @@ use Rattle.site_io.specs.Outside.{TouchesSlots, StaysKnown}
 use Rattle.site_io.specs.declared.site.Site.{Ghosts as SiteGhosts}
 use Rattle.ad_dir_model.specs.Directory.{Directory}
 use Rattle.ad_rows_write.specs.Rows.{IsStoreOf}
-use Rattle.ad_engine.specs.declared.fault.OpenFault.TheVariants.{Taken}
+use Rattle.ad_engine.specs.Faults.{IsCreating}
+use Rattle.ad_engine.specs.declared.fault.OpenFault.{OpenFault}
+use Rattle.ad_engine.specs.declared.fault.OpenFault.TheVariants.{Taken, Empty, Broken, Row, Unsound, Site, Memory}
 use Rattle.cmd_call.specs.declared.outcome.Outcome.{Outcome}
 use Rattle.cmd_call.specs.declared.outcome.Outcome.TheVariants.{Done, NoStore, SiteFailed, NoMemory}
 use Rattle.cmd_call.specs.Call.{IsTold}
@@ -18,6 +20,7 @@ use Rattle.cmd_call.proofs.Moments.{told_on, stays_same, emits_on, part_on}
 use Rattle.cmd_call.proofs.Moments.{goes_on_on, IsLawful, says_nothing, goes_not, keeps_not, quiet_not, keeps_said}
 use Rattle.cmd_store.specs.Lines.{objects_line, store_line}
 use Rattle.cmd_store.specs.Loading.{Keeps}
+use Rattle.cmd_store.specs.Refused.{Refused}
 
 -- the output of each moment is the one from before, or the crash states represent the directory
 abbrev pub Crash : {S : Type 0} (s : SiteGhosts S) (dir : Directory) (old new : S) → Type 0
@@ -44,6 +47,12 @@ pub told_too : (P : Images → Type 0) (r0 r1 : Option Images) → IsTold AreEmp
 told_too P None r1 empty known p = absurd empty
 told_too P (Some x) None empty known p = absurd known
 told_too P (Some x) (Some y) empty known p = (y, p)
+
+-- nothing more was done
+ends : {S : Type 0} (s : SiteGhosts S) (dir : Directory) (x y z : S) (last outcome : Outcome)
+    → (outcome ≡ last) × (z ≡ y) → Keeps s dir x y last → Keeps s dir x z outcome
+ends {S = S} s dir x y z last outcome is keeps = subst (λ (w : S). Keeps s dir x w outcome) (sym is.1)
+    (subst (Keeps s dir x y) (sym is.0) keeps)
 
 module _ {S : Type 0} (s : SiteGhosts S) where
   -- nothing was done
@@ -140,6 +149,23 @@ module _ {S : Type 0} (s : SiteGhosts S) where
       keeps : KeepsSlots s x z
       keeps = keeps_said s x y z (store_line Taken) unwritten.0 unwritten.1 touches.moments.later says.held
           says.moments says.images
+
+  -- so the store wasn't made, and it was said why
+  pub kept_refused : {T : Type 0} → IsLawful s → (dir : Directory) (x y z : S) (fault : OpenFault) (outcome : Outcome)
+      → IsCreating {T = T} s x y (Err fault) → Refused s y z fault outcome → Keeps s dir x z outcome
+  kept_refused law dir x y z Taken outcome made says = ⊎_elim
+      (λ none. ends s dir x y z NoMemory outcome none
+      (kept_memory law dir x y made.outside (made.unwritten (inl refl))))
+      (λ said. kept_taken law dir x y z outcome made.outside (made.taken refl) (made.unwritten (inl refl)) said)
+      says
+  kept_refused law dir x y z Site outcome made says = ends s dir x y z SiteFailed outcome says
+      (kept_failed law dir x y made.outside (made.cause refl))
+  kept_refused law dir x y z Memory outcome made says = ends s dir x y z NoMemory outcome says
+      (kept_memory law dir x y made.outside (made.unwritten (inr refl)))
+  kept_refused law dir x y z Empty outcome made says = absurd made.faults
+  kept_refused law dir x y z Broken outcome made says = absurd made.faults
+  kept_refused law dir x y z (Row kind number) outcome made says = absurd made.faults
+  kept_refused law dir x y z (Unsound number) outcome made says = absurd made.faults
 
   -- the store was made, and its line said
   pub kept_said : IsLawful s → (dir : Directory) (x y z : S) (outcome : Outcome) → TouchesSlots s x y

@@ -1,4 +1,5 @@
 pub mod Refusing
+pub mod Failing
 pub mod KeepSteps
 pub mod LoadSteps
 pub mod LoadBehind

@@ -1,5 +1,5 @@
 -- A directory is kept in empty slots and sent the frames.
-use Rattle.std.proofs.Common.{◌≡◌, ◌∙◌, ◌⊎◌, inl, inr, ⊎_elim, ℕ, ◌≤◌, List, Option, Some, None, refl, sym, ap, subst}
+use Rattle.std.proofs.Common.{◌≡◌, ◌∙◌, ◌⊎◌, inl, inr, ⊎_elim, ℕ, ◌≤◌, List, Option, Some, None, Err, refl, sym, ap, subst}
 use Rattle.std.specs.Option.{IfSome}
 use Rattle.std.proofs.lemmas.Bool.{cases_lt}
 use Rattle.site_io.specs.Counts.{HasRisen}
@@ -11,7 +11,9 @@ use Rattle.ad_frames.specs.declared.frame.Frame.{Frame}
 use Rattle.ad_dir_model.specs.Directory.{Directory}
 use Rattle.ad_engine.specs.Runs.{after}
 use Rattle.ad_rows_write.specs.Rows.{IsStoreOf}
-use Rattle.ad_engine.specs.declared.fault.OpenFault.TheVariants.{Taken}
+use Rattle.ad_engine.specs.Faults.{IsCreating}
+use Rattle.ad_engine.specs.declared.fault.OpenFault.{OpenFault}
+use Rattle.ad_engine.specs.declared.fault.OpenFault.TheVariants.{Taken, Empty, Broken, Row, Unsound, Site, Memory}
 use Rattle.cmd_call.specs.Call.{IsTold}
 use Rattle.cmd_call.specs.Outcome.{IsOfStore}
 use Rattle.cmd_call.specs.Store.{EmitsPart, AreEmpty, IsTaken, HasFailed, Says}
@@ -22,6 +24,7 @@ use Rattle.cmd_call.proofs.Moments.{stays_same, stays_on, emits_on, part_on, ris
 use Rattle.cmd_call.proofs.Moments.{says_nothing, goes_not, quiet_not, keeps_said}
 use Rattle.cmd_store.proofs.KeepSteps.{crash_by, not_both, told_too}
 use Rattle.cmd_store.specs.Lines.{store_line}
+use Rattle.cmd_store.specs.Refused.{Refused}
 use Rattle.cmd_store.specs.Text.{sample_text}
 use Rattle.cmd_store.specs.SampleServing.{IsOfTelling, EachLeaves, IsPartlySampled, TellsServed, Samples}
 
@@ -50,6 +53,12 @@ told_it : (r0 r1 : Option (List ℕ)) (said : List ℕ) → StaysTold r0 r1 → 
 told_it None r1 said same is = absurd cc
 told_it (Some a) None said same is = absurd same
 told_it (Some a) (Some b) said same is = ap (λ (l : List ℕ). Some l) same ∙ is
+
+-- nothing more was done
+ends : {S : Type 0} (s : SiteGhosts S) (dir : Directory) (frames : List Frame) (x y z : S) (last outcome : Outcome)
+    → (outcome ≡ last) × (z ≡ y) → Samples s dir frames x y last → Samples s dir frames x z outcome
+ends {S = S} s dir frames x y z last outcome is samples = subst (λ (w : S). Samples s dir frames x w outcome) (sym is.1)
+    (subst (Samples s dir frames x y) (sym is.0) samples)
 
 module _ {S : Type 0} (s : SiteGhosts S) where
   -- nothing was done
@@ -149,6 +158,24 @@ module _ {S : Type 0} (s : SiteGhosts S) where
     where
       goes : GoesOn (s.now x) (s.now z) (s.left x) (s.left z)
       goes = goes_on_on (s.now x) (s.now y) (s.now z) (s.left x) (s.left y) (s.left z) touches.moments says.moments
+
+  -- so the store wasn't made, and it was said why
+  pub sampled_refused : {T : Type 0} → IsLawful s → (dir : Directory) (frames : List Frame) (x y z : S)
+      (fault : OpenFault) (outcome : Outcome) → IsCreating {T = T} s x y (Err fault) → Refused s y z fault outcome
+      → Samples s dir frames x z outcome
+  sampled_refused law dir frames x y z Taken outcome made says = ⊎_elim
+      (λ none. ends s dir frames x y z NoMemory outcome none (sampled_memory law dir frames x y made.outside))
+      (λ said. sampled_taken law dir frames x y z outcome made.outside (made.taken refl) (made.unwritten (inl refl))
+      said)
+      says
+  sampled_refused law dir frames x y z Site outcome made says = ends s dir frames x y z SiteFailed outcome says
+      (sampled_failed law dir frames x y made.outside (made.cause refl))
+  sampled_refused law dir frames x y z Memory outcome made says = ends s dir frames x y z NoMemory outcome says
+      (sampled_memory law dir frames x y made.outside)
+  sampled_refused law dir frames x y z Empty outcome made says = absurd made.faults
+  sampled_refused law dir frames x y z Broken outcome made says = absurd made.faults
+  sampled_refused law dir frames x y z (Row kind number) outcome made says = absurd made.faults
+  sampled_refused law dir frames x y z (Unsound number) outcome made says = absurd made.faults
 
   -- the store was made, and then the frames served and the numbers told
   pub sampled_told : IsLawful s → (dir : Directory) (frames : List Frame) (x y z : S) (outcome : Outcome)

@@ -1,7 +1,8 @@
 -- What is wrong with a text that is no directory, as a line.
-use Rattle.std.specs.Prelude.{ℕ, List, [], ◌∷◌, ◌++◌, codes, decimal}
+use Rattle.std.specs.Prelude.{ℕ, List, ◌++◌, codes}
 use Rattle.ad_load_records.specs.declared.fault.LoadCause.{LoadCause}
 use Rattle.ad_load_records.specs.declared.fault.LoadCause.TheVariants as cause
+use Rattle.cmd_call.specs.Lines.{fault_line}
 
 abbrev pub cause_text : LoadCause → List ℕ
 cause_text cause.Line = codes "line"
@@ -32,4 +33,4 @@ cause_text cause.Limit = codes "limit"
 
 -- its line and what is wrong
 abbrev pub load_line : ℕ → LoadCause → List ℕ
-load_line line what = codes "line " ++ (decimal line ++ (32 ∷ (cause_text what ++ 10 ∷ [])))
+load_line line what = fault_line line (cause_text what)

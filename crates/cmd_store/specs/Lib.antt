@@ -20,6 +20,7 @@ pub mod Outcome
 pub mod Sample
 -- only for private contracts, invariants and proofs
 pub mod Input
+pub mod Failed
 pub mod Loading
 pub mod Answering
 pub mod SampleServing

@@ -1,13 +1,11 @@
 -- What `adsd list` does.
-use Rattle.std.specs.Prelude.{◌≡◌, ◌⊎◌, ℕ, List, Option, Some, None, option_and_then, codes, IfSome}
+use Rattle.std.specs.Prelude.{◌≡◌, ◌⊎◌, ℕ, List, Option, Some, None, codes, IfSome}
 use Rattle.site_io.specs.Disk.{Images}
 use Rattle.site_io.specs.Told.{StaysTold}
 use Rattle.site_io.specs.declared.site.Site.{Ghosts as SiteGhosts}
-use Rattle.ad_dn.specs.Reading.{dn_of}
 use Rattle.ad_dn.specs.Value.{AreRdns}
-use Rattle.ad_dn.specs.declared.rdn.Dn.{Dn}
 use Rattle.ad_dir_model.specs.Directory.{Directory}
-use Rattle.ad_dir_model.specs.Names.{found}
+use Rattle.ad_needs_rules.specs.Requests.{number_of_name}
 use Rattle.ad_rows_write.specs.Rows.{IsStoreOf}
 use Rattle.ad_dsacls.specs.Listing.{listing}
 use Rattle.ad_engine.specs.Opening.{Refuses}
@@ -23,7 +21,7 @@ use Rattle.cmd_store.specs.Lines.{store_line}
 -- the number of the object that has the name of the text; none where no object has it, and where the text is no
 -- name's
 abbrev pub number_named : Directory → List ℕ → Option ℕ
-number_named dir text = option_and_then (λ (dn : Dn). found dir dn.rdns) (dn_of text)
+number_named dir text = number_of_name dir text
 
 abbrev pub no_object_line : List ℕ
 no_object_line = codes "no object\n"

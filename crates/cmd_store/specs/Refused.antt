@@ -1,4 +1,4 @@
--- How a command ends at each fault of opening a store.
+-- How a command ends at each fault of opening or making a store.
 use Rattle.std.specs.Prelude.{◌≡◌, ℕ, List, [], ◌++◌}
 use Rattle.site_io.specs.declared.site.Site.{Ghosts as SiteGhosts}
 use Rattle.ad_engine.specs.declared.fault.OpenFault.{OpenFault}

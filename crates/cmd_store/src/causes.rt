@@ -4,7 +4,7 @@ ghost use Rattle.std.specs.Prelude.{◌≡◌, ◌++◌, IfOk, OnOk};
 ghost use Rattle.cmd_store.specs.Causes.{cause_text, load_line};
 
 use ad_load::LoadCause;
-use cmd_call::{put, put_number};
+use cmd_call::{fault_line, put};
 use std::alloc::{AllocError, Global};
 
 // Words and the name that they are about.
@@ -51,11 +51,7 @@ fn put_cause(into: &mut Vec<u8>, cause: &LoadCause) -> Result<(), AllocError>
 pub fn line_of_cause(alloc: Global, line: u32, cause: &LoadCause) -> Result<Vec<u8>, AllocError>
     ensures { IfOk result (λ text. text.items ≡ load_line line cause.now) }
 {
-    let mut text = Vec::new(alloc);
-    put(&mut text, "line ")?;
-    put_number(&mut text, u64::from(line))?;
-    put(&mut text, " ")?;
-    put_cause(&mut text, cause)?;
-    put(&mut text, "\n")?;
-    Ok(text)
+    let mut words = Vec::new(alloc);
+    put_cause(&mut words, cause)?;
+    fault_line(alloc, line, &words)
 }

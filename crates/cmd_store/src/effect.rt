@@ -13,11 +13,12 @@ ghost use Rattle.cmd_store.specs.Answering.{of_token, AnswersAt, AnswersFor};
 ghost use Rattle.cmd_store.specs.Effective.{EffectiveDoes, NoToken, IsTokenFor, IsNoTokenFor};
 ghost use Rattle.cmd_store.specs.List.{number_named};
 
-use crate::listing::{has_suffix, number_named, tell_none};
+use crate::listing::{has_suffix, tell_none};
 use crate::refuse;
 use ad_dir::Dir;
 use ad_engine::Engine;
 use ad_ids::{Token, TokenFault};
+use ad_needs_rules::number_of_name;
 use cmd_call::{Outcome, say};
 use site_io::{Site, Source, WholeFault, read_whole};
 use std::alloc::{AllocError, Global};
@@ -110,7 +111,7 @@ fn answer_in<I: Source, S: Site>(
     ensures suffix { AreRdns dir.now.meta.suffix }
 {
     has_suffix(dir);
-    match number_named(alloc, dir, name) {
+    match number_of_name(alloc, dir, name) {
         Ok(Some(number)) => answer(alloc, source, site, dir, number),
         Ok(None) => tell_none(site),
         Err(AllocError) => Outcome::NoMemory,

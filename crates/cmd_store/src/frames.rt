@@ -8,8 +8,9 @@ ghost use Rattle.cmd_call.specs.declared.outcome.Outcome.TheVariants.{SourceFail
 ghost use Rattle.cmd_store.specs.serving.Does.{ServeDoes};
 ghost use Rattle.cmd_store.specs.serving.One.{of_open, of_frame, AnswersFrame, IsEnd, IsServedReady, IsServedSince};
 
+use crate::failed::outcome_of_fault;
 use crate::ready::make_ready;
-use ad_engine::{Engine, EngineFault, OpenFault};
+use ad_engine::{Engine, OpenFault};
 use ad_frames::{Frame, FrameFault, next_frame};
 use cmd_call::Outcome;
 use site_io::{Failed, Site, Source};
@@ -57,9 +58,7 @@ fn answer_frame<S: Site>(site: &mut S, engine: &mut Engine, frame: &Frame) -> Re
 {
     let output = match engine.serve_frame(site, frame) {
         Ok(output) => output,
-        Err(EngineFault::Site) => return Err(Outcome::SiteFailed),
-        Err(EngineFault::Memory) => return Err(Outcome::NoMemory),
-        Err(EngineFault::Spent) => unreachable!(),
+        Err(fault) => return Err(outcome_of_fault(fault)),
     };
     match site.emit(&output) {
         Ok(()) => Ok(()),

@@ -28,6 +28,7 @@ mod answers;
 mod causes;
 mod checking;
 mod effect;
+mod failed;
 mod frames;
 mod input;
 mod laws;

@@ -1,17 +1,17 @@
 //! The command `list`: what stands in the descriptor of an object.
 
-ghost use Rattle.std.specs.Prelude.{◌≡◌, true, IfOk, IfSome};
+ghost use Rattle.std.specs.Prelude.{◌≡◌, true};
 ghost use Rattle.ad_dn.specs.Value.{AreRdns};
 ghost use Rattle.ad_dir_model.specs.Objects.{is_live};
 ghost use Rattle.ad_dsacls.specs.Listing.{listing};
 ghost use Rattle.cmd_call.specs.Store.{HasFailed, SaysUnless};
 ghost use Rattle.cmd_call.specs.declared.outcome.Outcome.TheVariants.{Done, NoObject, SiteFailed};
-ghost use Rattle.cmd_store.specs.List.{ListDoes, no_object_line, number_named, list_text, list_outcome};
+ghost use Rattle.cmd_store.specs.List.{ListDoes, no_object_line, list_text, list_outcome};
 
 use crate::refuse;
 use ad_dir::Dir;
-use ad_dn::DnFault;
 use ad_engine::Engine;
+use ad_needs_rules::number_of_name;
 use cmd_call::{Outcome, say};
 use site_io::Site;
 use std::alloc::{AllocError, Global};
@@ -24,22 +24,6 @@ pub fn has_suffix(dir: &Dir)
     ensures { AreRdns dir.now.meta.suffix }
 {
     let _parts = dir.meta().suffix.rdns.as_slice();
-}
-
-/// The object that has the name of the text: none where no object has it, and where the text is no name's.
-///
-/// # Errors
-///
-/// Memory ran out.
-pub fn number_named(alloc: Global, dir: &Dir, name: &[u8]) -> Result<Option<u32>, AllocError>
-    ensures named { IfOk result (λ number. number ≡ number_named dir.now name.now) }
-    ensures live { IfOk result (λ number. IfSome number (λ n. is_live dir.now.objects n ≡ true)) }
-{
-    match ad_dn::read(alloc, name) {
-        Ok(dn) => dir.find(alloc, &dn),
-        Err(DnFault::Bad { place: _ }) => Ok(None),
-        Err(DnFault::Memory) => Err(AllocError),
-    }
 }
 
 // Emits the listing of an object.
@@ -67,7 +51,7 @@ fn list_in<S: Site>(alloc: Global, site: &mut S, dir: &Dir, name: &[u8]) -> Outc
     ensures suffix { AreRdns dir.now.meta.suffix }
 {
     has_suffix(dir);
-    match number_named(alloc, dir, name) {
+    match number_of_name(alloc, dir, name) {
         Ok(Some(number)) => tell(alloc, site, dir, number),
         Ok(None) => tell_none(site),
         Err(AllocError) => Outcome::NoMemory,

@@ -16,9 +16,9 @@ ghost use Rattle.ad_load_records.specs.Records.{most_lines};
 
 use crate::causes::line_of_cause;
 use crate::input::{Read, read_input};
+use crate::refuse;
 use crate::store_lines::TAKEN;
 use crate::storing::create_store;
-use ad_engine::OpenFault;
 use ad_load::{LoadCause, LoadFault, Parts, parts_of};
 use ad_load_records::Record;
 use cmd_call::{Outcome, are_empty, put_counted, say};
@@ -63,7 +63,7 @@ fn given_by_input<I: Source>(alloc: Global, source: &mut I) -> Result<Given, Out
 }
 
 // Emits the line of a fault.
-fn refuse<S: Site>(alloc: Global, site: &mut S, line: u32, cause: &LoadCause) -> Outcome
+fn refuse_line<S: Site>(alloc: Global, site: &mut S, line: u32, cause: &LoadCause) -> Outcome
     ensures { SaysUnless S.Site site.old site.new (load_line line cause.now) NotOfForm result }
 {
     match line_of_cause(alloc, line, cause) {
@@ -92,13 +92,7 @@ fn keep<S: Site>(alloc: Global, site: &mut S, dir: Parts) -> Outcome
     };
     match create_store(alloc, site, dir) {
         Ok(()) => say(site, &line, Outcome::Done),
-        Err(OpenFault::Taken) => say(site, TAKEN.as_bytes(), Outcome::NoStore),
-        Err(OpenFault::Memory) => Outcome::NoMemory,
-        Err(OpenFault::Site) => Outcome::SiteFailed,
-        Err(OpenFault::Empty) => unreachable!(),
-        Err(OpenFault::Broken) => unreachable!(),
-        Err(OpenFault::Row(_, _)) => unreachable!(),
-        Err(OpenFault::Unsound(_)) => unreachable!(),
+        Err(fault) => refuse(alloc, site, fault),
     }
 }
 
@@ -108,7 +102,7 @@ fn load_empty<I: Source, S: Site>(alloc: Global, source: &mut I, site: &mut S) -
 {
     match given_by_input(alloc, source) {
         Ok(Given::Directory(dir)) => keep(alloc, site, dir),
-        Ok(Given::Refusal(line, cause)) => refuse(alloc, site, line, &cause),
+        Ok(Given::Refusal(line, cause)) => refuse_line(alloc, site, line, &cause),
         Err(outcome) => outcome,
     }
 }

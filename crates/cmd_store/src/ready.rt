@@ -6,7 +6,8 @@ ghost use Rattle.ad_engine.specs.Standing.{StandsIn};
 ghost use Rattle.cmd_store.specs.Opened.{EachStandsFor};
 ghost use Rattle.cmd_store.specs.Ready.{IsReadySince, IsUnreadySince};
 
-use ad_engine::{Engine, EngineFault};
+use crate::failed::outcome_of_fault;
+use ad_engine::Engine;
 use cmd_call::Outcome;
 use site_io::Site;
 
@@ -26,9 +27,7 @@ fn migrate_synced<S: Site>(site: &mut S, engine: &mut Engine) -> Result<(), Outc
 {
     match engine.migrate(site) {
         Ok(()) => Ok(()),
-        Err(EngineFault::Site) => Err(Outcome::SiteFailed),
-        Err(EngineFault::Memory) => Err(Outcome::NoMemory),
-        Err(EngineFault::Spent) => unreachable!(),
+        Err(fault) => Err(outcome_of_fault(fault)),
     }
 }
 
@@ -46,8 +45,6 @@ pub(crate) fn make_ready<S: Site>(site: &mut S, engine: &mut Engine) -> Result<(
 {
     match engine.sync(site) {
         Ok(()) => migrate_synced(site, engine),
-        Err(EngineFault::Site) => Err(Outcome::SiteFailed),
-        Err(EngineFault::Memory) => unreachable!(),
-        Err(EngineFault::Spent) => unreachable!(),
+        Err(fault) => Err(outcome_of_fault(fault)),
     }
 }

@@ -13,11 +13,13 @@ ghost use Rattle.cmd_store.specs.SampleServing.{SamplesEmpty};
 ghost use Rattle.cmd_store.specs.Size.{max_size};
 
 use crate::answers::text_of;
+use crate::failed::outcome_of_fault;
+use crate::refuse;
 use crate::sent::sent_frames;
 use crate::store_lines::TAKEN;
 use ad_bytes::Bytes;
 use ad_dir::Dir;
-use ad_engine::{Engine, EngineFault, OpenFault};
+use ad_engine::Engine;
 use ad_frames::Frame;
 use ad_gen::ldif;
 use ad_load::{LoadFault, directory_of};
@@ -38,9 +40,7 @@ fn serve_one<S: Site>(site: &mut S, engine: &mut Engine, frame: &Frame) -> Resul
 {
     match engine.serve_frame(site, frame) {
         Ok(output) => Ok(Bytes::from_vec(output)),
-        Err(EngineFault::Site) => Err(Outcome::SiteFailed),
-        Err(EngineFault::Memory) => Err(Outcome::NoMemory),
-        Err(EngineFault::Spent) => unreachable!(),
+        Err(fault) => Err(outcome_of_fault(fault)),
     }
 }
 
@@ -105,13 +105,7 @@ fn keep<S: Site>(alloc: Global, site: &mut S, dir: Dir, frames: &[Frame]) -> Out
 {
     match Engine::create(alloc, site, dir) {
         Ok(mut engine) => serve_and_tell(alloc, site, &mut engine, frames),
-        Err(OpenFault::Taken) => say(site, TAKEN.as_bytes(), Outcome::NoStore),
-        Err(OpenFault::Memory) => Outcome::NoMemory,
-        Err(OpenFault::Site) => Outcome::SiteFailed,
-        Err(OpenFault::Empty) => unreachable!(),
-        Err(OpenFault::Broken) => unreachable!(),
-        Err(OpenFault::Row(_, _)) => unreachable!(),
-        Err(OpenFault::Unsound(_)) => unreachable!(),
+        Err(fault) => refuse(alloc, site, fault),
     }
 }
 

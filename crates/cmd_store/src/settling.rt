@@ -6,9 +6,10 @@ ghost use Rattle.cmd_call.specs.Store.{HasFailed, SaysUnless};
 ghost use Rattle.cmd_call.specs.declared.outcome.Outcome.TheVariants.{Done, SiteFailed};
 ghost use Rattle.cmd_store.specs.Settle.{SettleDoes, IsSettledReady, IsSettledSince, steps_line};
 
+use crate::failed::outcome_of_fault;
 use crate::ready::make_ready;
 use crate::refuse;
-use ad_engine::{Engine, EngineFault};
+use ad_engine::Engine;
 use cmd_call::{Outcome, put_counted, say};
 use site_io::Site;
 use std::alloc::{AllocError, Global};
@@ -41,9 +42,7 @@ fn settle_pending<S: Site>(alloc: Global, site: &mut S, engine: &mut Engine) -> 
 {
     match engine.settle(site) {
         Ok(steps) => tell(alloc, site, steps),
-        Err(EngineFault::Site) => Outcome::SiteFailed,
-        Err(EngineFault::Memory) => Outcome::NoMemory,
-        Err(EngineFault::Spent) => unreachable!(),
+        Err(fault) => outcome_of_fault(fault),
     }
 }
 

@@ -10,8 +10,8 @@ ghost use Rattle.ad_dir_model.specs.Soundness.{IsSound};
 ghost use Rattle.ad_dir_model.specs.Tree.{IsAtDepth};
 ghost use Rattle.cmd_store.specs.Stale.{stale, is_stale};
 
-use ad_dir::{Dir, live_object, live_sd};
-use ad_dir_write::{guid_of, is_another};
+use ad_dir::{Dir, guid_of, live_object, live_sd};
+use ad_dir_write::is_another;
 use ad_inherit::{explicit, whole};
 use ad_schema::ClassId;
 use ad_sd::NormalSd;

@@ -1,4 +1,4 @@
-//! How a command ends where no store was opened.
+//! How a command ends where no store was opened or made.
 
 ghost use Rattle.std.specs.Prelude.{◌++◌};
 ghost use Rattle.cmd_call.specs.Store.{SaysUnless};
@@ -40,7 +40,7 @@ pub fn refuse_as<S: Site>(alloc: Global, site: &mut S, which: &str, fault: OpenF
     }
 }
 
-/// Ends where no store was opened: with a line, where the slots represent no directory.
+/// Ends where no store was opened or made: with a line, where the slots represent no directory or aren't empty.
 pub fn refuse<S: Site>(alloc: Global, site: &mut S, fault: OpenFault) -> Outcome
     ensures { Refused S.Site site.old site.new fault result }
 {

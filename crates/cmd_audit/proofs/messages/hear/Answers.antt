@@ -2,12 +2,7 @@ use Rattle.std.proofs.Common.{◌≡◌, Bool, List, sym, ap, subst}
 use Rattle.std.specs.Prelude.{IfOk}
 use Rattle.ad_tried.specs.Tried.{TriedValue, tried_values}
 use Rattle.cmd_audit.specs.Tries.{reading_tries, message_tries, reading_looks, message_looks}
-use Rattle.ad_ldap.specs.MessageValue.{message_seen}
 use Rattle.cmd_audit.proofs.messages.hear.Goals as goal
-
-pub of_message-requires : goal.of_message-requires
-of_message-requires c = (c.what_a_message_has.ensures (message_seen c.in-Ok.message) c.args.bytes.now
-    c.in-Ok.ensures.found).2
 
 pub returns-in-Ok-clause-tried : goal.returns-in-Ok-clause-tried
 unfolding message_tries

@@ -1,8 +1,6 @@
-use Rattle.std.proofs.Common.{sym, ap, subst}
+use Rattle.std.proofs.Common.{sym, ap}
 use Rattle.ad_ldap.specs.declared.requests.Op.{Op}
 use Rattle.ad_ldap.specs.MessageValue.{op_seen, message_seen}
-use Rattle.ad_ldap.specs.Ranges.{HasOpRanges}
-use Rattle.ad_needs.specs.Verdicts.{IsChange}
 use Rattle.cmd_audit.specs.Tries.{op_tries}
 use Rattle.cmd_audit.proofs.Given.{tried_as, tried_none}
 use Rattle.cmd_audit.proofs.messages.of_operation.Goals as goal
@@ -19,18 +17,11 @@ returns-in-Compare c =
     tried_as c.of_compare.result _ _ (ap (λ (op : Op). op_tries c.args.dir.now c.args.token.now (message_seen m)
     (op_seen op)) (sym c.in-Compare.is)) c.of_compare.ensures
 
-pub of_change-requires : goal.of_change-requires
-of_change-requires c = subst (λ (op : Op). IsChange (op_seen op)) (sym c.in-Modify.is)
-    (subst (λ (op : Op). HasOpRanges (op_seen op)) c.in-Modify.is c.requires)
-
 pub returns-in-Modify : goal.returns-in-Modify
 returns-in-Modify c =
     let m = c.args.message.now in
     tried_as c.of_change.result _ _ (ap (λ (op : Op). op_tries c.args.dir.now c.args.token.now (message_seen m)
     (op_seen op)) (sym c.in-Modify.is)) c.of_change.ensures
-
-pub of_change-requires-in-Add : goal.of_change-requires-in-Add
-of_change-requires-in-Add c = subst (λ (op : Op). IsChange (op_seen op)) (sym c.in-Add.is) tt
 
 pub returns-in-Add : goal.returns-in-Add
 returns-in-Add c =
@@ -39,18 +30,12 @@ returns-in-Add c =
     (ap (λ (op : Op). op_tries c.args.dir.now c.args.token.now (message_seen m) (op_seen op)) (sym c.in-Add.is))
     c.of_change-in-Add.ensures
 
-pub of_change-requires-in-Delete : goal.of_change-requires-in-Delete
-of_change-requires-in-Delete c = subst (λ (op : Op). IsChange (op_seen op)) (sym c.in-Delete.is) tt
-
 pub returns-in-Delete : goal.returns-in-Delete
 returns-in-Delete c =
     let m = c.args.message.now in
     tried_as c.of_change-in-Delete.result _ _
     (ap (λ (op : Op). op_tries c.args.dir.now c.args.token.now (message_seen m) (op_seen op))
     (sym c.in-Delete.is)) c.of_change-in-Delete.ensures
-
-pub of_change-requires-in-Rename : goal.of_change-requires-in-Rename
-of_change-requires-in-Rename c = subst (λ (op : Op). IsChange (op_seen op)) (sym c.in-Rename.is) tt
 
 pub returns-in-Rename : goal.returns-in-Rename
 returns-in-Rename c =

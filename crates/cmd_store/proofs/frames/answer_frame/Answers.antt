@@ -1,35 +1,22 @@
-use Rattle.std.proofs.Common.{◌≡◌, ◌∙◌, ℕ, List, inl, inr, refl, subst, arith}
+use Rattle.std.proofs.Common.{◌≡◌, ◌∙◌, ℕ, List, inl, inr, ⊎_elim, refl, sym, subst, arith}
 use Rattle.site_io.specs.Counts.{HasRisen}
 use Rattle.ad_engine.proofs.Keeping.{emit_stands_still}
 use Rattle.cmd_call.specs.Store.{Emits, EmitsPart}
 use Rattle.cmd_call.proofs.Moments.{IsLawful, emits_on, part_on, goes_on_on}
-use Rattle.cmd_store.specs.serving.One.{answered_by}
+use Rattle.cmd_store.specs.serving.One.{answered_by, IsOfSite}
+use Rattle.cmd_store.proofs.Failing.{of_site, unspent_fault}
 use Rattle.cmd_store.proofs.serving.OneFrame.{part_none, part_whole, known_then, not_so, amid_served, amid_emitted}
 use Rattle.cmd_store.proofs.serving.OneFrame.{lasts_emitted}
 use Rattle.cmd_store.proofs.frames.answer_frame.Goals as goal
 
-pub returns-in-Err-Site : goal.returns-in-Err-Site
-returns-in-Err-Site g c =
-    let s = g.S.Site in
-    let made = rw c.in-Err-Site.field-0-is at c.in-Err-Site.ensures in
-    record {
-      answered = tt;
-      part = part_none (s.emitted c.args.site.now) (s.emitted c.serve_frame.new.site) _ made.outside.output;
-      amid = amid_served s (record { output = g.met.S.Site.left_output; until = g.met.S.Site.left_until })
-          c.args.engine.now c.args.frame.now c.args.site.now c.serve_frame.new.site
-          made.outside made.any_moment;
-      moments = made.outside.moments;
-      known = made.outside.known;
-      slot_faults = made.outside.never_falls;
-      out_faults = omega (arith, made.outside.out_faults);
-      cause = λ _. inl (made.cause refl);
-      only = tt;
-    }
+pub outcome_of_fault-requires : goal.outcome_of_fault-requires
+outcome_of_fault-requires g c = unspent_fault c.in-Err.fault _ c.requires.unspent c.in-Err.ensures.spent
 
-pub returns-in-Err-Memory : goal.returns-in-Err-Memory
-returns-in-Err-Memory g c =
+pub returns-in-Err : goal.returns-in-Err
+returns-in-Err g c =
     let s = g.S.Site in
-    let made = c.in-Err-Memory.ensures in
+    let made = c.in-Err.ensures in
+    let ends = c.outcome_of_fault.ensures in
     record {
       answered = tt;
       part = part_none (s.emitted c.args.site.now) (s.emitted c.serve_frame.new.site) _ made.outside.output;
@@ -40,8 +27,8 @@ returns-in-Err-Memory g c =
       known = made.outside.known;
       slot_faults = made.outside.never_falls;
       out_faults = omega (arith, made.outside.out_faults);
-      cause = λ no. absurd cc;
-      only = tt;
+      cause = λ is. inl (made.cause (of_site c.in-Err.fault c.outcome_of_fault.result ends is));
+      only = ⊎_elim (λ site. subst IsOfSite (sym site.1) tt) (λ memory. subst IsOfSite (sym memory.1) tt) ends;
     }
 
 pub returns-in-Ok-emit : goal.returns-in-Ok-emit
@@ -97,7 +84,7 @@ returns g c =
     let bytes = c.deref.result.now in
     let text : bytes ≡ (answered_by old c.args.frame.now).output = c.deref.ensures.value ∙ made.output in
     let said : EmitsPart (s.emitted y) (s.emitted z) (answered_by old c.args.frame.now).output =
-    subst (λ (t : List ℕ). EmitsPart (s.emitted y) (s.emitted z) t) text c.in-Err.ensures.output in
+    subst (λ (t : List ℕ). EmitsPart (s.emitted y) (s.emitted z) t) text c.in-Err-emit.ensures.output in
     let law : IsLawful s = record { output = g.met.S.Site.left_output; until = g.met.S.Site.left_until } in
     record {
       answered = tt;
@@ -112,6 +99,6 @@ returns g c =
       slot_faults = omega (arith, made.outside.never_falls, c.emit.ensures.slot_faults);
       out_faults = omega (arith, made.outside.out_faults, c.emit.ensures.never_falls);
       cause = λ _. inr (subst (λ (k : ℕ). HasRisen k (s.out_faults z)) made.outside.out_faults
-          (c.in-Err.ensures.cause refl));
+          (c.in-Err-emit.ensures.cause refl));
       only = tt;
     }

@@ -14,9 +14,9 @@ pub returns-in-Ok-Refusal : goal.returns-in-Ok-Refusal
 returns-in-Ok-Refusal g c = record {
   does = of_refusal g.I.Source g.S.Site
       (record { output = g.met.S.Site.left_output; until = g.met.S.Site.left_until }) c.args.source.now
-      c.given_by_input.new.source c.args.site.now c.refuse.new.site c.in-Ok-Refusal.line c.in-Ok-Refusal.cause
-      c.refuse.result
-      (rw c.in-Ok-Refusal.field-0-is at c.in-Ok-Refusal.ensures).given c.refuse.ensures;
+      c.given_by_input.new.source c.args.site.now c.refuse_line.new.site c.in-Ok-Refusal.line c.in-Ok-Refusal.cause
+      c.refuse_line.result
+      (rw c.in-Ok-Refusal.field-0-is at c.in-Ok-Refusal.ensures).given c.refuse_line.ensures;
 }
 
 pub returns-in-Err : goal.returns-in-Err

@@ -1,4 +1,4 @@
-use Rattle.std.proofs.Common.{◌∙◌, suc, inl, refl, sym, subst}
+use Rattle.std.proofs.Common.{◌∙◌, suc, inl, inr, ⊎_elim, sym, subst}
 use Rattle.std.specs.Option.{IfSome}
 use Rattle.std.proofs.lemmas.Result.{on_ok_weaker, IfErr-weaker}
 use Rattle.site_io.proofs.Looking.{looks_on}
@@ -6,6 +6,7 @@ use Rattle.ad_dir_model.specs.Directory.{Directory}
 use Rattle.cmd_call.proofs.Moments.{IsLawful, told_on, rises_from}
 use Rattle.cmd_store.specs.Opened.{EachStandsFor}
 use Rattle.cmd_store.specs.Ready.{IsReadySince, IsUnreadySince}
+use Rattle.cmd_store.proofs.Failing.{of_site, unspent_fault}
 use Rattle.cmd_store.proofs.Readying.{opening_failed}
 use Rattle.cmd_store.proofs.serving.OneFrame.{not_so}
 use Rattle.cmd_store.proofs.ready.make_ready.Goals as goal
@@ -50,16 +51,20 @@ returns-in-Ok-clause-dir g c = c.migrate_synced.ensures.dir ∙ c.in-Ok.ensures.
 pub returns-in-Ok-clause-tokens : goal.returns-in-Ok-clause-tokens
 returns-in-Ok-clause-tokens g c = c.migrate_synced.ensures.tokens ∙ c.in-Ok.ensures.tokens
 
-pub returns-in-Err-Site-clause-failed : goal.returns-in-Err-Site-clause-failed
-returns-in-Err-Site-clause-failed g c = λ old looks store.
+pub outcome_of_fault-requires : goal.outcome_of_fault-requires
+outcome_of_fault-requires g c = unspent_fault c.in-Err.fault _ c.requires.unspent c.in-Err.ensures.spent
+
+pub returns-in-Err-clause-failed : goal.returns-in-Err-clause-failed
+returns-in-Err-clause-failed g c = λ old looks store.
     let s = g.S.Site in
     let law : IsLawful s = record { output = g.met.S.Site.left_output; until = g.met.S.Site.left_until } in
-    let made = rw c.in-Err-Site.field-0-is at c.in-Err-Site.ensures in
+    let made = c.in-Err.ensures in
+    let ends = c.outcome_of_fault.ensures in
     record {
       synced = suc (s.now c.sync.new.site);
       opening = opening_failed s law c.args.engine.now.dir old c.sync.new.site
           (looks_on s old c.args.site.now c.sync.new.site looks made.outside) store;
-      cause = λ _. rises_from (s.slot_faults old) (s.slot_faults c.args.site.now) (s.slot_faults c.sync.new.site)
-          looks.never_falls (made.cause refl);
-      only = inl refl;
+      cause = λ is. rises_from (s.slot_faults old) (s.slot_faults c.args.site.now) (s.slot_faults c.sync.new.site)
+          looks.never_falls (made.cause (of_site c.in-Err.fault c.outcome_of_fault.result ends is));
+      only = ⊎_elim (λ site. inl site.1) (λ memory. inr memory.1) ends;
     }

@@ -1,5 +1,6 @@
-use Rattle.std.proofs.Common.{inl, inr, refl}
+use Rattle.std.proofs.Common.{inl, inr, ⊎_elim}
 use Rattle.cmd_call.proofs.Moments.{IsLawful, rises_from}
+use Rattle.cmd_store.proofs.Failing.{of_site, unspent_fault}
 use Rattle.cmd_store.proofs.Readying.{opening_on, ready_on}
 use Rattle.cmd_store.proofs.serving.OneFrame.{not_so}
 use Rattle.cmd_store.proofs.ready.migrate_synced.Goals as goal
@@ -15,29 +16,20 @@ returns-in-Ok-clause-ready g c = λ old looks store.
 pub returns-in-Ok-clause-unspent : goal.returns-in-Ok-clause-unspent
 returns-in-Ok-clause-unspent g c = not_so c.migrate.new.self.spent _ c.in-Ok.ensures.marks.0 (λ no. absurd cc)
 
-pub returns-in-Err-Site-clause-failed : goal.returns-in-Err-Site-clause-failed
-returns-in-Err-Site-clause-failed g c = λ old looks store.
-    let s = g.S.Site in
-    let law : IsLawful s = record { output = g.met.S.Site.left_output; until = g.met.S.Site.left_until } in
-    let made = rw c.in-Err-Site.field-0-is at c.in-Err-Site.ensures in
-    record {
-      synced = s.now c.args.site.now;
-      opening = opening_on s law c.args.engine.now.dir old c.args.site.now c.migrate.new.site looks store
-          c.requires.lasts made.outside made.any_moment made.untouched;
-      cause = λ _. rises_from (s.slot_faults old) (s.slot_faults c.args.site.now) (s.slot_faults c.migrate.new.site)
-          looks.never_falls (made.cause refl);
-      only = inl refl;
-    }
+pub outcome_of_fault-requires : goal.outcome_of_fault-requires
+outcome_of_fault-requires g c = unspent_fault c.in-Err.fault _ c.requires.unspent c.in-Err.ensures.spent
 
-pub returns-in-Err-Memory-clause-failed : goal.returns-in-Err-Memory-clause-failed
-returns-in-Err-Memory-clause-failed g c = λ old looks store.
+pub returns-in-Err-clause-failed : goal.returns-in-Err-clause-failed
+returns-in-Err-clause-failed g c = λ old looks store.
     let s = g.S.Site in
     let law : IsLawful s = record { output = g.met.S.Site.left_output; until = g.met.S.Site.left_until } in
-    let made = c.in-Err-Memory.ensures in
+    let made = c.in-Err.ensures in
+    let ends = c.outcome_of_fault.ensures in
     record {
       synced = s.now c.args.site.now;
       opening = opening_on s law c.args.engine.now.dir old c.args.site.now c.migrate.new.site looks store
           c.requires.lasts made.outside made.any_moment made.untouched;
-      cause = λ no. absurd cc;
-      only = inr refl;
+      cause = λ is. rises_from (s.slot_faults old) (s.slot_faults c.args.site.now) (s.slot_faults c.migrate.new.site)
+          looks.never_falls (made.cause (of_site c.in-Err.fault c.outcome_of_fault.result ends is));
+      only = ⊎_elim (λ site. inl site.1) (λ memory. inr memory.1) ends;
     }

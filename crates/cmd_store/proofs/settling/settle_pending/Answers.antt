@@ -1,5 +1,9 @@
-use Rattle.std.proofs.Common.{◌≡◌, false, refl}
+use Rattle.std.proofs.Common.{◌≡◌, false, refl, sym, ap, subst, ⊎_elim, Err}
+use Rattle.ad_engine.specs.declared.engine_fault.EngineFault.{EngineFault}
+use Rattle.cmd_call.specs.declared.outcome.Outcome.{Outcome}
 use Rattle.cmd_call.proofs.Moments.{IsLawful, rises_from}
+use Rattle.cmd_store.specs.Settle.{IsSettledReady}
+use Rattle.cmd_store.proofs.Failing.{unspent_fault}
 use Rattle.cmd_store.proofs.SettleSteps.{settled_told, settled_failed, settled_memory, made_some, open_on}
 use Rattle.cmd_store.proofs.serving.Ending.{stands_for}
 use Rattle.cmd_store.proofs.serving.OneFrame.{not_so}
@@ -20,23 +24,23 @@ returns-in-Ok g c =
     (stands_for s new new.dir (s.reads c.settle.new.site) refl now.held now.sound) made.every_crash made.outside
     made.any_moment) c.tell.ensures
 
-pub returns-in-Err-Site : goal.returns-in-Err-Site
-returns-in-Err-Site g c =
-    let s = g.S.Site in
-    let law : IsLawful s = record { output = g.met.S.Site.left_output; until = g.met.S.Site.left_until } in
-    let made = rw c.in-Err-Site.field-0-is at c.in-Err-Site.ensures in
-    λ old ready.
-    settled_failed s c.args.engine.now.dir ready.synced old c.settle.new.site
-    (open_on s c.args.engine.now.dir old c.args.site.now c.settle.new.site ready c.requires.some made.outside
-    made.any_moment)
-    (rises_from (s.slot_faults old) (s.slot_faults c.args.site.now) (s.slot_faults c.settle.new.site)
-    ready.opening.touches.never_falls (made.cause refl))
+pub outcome_of_fault-requires : goal.outcome_of_fault-requires
+outcome_of_fault-requires g c = unspent_fault c.in-Err.fault _ c.requires.unspent c.in-Err.ensures.spent
 
-pub returns-in-Err-Memory : goal.returns-in-Err-Memory
-returns-in-Err-Memory g c =
+pub returns-in-Err : goal.returns-in-Err
+returns-in-Err g c =
     let s = g.S.Site in
-    let law : IsLawful s = record { output = g.met.S.Site.left_output; until = g.met.S.Site.left_until } in
-    λ old ready.
-    settled_memory s c.args.engine.now.dir ready.synced old c.settle.new.site
-    (open_on s c.args.engine.now.dir old c.args.site.now c.settle.new.site ready c.requires.some
-    c.in-Err-Memory.ensures.outside c.in-Err-Memory.ensures.any_moment)
+    let x = c.args.site.now in
+    let y = c.settle.new.site in
+    let dir = c.args.engine.now.dir in
+    let made = c.in-Err.ensures in
+    ⊎_elim
+    (λ site. subst (λ (outcome : Outcome). IsSettledReady s dir x y outcome) (sym site.1) (λ old ready.
+    settled_failed s dir ready.synced old y
+    (open_on s dir old x y ready c.requires.some made.outside made.any_moment)
+    (rises_from (s.slot_faults old) (s.slot_faults x) (s.slot_faults y) ready.opening.touches.never_falls
+    (made.cause (ap (λ (f : EngineFault). Err f) site.0)))))
+    (λ memory. subst (λ (outcome : Outcome). IsSettledReady s dir x y outcome) (sym memory.1) (λ old ready.
+    settled_memory s dir ready.synced old y
+    (open_on s dir old x y ready c.requires.some made.outside made.any_moment)))
+    c.outcome_of_fault.ensures

@@ -12,9 +12,8 @@ returns-in_err-rows-clause-creating g c =
 pub returns-in_err-store-clause-creating : goal.returns-in_err-store-clause-creating
 returns-in_err-store-clause-creating g c =
     let p = err_from_is_err_and c.from_residual-in_err-store.result c.from_residual-in_err-store.ensures.1 in
-    let says = c.in_err-store.ensures in
-    refused_creating _ _ g.S.Site c.args.site.now c.create_of.new.site c.in_err-store.field-0.0 p.0
-    c.from_residual-in_err-store.result p.1 p.2 says.taken says.unwritten says.faults says.outside says.cause
+    refused_creating _ g.S.Site c.args.site.now c.create_of.new.site c.in_ok-rows.rows c.in_err-store.field-0.0 p.0
+    c.from_residual-in_err-store.result p.1 p.2 c.in_err-store.ensures
 
 pub returns-clause-held : goal.returns-clause-held
 returns-clause-held g c =
