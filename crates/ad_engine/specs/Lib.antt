@@ -1,5 +1,6 @@
 pub mod Standing
 pub mod Opening
+pub mod Created
 pub mod Faults
 pub mod Settling
 pub mod Serving

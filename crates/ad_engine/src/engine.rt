@@ -1,15 +1,11 @@
 //! A directory, its store, and the tokens of the connections.
 
-ghost use Rattle.std.specs.Prelude.{◌≡◌, ◌⊎◌, ◌↔◌, ◌<◌, ℕ, List, [], true, false, length, IfSome, IfOk, OnOk, IsErr};
+ghost use Rattle.std.specs.Prelude.{◌≡◌, ◌↔◌, [], true, false, IfSome, IfOk, OnOk, IsErr};
 ghost use Rattle.std.specs.Prelude.{IsErrOf};
 ghost use Rattle.site_io.specs.Counts.{HasRisen};
-ghost use Rattle.site_io.specs.Outside.{OnlyLooks, TouchesSlots};
-ghost use Rattle.site_io.specs.Told.{StaysTold};
-ghost use Rattle.site_io.specs.Disk.{Images, LeavesSame};
+ghost use Rattle.site_io.specs.Outside.{OnlyLooks};
 ghost use Rattle.ad_dir_model.specs.Soundness.{IsSound};
-ghost use Rattle.ad_rows_write.specs.Rows.{IsStoreOf};
 ghost use Rattle.ad_engine.specs.Opening.{IsOpenedAs, AnswersFor};
-ghost use Rattle.ad_engine.specs.Faults.{OnlyTaken};
 ghost use Rattle.ad_engine.specs.Settling.{LastsAs};
 
 use crate::Tokens;
@@ -49,6 +45,7 @@ impl Drop for Engine {
 }
 
 impl Engine {
+    ghost use Rattle.ad_engine.specs.Created.{IsCreated};
     ghost use Rattle.ad_engine.specs.Standing.{Stands, StandsIn};
 
     /// Makes a store of the directory in two empty slots. No connection has a token. At Ok each crash from then on
@@ -60,26 +57,7 @@ impl Engine {
     /// where the site failed, which its count tells.
     pub fn create<S: Site>(alloc: Global, site: &mut S, dir: Dir) -> Result<Engine, OpenFault>
         requires { IsSound dir }
-        ensures dir { IfOk result (λ engine. engine.dir ≡ dir) }
-        ensures stands { IfOk result
-            (λ engine. StandsIn engine (S.reads site.new) (S.now site.new) (S.left site.new)) }
-        ensures unspent { IfOk result (λ engine. engine.spent ≡ false) }
-        ensures tokens { IfOk result (λ engine. engine.tokens ≡ []) }
-        ensures held { OnOk result (IfSome (S.reads site.new) (λ held. IsStoreOf held dir)) }
-        ensures every_crash { OnOk result (IfSome (S.reads site.new) (λ held.
-            (images : Images) (out : List ℕ) → S.left site.new (S.now site.new) images out
-            → IsStoreOf images dir)) }
-        ensures empty { OnOk result
-            (IfSome (S.reads site.old) (λ held. (length held.a ≡ 0) × (length held.b ≡ 0))) }
-        ensures taken { IsErrOf result OpenFault.Taken → IfSome (S.reads site.old)
-            (λ held. (0 < length held.a) ⊎ (0 < length held.b)) }
-        ensures unwritten { (IsErrOf result OpenFault.Taken ⊎ IsErrOf result OpenFault.Memory)
-            → StaysTold (S.reads site.old) (S.reads site.new) × LeavesSame (S.now site.old)
-            (S.left site.old) (S.left site.new) }
-        ensures faults { OnlyTaken result }
-        ensures outside { TouchesSlots S.Site site.old site.new }
-        ensures cause { IsErrOf result OpenFault.Site → HasRisen (S.slot_faults site.old)
-            (S.slot_faults site.new) }
+        ensures { IsCreated S.Site site.old site.new dir result }
     {
         match store_of(alloc, site, &dir) {
             Ok((store, tokens)) => Ok(Engine {

@@ -1,22 +1,45 @@
+use Rattle.std.proofs.Common.{⊎_elim, refl}
 use Rattle.ad_engine.specs.declared.fault.OpenFault.TheVariants.{Taken, Site}
 use Rattle.ad_engine.proofs.Opening.{dir_held, unwritten_as, one_as}
 use Rattle.ad_engine.proofs.engine.Engine.create.Goals as goal
 
-pub returns-in-Ok-clause-stands : goal.returns-in-Ok-clause-stands
-returns-in-Ok-clause-stands g c =
-    let kept = c.in-Ok.ensures.kept in
-    λ _. record {
-      sound = c.requires;
-      held = dir_held _ (g.S.Site.reads c.store_of.new.site) kept.held;
-      unspent = kept.unspent;
-      store = kept.store;
+pub returns-in-Ok : goal.returns-in-Ok
+returns-in-Ok g c =
+    let made = c.in-Ok.ensures in
+    record {
+      dir = refl;
+      stands = λ _. record {
+        sound = c.requires;
+        held = dir_held _ (g.S.Site.reads c.store_of.new.site) made.kept.held;
+        unspent = made.kept.unspent;
+        store = made.kept.store;
+      };
+      unspent = refl;
+      tokens = made.tokens;
+      held = made.held;
+      every_crash = made.every_crash;
+      empty = made.empty;
+      taken = λ never. absurd cc;
+      unwritten = ⊎_elim (λ never. absurd cc) (λ never. absurd cc);
+      faults = tt;
+      outside = made.creating.outside;
+      cause = λ never. absurd cc;
     }
 
-pub returns-in-Err-clause-taken : goal.returns-in-Err-clause-taken
-returns-in-Err-clause-taken g c = one_as _ _ _ c.in-Err.fault Taken c.in-Err.ensures.creating.taken
-
-pub returns-in-Err-clause-unwritten : goal.returns-in-Err-clause-unwritten
-returns-in-Err-clause-unwritten g c = unwritten_as _ _ _ c.in-Err.fault c.in-Err.ensures.creating.unwritten
-
-pub returns-in-Err-clause-cause : goal.returns-in-Err-clause-cause
-returns-in-Err-clause-cause g c = one_as _ _ _ c.in-Err.fault Site c.in-Err.ensures.creating.cause
+pub returns-in-Err : goal.returns-in-Err
+returns-in-Err g c =
+    let made = c.in-Err.ensures.creating in
+    record {
+      dir = tt;
+      stands = tt;
+      unspent = tt;
+      tokens = tt;
+      held = tt;
+      every_crash = tt;
+      empty = tt;
+      taken = one_as _ _ _ c.in-Err.fault Taken made.taken;
+      unwritten = unwritten_as _ _ _ c.in-Err.fault made.unwritten;
+      faults = made.faults;
+      outside = made.outside;
+      cause = one_as _ _ _ c.in-Err.fault Site made.cause;
+    }
