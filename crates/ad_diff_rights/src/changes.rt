@@ -1,6 +1,6 @@
 //! What a principal gains and loses on an object.
 
-ghost use Rattle.std.specs.Prelude.{◌≡◌, ◌++◌, true, if◌then◌else◌, IfOk, OnOk};
+ghost use Rattle.std.specs.Prelude.{◌≡◌, ◌++◌, true, drop, is_some, if◌then◌else◌, IfOk, OnOk};
 ghost use Rattle.std.specs.List.{flat_map, list_any};
 ghost use Rattle.ad_diff_rights.specs.Changes.{has_label, line_unless, lines_without, change_lines};
 ghost use Rattle.ad_diff_rights.specs.Own.{changes_in};
@@ -14,31 +14,57 @@ use ad_ids::Token;
 use ad_principals::put_labelled;
 use std::alloc::{AllocError, Global};
 
-// Whether the label is among these.
-fn has_label(labels: &[Vec<u8>], label: &[u8]) -> bool
-    ensures { result ≡ has_label (texts labels.now) label.now }
+// The place of the label among these, of which the first stands at this place; none where it isn't among them.
+fn place_in(labels: &[Vec<u8>], first: usize, label: &[u8]) -> Option<usize>
+    ensures { is_some result ≡ has_label (texts labels.now) label.now }
 {
+    let mut place = first;
     for other in labels {
         if label == other.as_slice() {
-            return true;
+            return Some(place);
         }
+        place = place.saturating_add(1);
     }
-    false
+    None
+}
+
+// Those from a place on.
+fn labels_from(labels: &[Vec<u8>], place: usize) -> &[Vec<u8>]
+    ensures { result.now ≡ drop place labels.entry.now }
+{
+    match labels.get(place..) {
+        Some(rest) => rest,
+        None => &[],
+    }
+}
+
+// The place of the label among these. It is sought from a place on first, since both lists have one order.
+fn place_of(labels: &[Vec<u8>], near: usize, label: &[u8]) -> Option<usize>
+    ensures { is_some result ≡ has_label (texts labels.now) label.now }
+{
+    match place_in(labels_from(labels, near), near, label) {
+        Some(place) => Some(place),
+        None => place_in(labels, 0, label),
+    }
 }
 
 fn put_line_unless(
     into: &mut Vec<u8>,
     sign: &[u8],
     others: &[Vec<u8>],
+    near: &mut usize,
     label: &[u8],
 ) -> Result<(), AllocError>
     ensures { OnOk result (into.new.items ≡ into.old.items
         ++ line_unless sign.now (texts others.now) label.now) }
 {
-    if has_label(others, label) {
-        return Ok(());
+    match place_of(others, *near, label) {
+        Some(place) => {
+            *near = place.saturating_add(1);
+            Ok(())
+        }
+        None => put_labelled(into, sign, label),
     }
-    put_labelled(into, sign, label)
 }
 
 #[tactic(auto, unfolding(crate::specs::Changes::lines_without))]
@@ -51,8 +77,9 @@ fn put_lines_without(
     ensures { OnOk result (into.new.items ≡ into.old.items
         ++ lines_without sign.now (texts granted.now) (texts others.now)) }
 {
+    let mut near = 0;
     for label in granted {
-        put_line_unless(into, sign, others, label.as_slice())?;
+        put_line_unless(into, sign, others, &mut near, label.as_slice())?;
     }
     Ok(())
 }
