@@ -18,13 +18,13 @@ use std::alloc::{AllocError, Global};
 
 /// The lines of a record, where it is of this kind.
 #[tactic(auto, unfolding(crate::specs::Attributes::lines_if))]
-pub fn lines_if(kind: SchemaKind, record: &SchemaRecord) -> Option<&[Line]>
-    ensures { option_map (λ lines. lines.now) result ≡ lines_if kind record.now }
+pub fn lines_if(kind: SchemaKind, one: &SchemaRecord) -> Option<&[Line]>
+    ensures { option_map (λ lines. lines.now) result ≡ lines_if kind one.now }
 {
-    match (kind, record.kind) {
+    match (kind, one.kind) {
         (SchemaKind::Attribute, SchemaKind::Attribute)
         | (SchemaKind::Class, SchemaKind::Class)
-        | (SchemaKind::Right, SchemaKind::Right) => Some(record.lines.as_slice()),
+        | (SchemaKind::Right, SchemaKind::Right) => Some(one.lines.as_slice()),
         _ => None,
     }
 }
