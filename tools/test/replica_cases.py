@@ -163,7 +163,6 @@ def another(world):
         time.sleep(2)
     finally:
         ended(workers)
-    world.wait("level", world.is_level)
     return differences(world, notes)
 
 
@@ -205,7 +204,6 @@ def keepers(world):
         look = f"search base='CN=bob,OU=staff,{ROOT}' sd=dacl attrs=nTSecurityDescriptor"
         world.wait("it is passed down", lambda: f"1-2-3-{at + 1})" in left.ask(look))
         world.serves(world.by_name[name])
-    world.wait("level", world.is_level)
     return wrong + differences(world)
 
 

@@ -15,6 +15,8 @@ from adsd_report import store
 
 MARK = re.compile(rb"w\d+-\d+\.")
 MOST = 900_000
+# So often all is looked at, where the log goes on meanwhile.
+TRIES = 20
 
 
 def all_entries(world):
@@ -59,8 +61,19 @@ def same_rows(first, second):
 
 
 def differences(world, notes=None):
-    """All that isn't as it should be. The replicas have to rest."""
-    found = all_entries(world)
+    """All that isn't as it should be. What the keeper puts meanwhile, steps for the last changes, has everything looked at
+    once more: a replica that has taken more than was read would seem to differ."""
+    for _ in range(TRIES):
+        found = all_entries(world)
+        world.wait("level", world.is_level)
+        wrong = compared(world, found, notes)
+        if world.log().head() == len(found):
+            return wrong
+    return [f"the log doesn't come to rest: {len(found)} entries, and {world.log().head()} now"]
+
+
+def compared(world, found, notes):
+    """What isn't as a plain run of these entries makes it."""
     path, answers = replayed(world, found)
     wrong = []
     if len(answers) != len(found):
@@ -68,7 +81,8 @@ def differences(world, notes=None):
     for one in world.replicas:
         count = same_rows(path, one.store)
         if count:
-            wrong.append(f"replica {one.name} at {one.position()} differs from a plain run in {count} rows")
+            wrong.append(f"replica {one.name} at {one.position()} differs from a plain run of {len(found)} entries in "
+                         f"{count} rows")
     ids = [entry.id for entry in found]
     if len(set(ids)) < len(ids):
         wrong.append(f"{len(ids) - len(set(ids))} entries stand twice")

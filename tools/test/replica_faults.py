@@ -171,12 +171,9 @@ def ended(workers):
 
 
 def rest(world, notes):
-    """Waits until all replicas stand where the log ends, and tells what is wrong."""
+    """Waits until all replicas serve, and tells what is wrong."""
     for one in world.replicas:
         world.serves(one)
-    world.wait("all replicas are level", world.is_level)
-    time.sleep(0.5)
-    world.wait("all replicas are level", world.is_level)
     return differences(world, notes)
 
 
