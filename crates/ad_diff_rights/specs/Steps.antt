@@ -1,6 +1,9 @@
--- Only for private contracts, invariants and proofs: rights of masks.
-use Rattle.std.specs.Prelude.{◌≡◌, ℕ, ◌<◌, true, List, [], Vec, All, map, codes, slice_get}
+-- Only for private contracts, invariants and proofs: texts, tables of them, and rights of masks.
+use Rattle.std.specs.Prelude.{◌≡◌, ℕ, ◌<◌, true, ◌||◌, List, [], Vec, All, map, codes, slice_get}
+use Rattle.std.specs.Borrow.{Bor}
+use Rattle.std.specs.Str.{bytes_eq}
 use Rattle.std.specs.declared.alloc.Global.{Global}
+use Rattle.indexmap.specs.IndexSet.{IndexSet, contains_by}
 use Rattle.std.specs.Option.{option_map_or}
 use Rattle.ad_acl.specs.Mask.{has_bit, mapped_has}
 use Rattle.ad_acl.specs.declared.codes.Code.{Code}
@@ -10,10 +13,20 @@ use Rattle.ad_schema.specs.declared.info.AttrInfo.{AttrInfo}
 use Rattle.ad_schema.specs.Attributes.{attrs_of}
 use Rattle.ad_dsacls.specs.Effective.{label_of}
 use Rattle.ad_diff_rights.specs.Rights.{labels, attribute_codes}
+use Rattle.ad_diff_rights.specs.Changes.{has_label}
 
 -- the texts of a list
 abbrev pub texts : List (Vec ℕ Global) → List (List ℕ)
 texts all = map (λ (text : Vec ℕ Global). text.items) all
+
+-- the labels that a table has are these
+abbrev pub IsTableOf : {S : Type 0} → List (List ℕ) → IndexSet (Bor (List ℕ)) S → Type 0
+IsTableOf labels table = (label : List ℕ) → contains_by (λ key. bytes_eq label key.now) table ≡ has_label labels label
+
+-- the label was entered in a table
+abbrev pub IsOneMore : {S : Type 0} → IndexSet (Bor (List ℕ)) S → IndexSet (Bor (List ℕ)) S → List ℕ → Type 0
+IsOneMore old new entered = (label : List ℕ) → contains_by (λ key. bytes_eq label key.now) new
+    ≡ (contains_by (λ key. bytes_eq label key.now) old || bytes_eq label entered)
 
 -- each of the codes is a right that is asked for
 abbrev pub AreWanted : ℕ → List Code → Type 0

@@ -1,7 +1,8 @@
 //! What a principal gains and loses on an object.
 
-ghost use Rattle.std.specs.Prelude.{◌≡◌, ◌++◌, true, drop, is_some, if◌then◌else◌, IfOk, OnOk};
+ghost use Rattle.std.specs.Prelude.{◌≡◌, ◌++◌, [], take, if◌then◌else◌, IfOk, OnOk};
 ghost use Rattle.std.specs.List.{flat_map, list_any};
+ghost use Rattle.ad_bytes.specs.Puts.{labelled};
 ghost use Rattle.ad_diff_rights.specs.Changes.{has_label, line_unless, lines_without, change_lines};
 ghost use Rattle.ad_diff_rights.specs.Own.{changes_in};
 ghost use Rattle.ad_diff_rights.specs.Steps.{texts};
@@ -9,66 +10,49 @@ ghost use Rattle.ad_diff_rights.specs.Both.{IsLiveBoth};
 
 use crate::both::Both;
 use crate::rights::rights;
+use crate::sought::{Near, has_in, has_near, labels_from, table_of};
 use ad_dir::Dir;
 use ad_ids::Token;
 use ad_principals::put_labelled;
 use std::alloc::{AllocError, Global};
 
-// The place of the label among these, of which the first stands at this place; none where it isn't among them.
-fn place_in(labels: &[Vec<u8>], first: usize, label: &[u8]) -> Option<usize>
-    ensures { is_some result ≡ has_label (texts labels.now) label.now }
+// The line of a label that isn't among the others.
+fn put_line_if(into: &mut Vec<u8>, sign: &[u8], label: &[u8], is: bool) -> Result<(), AllocError>
+    ensures { OnOk result (into.new.items ≡ into.old.items
+        ++ (if is then [] else labelled sign.now label.now)) }
 {
-    let mut place = first;
-    for other in labels {
-        if label == other.as_slice() {
-            return Some(place);
-        }
-        place = place.saturating_add(1);
+    if is {
+        return Ok(());
     }
-    None
+    put_labelled(into, sign, label)
 }
 
-// Those from a place on.
-fn labels_from(labels: &[Vec<u8>], place: usize) -> &[Vec<u8>]
-    ensures { result.now ≡ drop place labels.entry.now }
-{
-    match labels.get(place..) {
-        Some(rest) => rest,
-        None => &[],
-    }
-}
-
-// The place of the label among these. It is sought from a place on first, since both lists have one order.
-fn place_of(labels: &[Vec<u8>], near: usize, label: &[u8]) -> Option<usize>
-    ensures { is_some result ≡ has_label (texts labels.now) label.now }
-{
-    match place_in(labels_from(labels, near), near, label) {
-        Some(place) => Some(place),
-        None => place_in(labels, 0, label),
-    }
-}
-
-fn put_line_unless(
+// The lines of the first labels, until too many of them stand elsewhere among the others; how many labels that are.
+#[tactic(auto, unfolding(crate::specs::Changes::lines_without))]
+fn put_first_lines(
     into: &mut Vec<u8>,
     sign: &[u8],
+    granted: &[Vec<u8>],
     others: &[Vec<u8>],
-    near: &mut usize,
-    label: &[u8],
-) -> Result<(), AllocError>
-    ensures { OnOk result (into.new.items ≡ into.old.items
-        ++ line_unless sign.now (texts others.now) label.now) }
+) -> Result<usize, AllocError>
+    ensures { IfOk result (λ count. into.new.items ≡ into.old.items
+        ++ lines_without sign.now (texts (take count granted.now)) (texts others.now)) }
 {
-    match place_of(others, *near, label) {
-        Some(place) => {
-            *near = place.saturating_add(1);
-            Ok(())
-        }
-        None => put_labelled(into, sign, label),
+    let mut near = Near::new();
+    let mut count = 0;
+    while count < granted.len() && !near.is_off() {
+        let label = granted[count].as_slice();
+        let is = has_near(others, &mut near, label);
+        put_line_if(into, sign, label, is)?;
+        count += 1;
     }
+    Ok(count)
 }
 
+// The lines of labels, each of which is sought in a table of the others.
 #[tactic(auto, unfolding(crate::specs::Changes::lines_without))]
-fn put_lines_without(
+fn put_lines_by_table(
+    alloc: Global,
     into: &mut Vec<u8>,
     sign: &[u8],
     granted: &[Vec<u8>],
@@ -77,11 +61,29 @@ fn put_lines_without(
     ensures { OnOk result (into.new.items ≡ into.old.items
         ++ lines_without sign.now (texts granted.now) (texts others.now)) }
 {
-    let mut near = 0;
+    let table = table_of(alloc, others)?;
     for label in granted {
-        put_line_unless(into, sign, others, &mut near, label.as_slice())?;
+        let is = has_in(others, &table, label.as_slice());
+        put_line_if(into, sign, label.as_slice(), is)?;
     }
     Ok(())
+}
+
+fn put_lines_without(
+    alloc: Global,
+    into: &mut Vec<u8>,
+    sign: &[u8],
+    granted: &[Vec<u8>],
+    others: &[Vec<u8>],
+) -> Result<(), AllocError>
+    ensures { OnOk result (into.new.items ≡ into.old.items
+        ++ lines_without sign.now (texts granted.now) (texts others.now)) }
+{
+    let count = put_first_lines(into, sign, granted, others)?;
+    if count == granted.len() {
+        return Ok(());
+    }
+    put_lines_by_table(alloc, into, sign, labels_from(granted, count), others)
 }
 
 #[tactic(auto, unfolding(crate::specs::Changes::change_lines))]
@@ -89,8 +91,8 @@ fn change_lines(alloc: Global, was: &[Vec<u8>], is: &[Vec<u8>]) -> Result<Vec<u8
     ensures { IfOk result (λ lines. lines.items ≡ change_lines (texts was.now) (texts is.now)) }
 {
     let mut lines = Vec::new(alloc);
-    put_lines_without(&mut lines, b"+ ", is, was)?;
-    put_lines_without(&mut lines, b"- ", was, is)?;
+    put_lines_without(alloc, &mut lines, b"+ ", is, was)?;
+    put_lines_without(alloc, &mut lines, b"- ", was, is)?;
     Ok(lines)
 }
 

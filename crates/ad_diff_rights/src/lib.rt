@@ -38,6 +38,7 @@ mod named;
 mod own;
 mod rights;
 mod same;
+mod sought;
 mod steady;
 mod tokens;
 

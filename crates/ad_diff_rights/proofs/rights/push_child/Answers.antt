@@ -34,8 +34,8 @@ returns c =
     (labels (has_bit c.mask_on-mask.result) c.as_slice-2.result.now c.child_codes.result.now)
     (child_labels c.args.asked.now.dir.now.schema grants c.args.class c.args.child.0)
     (child_is grants c.mask_on-mask.result c.child_codes.result.now c.args.asked.now.dir.now.schema c.args.class
-    c.args.child.0 c.class_info-info.result.now (guids_of c.one.result) c.as_slice-2.result.now there (sym some) c.one.ensures
-    c.mask_on-mask.ensures
+    c.args.child.0 c.class_info-info.result.now (guids_of c.one.result) c.as_slice-2.result.now there (sym some)
+    c.one.ensures c.mask_on-mask.ensures
     (c.as_slice-2.ensures.value ∙ c.in_ok-kind.ensures ∙ ap (label_of (codes "child ")) c.as_slice.ensures)
     c.child_codes.ensures)
     c.push_labels.ensures

@@ -5,7 +5,7 @@ use Rattle.std.specs.Prelude.{◌≡◌, ℕ, true, List, [], Vec}
 use Rattle.std.specs.declared.alloc.Global.{Global}
 use Rattle.ad_diff_rights.specs.Changes.{has_label}
 use Rattle.ad_diff_rights.specs.Steps.{texts}
-use Rattle.ad_diff_rights.proofs.changes.place_of.Goals as goal
+use Rattle.ad_diff_rights.proofs.sought.place_of.Goals as goal
 
 or_right : (a b : Bool) → b ≡ true → a || b ≡ true
 or_right true b is = refl
