@@ -99,8 +99,9 @@ swept_step owner holder self path whole entry others want undecided allowed owne
           let all : Bool = has_bit want bit && granted_by_entries whole holder self owner path bit in
           ap (λ (b : Bool). b || (has_bit undecided' bit && granted_by_entries others holder self owner path bit))
           (allowed_bits bit lt)
-          ∙ ap (λ (b : Bool). (has_bit allowed bit || ((has_bit undecided bit && decides entry holder self owner path bit)
-          && is_allow entry.kind)) || (b && granted_by_entries others holder self owner path bit))
+          ∙ ap (λ (b : Bool). (has_bit allowed bit
+          || ((has_bit undecided bit && decides entry holder self owner path bit) && is_allow entry.kind))
+          || (b && granted_by_entries others holder self owner path bit))
           (undecided_bits bit lt)
           ∙ entry_step (has_bit allowed bit) (has_bit undecided bit) (decides entry holder self owner path bit)
           (is_allow entry.kind) (granted_by_entries others holder self owner path bit) all (swept.by_entries bit lt);

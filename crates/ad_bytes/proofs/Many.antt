@@ -17,7 +17,9 @@ many_takes {A = A} {E = E} Spells read reader zero bytes xs rest fits e =
     subst (λ (p : List A × List ℕ). TakesFront (SpellsMany Spells 0) bytes p.0 p.1) same
     (record { text = []; parts = refl; spelled = (refl, refl) })
 many_takes {A = A} {E = E} Spells read reader (suc n) bytes xs rest fits e =
-    from_bind (read bytes) _ (xs, rest) e (λ (first : A × List ℕ) (e1 : read bytes ≡ Ok first) (e2 : (many_at read n first.1 >>= λ others. Ok (first.0 ∷ others.0, others.1)) ≡ Ok (xs, rest)).
+    from_bind (read bytes) _ (xs, rest) e
+    (λ (first : A × List ℕ) (e1 : read bytes ≡ Ok first)
+    (e2 : (many_at read n first.1 >>= λ others. Ok (first.0 ∷ others.0, others.1)) ≡ Ok (xs, rest)).
     from_bind (many_at read n first.1) _ (xs, rest) e2
     (λ (others : List A × List ℕ) (e3 : many_at read n first.1 ≡ Ok others)
     (e4 : Ok (first.0 ∷ others.0, others.1) ≡ Ok (xs, rest)).

@@ -210,8 +210,8 @@ add_is_sound back w dir token parent class name values sd sound has live within 
         own_name = own_name_of dir (numbered dir o) parent name refl refl free;
         own_sid = λ m other s is theirs own.
             let gets : new_sid dir class ≡ Some s = sym own_is ∙ own in
-            let less : dir.meta.next_rid < dir.meta.next_rid = sound.frame.counters.rid_above m other dir.meta.next_rid s
-            is theirs (new_sid_is dir class s gets) in
+            let less : dir.meta.next_rid < dir.meta.next_rid = sound.frame.counters.rid_above m other
+            dir.meta.next_rid s is theirs (new_sid_is dir class s gets) in
             absurd (omega arith);
       };
       sid = own_is;

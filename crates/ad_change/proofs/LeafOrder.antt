@@ -352,7 +352,8 @@ module _ (dir : Directory) (target : ℕ) (sound : IsSound dir) (below : target 
       (sym (levels_are (depth_of (parents dir)) (filter (goes_with dir target) (numbers dir.objects)) 65)) (record {
         each = each;
         all = all_levels;
-        order = order_from 65 [] (levels (depth_of (parents dir)) (filter (goes_with dir target) (numbers dir.objects)) 65)
+        order = order_from 65 []
+            (levels (depth_of (parents dir)) (filter (goes_with dir target) (numbers dir.objects)) 65)
             (levels_fall (depth_of (parents dir)) (filter (goes_with dir target) (numbers dir.objects)) 65
             (once_filter (goes_with dir target) (numbers dir.objects) (once_numbers 0 dir.objects sound.rise)))
             each (λ n is. refl) (λ n live goes. inr (all_levels n live goes));

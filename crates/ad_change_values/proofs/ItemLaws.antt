@@ -187,7 +187,8 @@ item_done dir held left after item new stored made rise there out is makes put =
 pub record AreDoneTo (dir : Directory) (first : List Held) (items : List ActItem) (i : ℕ) (held : List Held) : Type 0
   where
     pub rise : AttrsRiseFrom 0 held
-    pub checks : first_failing (all_item_checks dir held (drop i items)) ≡ first_failing (all_item_checks dir first items)
+    pub checks : first_failing (all_item_checks dir held (drop i items))
+        ≡ first_failing (all_item_checks dir first items)
     pub after : after_items dir held (drop i items) ≡ after_items dir first items
 
 rise_these : (attr : ℕ) (new : List Stored) (vs : List Held) → AttrsRiseFrom 0 vs

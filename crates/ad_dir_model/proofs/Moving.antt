@@ -37,7 +37,8 @@ stays_deep : (dir : Directory) (o : Object) → IsSound dir → GoesDown dir (go
     → IsAtDepth (parent_at (put o dir.objects)) d n
 stays_deep dir o sound down zero n live stays at = at
 stays_deep dir o sound down (suc d) n live stays at =
-    let parent_live : is_live dir.objects (parents dir n) ≡ true = (below_at dir sound.each n live at.0).parent_live in (
+    let parent_live : is_live dir.objects (parents dir n) ≡ true
+    = (below_at dir sound.each n live at.0).parent_live in (
       at.0,
       rw (parent_elsewhere dir o n (not_itself dir o.number n stays))
           (stays_deep dir o sound down d (parents dir n) parent_live (down.parent_stays n live at.0 stays) at.1),

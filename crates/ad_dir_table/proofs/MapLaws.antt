@@ -62,7 +62,8 @@ pub name_put : (to : Option NameKey) (key : NameKey) (number : ℕ) (old new : L
     → name_at new (key_name key) ≡ Some number → KeepsOthers same_key (is_key (key_name key)) old new
     → Inserts (option_map key_name to) number (name_at old) (name_at new)
 name_put to key number old new is at keeps =
-    subst (λ (t : Option NameKey). Inserts (option_map key_name t) number (name_at old) (name_at new)) (sym is) (record {
+    subst (λ (t : Option NameKey). Inserts (option_map key_name t) number (name_at old) (name_at new)) (sym is)
+    (record {
       here = λ v e. subst (λ (n : ChildName). name_at new n ≡ Some number) (same_Some (key_name key) v e) at;
       others = λ v apart. other_names (key_name key) old new keeps v (λ e. apart (ap Some e));
     })

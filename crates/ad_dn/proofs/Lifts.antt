@@ -208,8 +208,8 @@ kind_lift s u b w e = elim (if_either (is_type_byte b) (Some (with_letter s b))
               parts = ap (λ (t : List ℕ). b ∷ t) g.parts;
             };
           })
-      | inr other ↦ elim (if_either (eqb b 32) (Some (moved KindEnd s)) (if eqb b 61 then Some (moved Equals s) else None)
-          u other.1) [
+      | inr other ↦ elim (if_either (eqb b 32) (Some (moved KindEnd s))
+          (if eqb b 61 then Some (moved Equals s) else None) u other.1) [
             | inl blank ↦
                 subst (Lift Kind s b) (same_Some (moved KindEnd s) u blank.1)
                 (record {
@@ -227,7 +227,8 @@ kind_lift s u b w e = elim (if_either (is_type_byte b) (Some (with_letter s b))
                   to = Equals;
                   is = refl;
                   well = ap (moved Equals) w;
-                  gives = λ all text g. subst (λ (x : ℕ). GivesKind s.rdns s.kind all (x ∷ text)) (sym (eqb-true b 61 p.0))
+                  gives = λ all text g. subst (λ (x : ℕ). GivesKind s.rdns s.kind all (x ∷ text))
+                      (sym (eqb-true b 61 p.0))
                       (kind_end_of s.rdns s.kind all (61 ∷ text) (equals_end s.rdns s.kind all text g));
                 })
           ]

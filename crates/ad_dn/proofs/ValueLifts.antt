@@ -312,8 +312,8 @@ mark_next_lift s u b w e = elim (if_either (is_special b) (byte_step s b)
           record { to = Value; is = p.to_value; well = p.well; gives = p.gives }
       | inr other ↦
           let hex = if_some (is_hex_digit b) (digit_step s b) u other.1 in
-          let p = if_some (may_stand s (16 * value_of b) || may_stand s (16 * value_of b + 15)) (Some (moved (Digit b) s))
-          u hex.1 in
+          let p = if_some (may_stand s (16 * value_of b) || may_stand s (16 * value_of b + 15))
+          (Some (moved (Digit b) s)) u hex.1 in
           let h = w.held in
           subst (Lift Mark s b) (same_Some (moved (Digit b) s) u p.1)
           (record {

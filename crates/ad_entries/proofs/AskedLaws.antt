@@ -1,6 +1,7 @@
 -- The attributes that names lead to, and the flags of those that are asked for.
 use Rattle.std.proofs.Common.{◌≡◌, ℕ, zero, suc, ◌+◌, ◌<◌, Bool, true, false, ◌||◌, List, [], ◌∷◌, ◌++◌, length}
-use Rattle.std.proofs.Common.{map, set, replicate, drop, get_or, Option, Some, None, inl, inr, refl, sym, ap, ◌∙◌, arith}
+use Rattle.std.proofs.Common.{map, set, replicate, drop, get_or, Option, Some, None, inl, inr}
+use Rattle.std.proofs.Common.{refl, sym, ap, ◌∙◌, arith}
 use Rattle.std.specs.Prelude.{nat_eq, ◌==◌, slice_get, codes, position}
 use Rattle.std.specs.Option.{option_map, option_map_or}
 use Rattle.std.specs.List.{list_any}
@@ -41,8 +42,8 @@ pushed_one schema name old id is attr not_there =
     let other : nat_eq attr id.0 ≡ false = (neither (nat_eq attr id.0) false parts.1).0 in (
       parts.0,
       ap (λ (found : Option AttrId). option_map_or (λ (place : ℕ). place == attr)
-          (option_map (λ (i : AttrId). i.0) found) false) is ∙ apart id.0 attr (λ (e : id.0 ≡ attr). differ attr id.0 other
-          (sym e)),
+          (option_map (λ (i : AttrId). i.0) found) false) is
+          ∙ apart id.0 attr (λ (e : id.0 ≡ attr). differ attr id.0 other (sym e)),
     )
   where
     differ : (a b : ℕ) → nat_eq a b ≡ false → a ≡ b → ⊥
@@ -106,7 +107,8 @@ leads_to schema attr info sent distinct is same =
 
 -- and by no other one
 elsewhere : (schema : List SchemaRecord) (attr : ℕ) (info : AttrInfo) (sent : List ℕ) → NamesAreDistinct schema
-    → slice_get (attrs_of schema) attr ≡ Some info → same_name info.name sent ≡ false → is_named schema sent attr ≡ false
+    → slice_get (attrs_of schema) attr ≡ Some info → same_name info.name sent ≡ false
+    → is_named schema sent attr ≡ false
 unfolding attr_named same_name
 elsewhere schema attr info sent distinct is differ = by (attr_place schema sent) refl
   where

@@ -1,7 +1,8 @@
 -- What is judged of one object holds of each that has its descriptor and class, and to whose identifier the holders
 -- answer alike.
 use Rattle.std.proofs.Common.{◌≡◌, ℕ, ◌<◌, ◌≤◌, Bool, true, false, ◌&&◌, ◌||◌, List, [], ◌∷◌, ◌++◌, length}
-use Rattle.std.proofs.Common.{get_or, replicate, ◌⊎◌, Option, Some, None, inl, inr, IfSome, refl, sym, subst, ap, ◌∙◌, arith}
+use Rattle.std.proofs.Common.{get_or, replicate, ◌⊎◌, Option, Some, None, inl, inr, IfSome}
+use Rattle.std.proofs.Common.{refl, sym, subst, ap, ◌∙◌, arith}
 use Rattle.std.specs.Prelude.{not, nat_eq, slice_get, slice_set}
 use Rattle.std.specs.List.{AllByRecursion}
 use Rattle.std.proofs.lemmas.Bool.{cases_lt, eqb-true, eqb-false}
@@ -182,7 +183,8 @@ none_judged truth n place = elim (cases_lt place n) [
   | inl within ↦ subst (λ (v : Option Bool). IfSome v (λ s. s ≡ truth place)) (sym (get_or-replicate n place None None
       within)) tt
   | inr past ↦ subst (λ (v : Option Bool). IfSome v (λ s. s ≡ truth place)) (sym (get_or_past (replicate n None) place
-      None (let long : length (replicate n no_verdict) ≡ n = length-replicate n no_verdict in omega (arith, past, long)))) tt
+      None (let long : length (replicate n no_verdict) ≡ n = length-replicate n no_verdict in
+      omega (arith, past, long)))) tt
 ]
 
 -- ---- what is kept of kinds

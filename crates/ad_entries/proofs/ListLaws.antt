@@ -1,5 +1,6 @@
 -- What is left of a list from a place on, and truth values that are one.
-use Rattle.std.proofs.Common.{◌≡◌, ℕ, zero, suc, ◌+◌, ◌-◌, ◌<◌, Bool, true, false, ◌||◌, List, [], ◌∷◌, length, drop, get_or}
+use Rattle.std.proofs.Common.{◌≡◌, ℕ, zero, suc, ◌+◌, ◌-◌, ◌<◌, Bool, true, false, ◌||◌}
+use Rattle.std.proofs.Common.{List, [], ◌∷◌, length, drop, get_or}
 use Rattle.std.proofs.Common.{refl, sym, subst, ap, ◌∙◌, arith}
 use Rattle.std.specs.Prelude.{◌==◌}
 use Rattle.std.specs.List.{AllByRecursion}
@@ -56,7 +57,8 @@ apart k j not = by_test (k == j) refl
 pub all_by_place : {X : Type 0} → (P : X → Type 0) (xs : List X) → ((i : ℕ) (d : X) → i < length xs
     → P (get_or xs i d)) → AllByRecursion P xs
 all_by_place P [] each = tt
-all_by_place P (x ∷ xs) each = (each 0 x (omega arith), all_by_place P xs (λ i d lt. each (suc i) d (omega (arith, lt))))
+all_by_place P (x ∷ xs) each =
+    (each 0 x (omega arith), all_by_place P xs (λ i d lt. each (suc i) d (omega (arith, lt))))
 
 pub all_get : {X : Type 0} → (P : X → Type 0) (xs : List X) (i : ℕ) (d : X) → AllByRecursion P xs → i < length xs
     → P (get_or xs i d)

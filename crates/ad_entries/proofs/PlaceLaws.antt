@@ -222,8 +222,8 @@ one_attr dir token number search place info is =
 each_attr : (dir : Directory) (token : Token) (number : ℕ) (search : SearchValue) (place : ℕ) (infos : List AttrInfo)
     → ((i : ℕ) (info : AttrInfo) → slice_get infos i ≡ Some info → slice_get (attrs_of dir.schema) (place + i)
     ≡ Some info)
-    → along (told_if dir token number search (λ p. option_to_list (shown_at dir number search.types_only p))) place infos
-    ≡ attrs_given search infos (reads_from dir token number place infos)
+    → along (told_if dir token number search (λ p. option_to_list (shown_at dir number search.types_only p)))
+    place infos ≡ attrs_given search infos (reads_from dir token number place infos)
 unfolding along attrs_given reads_from
 each_attr dir token number search place [] at = refl
 each_attr dir token number search place (info ∷ infos) at =

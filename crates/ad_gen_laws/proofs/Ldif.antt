@@ -58,14 +58,20 @@ domain_text = subst (λ (b : List ℕ). codes "dn: DC=sample\nobjectClass: domai
     ++ (encoded_line (codes "nTSecurityDescriptor") b ++ 10 ∷ []) ≡ text_of (domain_with b)) (sym domain_is)
     domain_bytes_text
 
-holder_bytes_text : codes "dn: CN=System,DC=sample\nobjectClass: container\n\ndn: CN=AdminSDHolder,CN=System,DC=sample\nobjectClass: container\n" ++ (encoded_line (codes "nTSecurityDescriptor") protected_bytes ++ 10 ∷ [])
+-- both, up to the descriptor of the second
+abbrev before_holder : List ℕ
+before_holder =
+    codes "dn: CN=System,DC=sample\nobjectClass: container\n\ndn: CN=AdminSDHolder,CN=System,DC=sample\nobjectClass: container\n"
+
+holder_bytes_text : before_holder ++ (encoded_line (codes "nTSecurityDescriptor") protected_bytes ++ 10 ∷ [])
     ≡ text_of system ++ text_of (holder_with protected_bytes)
 unfolding protected_bytes encoded_line flat rdns_text value_text base64_on_literals
 holder_bytes_text = refl
 
 containers_text : put_containers ≡ text_of system ++ text_of sd_holder
 unfolding put_containers descriptor_line
-containers_text = subst (λ (b : List ℕ). codes "dn: CN=System,DC=sample\nobjectClass: container\n\ndn: CN=AdminSDHolder,CN=System,DC=sample\nobjectClass: container\n" ++ (encoded_line (codes "nTSecurityDescriptor") b ++ 10 ∷ []) ≡ text_of system ++ text_of (holder_with b)) (sym protected_is) holder_bytes_text
+containers_text = subst (λ (b : List ℕ). before_holder ++ (encoded_line (codes "nTSecurityDescriptor") b ++ 10 ∷ [])
+    ≡ text_of system ++ text_of (holder_with b)) (sym protected_is) holder_bytes_text
 
 administrators_text : put_administrators ≡ text_of administrators
 unfolding flat rdns_text value_text base64_on_literals

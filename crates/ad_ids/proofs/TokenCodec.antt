@@ -32,7 +32,9 @@ unfolding marked_lists_at groups_at
 marked_lists_take bytes lists rest fits e =
     from_bind (count_at fault.Groups bytes) _ (lists, rest) e
     (λ (n : ℕ × List ℕ) (e1 : count_at fault.Groups bytes ≡ Ok n) e2.
-    from_bind (many_at marked_at n.0 n.1 >>= λ m. Ok ((enabled_of m.0, deny_only_of m.0), m.1)) _ (lists, rest) e2 (λ (g : (List SidValue × List SidValue) × List ℕ) (e3 : (many_at marked_at n.0 n.1 >>= λ m. Ok ((enabled_of m.0, deny_only_of m.0), m.1)) ≡ Ok g) e4.
+    from_bind (many_at marked_at n.0 n.1 >>= λ m. Ok ((enabled_of m.0, deny_only_of m.0), m.1)) _ (lists, rest) e2
+    (λ (g : (List SidValue × List SidValue) × List ℕ)
+    (e3 : (many_at marked_at n.0 n.1 >>= λ m. Ok ((enabled_of m.0, deny_only_of m.0), m.1)) ≡ Ok g) e4.
     from_bind (many_at marked_at n.0 n.1) _ g e3
     (λ (m : List (Mark × SidValue) × List ℕ) (e5 : many_at marked_at n.0 n.1 ≡ Ok m)
     (e6 : Ok ((enabled_of m.0, deny_only_of m.0), m.1) ≡ Ok g).

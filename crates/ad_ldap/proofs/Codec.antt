@@ -319,7 +319,9 @@ unfolding option_at
 option_takes tag end bytes o rest fits h =
     elim (cases_Bool (begins tag bytes)) [
       | inl here ↦
-          from_bind (body_at tag end bytes) (λ body. Ok (Some body.0, body.1)) (o, rest) (sym (rw here refl) ∙ h) (λ (body : List ℕ × List ℕ) (e1 : body_at tag end bytes ≡ Ok body) (e2 : Ok (Some body.0, body.1) ≡ Ok (o, rest)).
+          from_bind (body_at tag end bytes) (λ body. Ok (Some body.0, body.1)) (o, rest) (sym (rw here refl) ∙ h)
+          (λ (body : List ℕ × List ℕ)
+          (e1 : body_at tag end bytes ≡ Ok body) (e2 : Ok (Some body.0, body.1) ≡ Ok (o, rest)).
           let t = body_takes tag end bytes body.0 body.1 fits e1 in
           subst (λ (p : Option (List ℕ) × List ℕ). TakesFront (SpellsOption tag) bytes p.0 p.1)
           (from_ok {E = LdapFault} (Some body.0, body.1) (o, rest) e2)

@@ -270,7 +270,9 @@ unfolding passed_at
 passed_takes tag end bytes rest u fits h =
     elim (cases_Bool (begins tag bytes)) [
       | inl here ↦
-          from_bind (body_at tag end bytes) (λ body. Ok (tt, body.1)) (u, rest) (sym (rw here refl) ∙ h) (λ (body : List ℕ × List ℕ) (e1 : body_at tag end bytes ≡ Ok body) (e2 : Ok (tt, body.1) ≡ Ok (u, rest)).
+          from_bind (body_at tag end bytes) (λ body. Ok (tt, body.1)) (u, rest) (sym (rw here refl) ∙ h)
+          (λ (body : List ℕ × List ℕ)
+          (e1 : body_at tag end bytes ≡ Ok body) (e2 : Ok (tt, body.1) ≡ Ok (u, rest)).
           let t = ((octets_part tag).reader end).takes bytes body.0 body.1 fits e1 in
           let left : body.1 ≡ rest = ap (λ (p : Unit {0} × List ℕ). p.1)
           (from_ok {E = LdapFault} (tt, body.1) (u, rest) e2) in (
@@ -493,7 +495,11 @@ several : (tag : ℕ) (make : FilterList → FilterValue) → ((fs : FilterList)
     → IsBytes bytes → (inside_at tag (each_of (filter_at n)) end bytes
     >>= made (λ (gs : List FilterValue). make (filters_of gs))) ≡ Ok (f, rest) → FilterTaken n bytes f rest
 several tag make deep so n end bytes f rest part fits h =
-    from_bind (inside_at tag (each_of (filter_at n)) end bytes) (made (λ (gs : List FilterValue). make (filters_of gs))) (f, rest) h (λ (fs : List FilterValue × List ℕ) (e1 : inside_at tag (each_of (filter_at n)) end bytes ≡ Ok fs) (e2 : Ok (make (filters_of fs.0), fs.1) ≡ Ok (f, rest)).
+    from_bind (inside_at tag (each_of (filter_at n)) end bytes) (made (λ (gs : List FilterValue). make (filters_of gs)))
+    (f, rest) h
+    (λ (fs : List FilterValue × List ℕ)
+    (e1 : inside_at tag (each_of (filter_at n)) end bytes ≡ Ok fs)
+    (e2 : Ok (make (filters_of fs.0), fs.1) ≡ Ok (f, rest)).
     let t = ((inside_part tag (SpellsEach (SpellsWithin n)) (each_of (filter_at n))
     (each_whole (SpellsWithin n) (filter_at n) part)).reader end).takes bytes fs.0 fs.1 fits e1 in
     let all = filters_spelled n fs.0 t.spelled.body t.spelled.inside in
@@ -521,7 +527,9 @@ filter_of_takes kind.And n end bytes f rest part fits h = several 160 And (λ fs
 filter_of_takes kind.Or n end bytes f rest part fits h = several 161 Or (λ fs. refl) (λ fs text s. s) n end bytes f
     rest part fits h
 filter_of_takes kind.Not n end bytes f rest part fits h =
-    from_bind (inside_at 162 (alone_of (filter_at n)) end bytes) (made Not) (f, rest) h (λ (x : FilterValue × List ℕ) (e1 : inside_at 162 (alone_of (filter_at n)) end bytes ≡ Ok x) (e2 : Ok (Not x.0, x.1) ≡ Ok (f, rest)).
+    from_bind (inside_at 162 (alone_of (filter_at n)) end bytes) (made Not) (f, rest) h
+    (λ (x : FilterValue × List ℕ)
+    (e1 : inside_at 162 (alone_of (filter_at n)) end bytes ≡ Ok x) (e2 : Ok (Not x.0, x.1) ≡ Ok (f, rest)).
     let t = ((inside_part 162 (SpellsWithin n) (alone_of (filter_at n)) (alone_whole n part)).reader end).takes bytes
     x.0 x.1 fits e1 in
     let low : depth x.0 ≤ n = t.spelled.inside.0 in

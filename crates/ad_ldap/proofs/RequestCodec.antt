@@ -407,7 +407,9 @@ add_takes : (end : ℕ) (bytes : List ℕ) (x : Add) → IsBytes bytes → add_o
 unfolding add_of
 add_takes end bytes x fits h =
     from_bind (body_at 4 end bytes) _ x h (λ (dn : List ℕ × List ℕ) (e1 : body_at 4 end bytes ≡ Ok dn) h1.
-    from_bind (inside_at 48 (each_of (inside_at 48 new_of)) end dn.1) _ x h1 (λ (attrs : List (List ℕ × List (List ℕ)) × List ℕ) (e2 : inside_at 48 (each_of (inside_at 48 new_of)) end dn.1 ≡ Ok attrs) h2.
+    from_bind (inside_at 48 (each_of (inside_at 48 new_of)) end dn.1) _ x h1
+    (λ (attrs : List (List ℕ × List (List ℕ)) × List ℕ)
+    (e2 : inside_at 48 (each_of (inside_at 48 new_of)) end dn.1 ≡ Ok attrs) h2.
     from_need (eqb (length attrs.1) 0) (form end attrs.1) _ x h2
     (λ (over : eqb (length attrs.1) 0 ≡ true) (e3 : Ok (record { dn = dn.0; attrs = attrs.0 }) ≡ Ok x).
     let value : Add = record { dn = dn.0; attrs = attrs.0 } in

@@ -162,7 +162,8 @@ follow dir now tokens lists n id [] messages known stands given framed out =
 follow dir now tokens lists n id (line ∷ lines) messages known stands given framed out
     = elim (cases_Bool (says_nothing line)) [
       | inl nothing ↦
-          (let rest = follow dir now tokens lists (suc n) id lines messages known stands (rw nothing at given) framed out in
+          (let rest = follow dir now tokens lists (suc n) id lines messages known stands (rw nothing at given) framed
+          out in
           record { stands = rw nothing rest.stands; unnamed = λ k none. rest.unnamed k (rw nothing at none) })
       | inr something ↦
           from_bind (fault_as (at_line n) (message_by dir lists id line)) _ messages (rw something at given)

@@ -72,7 +72,9 @@ pub text_takes : (bytes x rest : List ℕ) → IsBytes bytes → text_at bytes �
     x rest
 unfolding text_at
 text_takes bytes x rest fits e =
-    from_bind (or_fault Bad (be_at 8 bytes)) _ (x, rest) e (λ (size : ℕ × List ℕ) (e1 : or_fault Bad (be_at 8 bytes) ≡ Ok size) (e2 : or_fault Bad (part_at size.0 size.1) ≡ Ok (x, rest)).
+    from_bind (or_fault Bad (be_at 8 bytes)) _ (x, rest) e
+    (λ (size : ℕ × List ℕ)
+    (e1 : or_fault Bad (be_at 8 bytes) ≡ Ok size) (e2 : or_fault Bad (part_at size.0 size.1) ≡ Ok (x, rest)).
     let t1 : TakesFront (SpellsBe 8) bytes size.0 size.1 = number_takes 8 bytes size fits e1 in
     let t2 : TakesFront (SpellsPart size.0) size.1 x rest = (part_reader size.0).takes size.1 x rest
     (rest_fits (SpellsBe 8) bytes size.0 size.1 fits t1) (from_or_fault Bad (part_at size.0 size.1) (x, rest) e2)
@@ -130,7 +132,9 @@ module _ {A : Type 0} (Spells : A → List ℕ → Type 0) (read : List ℕ → 
   list_takes : (bytes : List ℕ) (xs : List A) (rest : List ℕ) → IsBytes bytes → list_at read bytes ≡ Ok (xs, rest)
       → TakesFront (SpellsList Spells) bytes xs rest
   list_takes bytes xs rest fits e =
-      from_bind (or_fault Bad (be_at 8 bytes)) _ (xs, rest) e (λ (count : ℕ × List ℕ) (e1 : or_fault Bad (be_at 8 bytes) ≡ Ok count) (e2 : many_at read count.0 count.1 ≡ Ok (xs, rest)).
+      from_bind (or_fault Bad (be_at 8 bytes)) _ (xs, rest) e
+      (λ (count : ℕ × List ℕ)
+      (e1 : or_fault Bad (be_at 8 bytes) ≡ Ok count) (e2 : many_at read count.0 count.1 ≡ Ok (xs, rest)).
       taken_as (λ (ys : List A) (t : List ℕ). (length ys ≡ count.0) × SpellsList Spells ys t) (SpellsList Spells)
       bytes xs xs rest fits (λ text _ s. s.1) (counted_takes bytes count xs rest fits e1 e2))
 
@@ -300,7 +304,10 @@ module _ (schema : Option (List SchemaRecord)) (attr : ℕ) where
       ≡ Ok (stored, rest) → TakesFront (KeptStored schema attr) bytes stored rest
   unfolding stored_at
   stored_takes bytes stored rest fits e =
-      from_bind (text_at bytes) _ (stored, rest) e (λ (shown : List ℕ × List ℕ) (e1 : text_at bytes ≡ Ok shown) (e2 : (any_stored_of schema attr shown.0 >>= λ s. Ok (s, shown.1)) ≡ Ok (stored, rest)).
+      from_bind (text_at bytes) _ (stored, rest) e
+      (λ (shown : List ℕ × List ℕ)
+      (e1 : text_at bytes ≡ Ok shown)
+      (e2 : (any_stored_of schema attr shown.0 >>= λ s. Ok (s, shown.1)) ≡ Ok (stored, rest)).
       from_bind (any_stored_of schema attr shown.0) _ (stored, rest) e2
       (λ (s : Stored) (e3 : any_stored_of schema attr shown.0 ≡ Ok s) (e4 : Ok (s, shown.1) ≡ Ok (stored, rest)).
       subst (λ (p : Stored × List ℕ). TakesFront (KeptStored schema attr) bytes p.0 p.1)
@@ -361,7 +368,10 @@ module _ (schema : Option (List SchemaRecord)) where
       bytes xs rest
   unfolding values_at
   values_takes attr bytes xs rest fits e =
-      from_bind (or_fault Bad (be_at 8 bytes)) _ (xs, rest) e (λ (count : ℕ × List ℕ) (e1 : or_fault Bad (be_at 8 bytes) ≡ Ok count) (e2 : (if count.0 == 0 then Err Bad else many_at (stored_at schema attr) count.0 count.1) ≡ Ok (xs, rest)).
+      from_bind (or_fault Bad (be_at 8 bytes)) _ (xs, rest) e
+      (λ (count : ℕ × List ℕ)
+      (e1 : or_fault Bad (be_at 8 bytes) ≡ Ok count)
+      (e2 : (if count.0 == 0 then Err Bad else many_at (stored_at schema attr) count.0 count.1) ≡ Ok (xs, rest)).
       from_if (count.0 == 0) Bad (many_at (stored_at schema attr) count.0 count.1) (xs, rest) e2 (λ some e3.
       let more : 0 < count.0 = not_none count.0 some in
       taken_as (λ (ys : List Stored) (t : List ℕ). (length ys ≡ count.0) × SpellsList (KeptStored schema attr) ys t)
@@ -431,7 +441,9 @@ module _ (schema : Option (List SchemaRecord)) where
       bytes values.0 values.1
   unfolding attributes_at helds_at
   attributes_takes bytes values fits e =
-      from_bind (list_at (held_at schema) bytes) _ values e (λ (all : List Held × List ℕ) (e1 : list_at (held_at schema) bytes ≡ Ok all) (e2 : (need (attrs_rise 0 all.0) Bad >>= λ _. Ok all) ≡ Ok values).
+      from_bind (list_at (held_at schema) bytes) _ values e
+      (λ (all : List Held × List ℕ)
+      (e1 : list_at (held_at schema) bytes ≡ Ok all) (e2 : (need (attrs_rise 0 all.0) Bad >>= λ _. Ok all) ≡ Ok values).
       from_need (attrs_rise 0 all.0) Bad (λ _. Ok all) values e2 (λ rise e3.
       subst (λ (p : List Held × List ℕ). TakesFront (λ (hs : List Held) (t : List ℕ). (attrs_rise 0 hs ≡ true)
       × SpellsList (KeptHeld schema) hs t) bytes p.0 p.1) (from_ok {E = BodyFault} all values e3)

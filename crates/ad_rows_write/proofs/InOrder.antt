@@ -121,8 +121,8 @@ off_kind kind Spells (pair ∷ pairs) (row ∷ rows) k n before other are =
 abbrev pub ShowsAfter : {A : Type 0} → (A → List ℕ → Type 0) → Option A → Option (List ℕ) → Option (List ℕ) → Type 0
 ShowsAfter Spells found before after = MatchOption found (after ≡ before) (λ x. HasBody (Spells x) after)
 
-pub at_pairs : {A : Type 0} (kind : ℕ) (Spells : A → List ℕ → Type 0) (least : ℕ) (pairs : List (ℕ × A)) (rows : List Row)
-    (n : ℕ) (before : Option (List ℕ)) → RiseFrom least pairs → AreRowsAt kind Spells pairs rows
+pub at_pairs : {A : Type 0} (kind : ℕ) (Spells : A → List ℕ → Type 0) (least : ℕ) (pairs : List (ℕ × A))
+    (rows : List Row) (n : ℕ) (before : Option (List ℕ)) → RiseFrom least pairs → AreRowsAt kind Spells pairs rows
     → ShowsAfter Spells (value_at n pairs) before (after_rows rows kind n before)
 at_pairs kind Spells least [] rows n before rise are = ap (λ (l : List Row). after_rows l kind n before) are
 at_pairs kind Spells least (pair ∷ pairs) [] n before rise are = absurd are
@@ -175,7 +175,8 @@ none_live : (found : Option Object) → is_some found ≡ false → found ≡ No
 none_live None e = refl
 none_live (Some o) e = absurd cc
 
-pub object_there : (objects : List Object) (n : ℕ) → value_at n (objects_at objects (numbers objects)) ≡ object_of objects n
+pub object_there : (objects : List Object) (n : ℕ)
+    → value_at n (objects_at objects (numbers objects)) ≡ object_of objects n
 object_there objects n = live_at (object_at objects) objects n ∙ by (is_live objects n) refl
   where
     by : (b : Bool) → is_live objects n ≡ b → (if is_live objects n then Some (object_at objects n) else None)

@@ -42,7 +42,8 @@ each_push Spells (first ∷ xs) x text more each one = record {
 }
 
 each_more : {A : Type 0} (Spells : A → List ℕ → Type 0) (xs : List A) (x : A) (old mid new : List ℕ)
-    → Appends (SpellsEach Spells xs) old mid → Appends (Spells x) mid new → Appends (SpellsEach Spells (xs ++ x ∷ [])) old new
+    → Appends (SpellsEach Spells xs) old mid → Appends (Spells x) mid new
+    → Appends (SpellsEach Spells (xs ++ x ∷ [])) old new
 each_more Spells xs x old mid new so_far one = (
   so_far.0 ++ one.0,
   each_push Spells xs x so_far.0 one.0 so_far.1 one.1,

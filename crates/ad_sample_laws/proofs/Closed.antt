@@ -56,7 +56,8 @@ nothing_more dir pending sound none = record {
       ((inherits_of dir sound.each).each m x is not_root);
 }
 
-pub pended_sound : (dir : Directory) → IsSound dir → dir.pending ≡ [] → IsSound (with_pending (from_the_start root ∷ []) dir)
+pub pended_sound : (dir : Directory) → IsSound dir → dir.pending ≡ []
+    → IsSound (with_pending (from_the_start root ∷ []) dir)
 pended_sound dir sound none = pended dir (from_the_start root ∷ []) sound (nothing_more dir _ sound none)
     (sound.frame.root_live, tt) (refl, tt)
 

@@ -153,7 +153,9 @@ pub list_there : (bytes : List ℕ) → begins_list bytes ≡ true → Listed by
 unfolding begins_list listed entries_exactly_at
 list_there bytes begins =
     let x = was_given (entries_exactly_at bytes) begins in
-    from_bind (or_fault not_normal (be_at 8 bytes)) _ x.0 x.1 (λ (n : ℕ × List ℕ) (e1 : or_fault not_normal (be_at 8 bytes) ≡ Ok n) (e2 : many_at entry_exactly_at n.0 n.1 ≡ Ok x.0).
+    from_bind (or_fault not_normal (be_at 8 bytes)) _ x.0 x.1
+    (λ (n : ℕ × List ℕ)
+    (e1 : or_fault not_normal (be_at 8 bytes) ≡ Ok n) (e2 : many_at entry_exactly_at n.0 n.1 ≡ Ok x.0).
     let count = eight_bytes bytes n.0 n.1 (from_or_fault not_normal (be_at 8 bytes) n e1) in
     let loose : many_at entry_at n.0 n.1 ≡ Ok (x.0.0, x.0.1) = loosely n.0 n.1 x.0.0 x.0.1 e2 in
     let value : x.0.0 ≡ given (entries_exactly_at bytes) = sym (ap given x.1) in

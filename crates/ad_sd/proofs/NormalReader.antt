@@ -53,7 +53,9 @@ entries_takes : (bytes : List ℕ) (v : List Entry) (rest : List ℕ) → IsByte
     ≡ Ok (v, rest) → TakesFront SpellsEntries bytes v rest
 unfolding entries_exactly_at entries_bytes
 entries_takes bytes v rest fits e =
-    from_bind (or_fault not_normal (be_at 8 bytes)) _ (v, rest) e (λ (n : ℕ × List ℕ) (e1 : or_fault not_normal (be_at 8 bytes) ≡ Ok n) (e2 : many_at entry_exactly_at n.0 n.1 ≡ Ok (v, rest)).
+    from_bind (or_fault not_normal (be_at 8 bytes)) _ (v, rest) e
+    (λ (n : ℕ × List ℕ)
+    (e1 : or_fault not_normal (be_at 8 bytes) ≡ Ok n) (e2 : many_at entry_exactly_at n.0 n.1 ≡ Ok (v, rest)).
     let t : TakesFront (SpellsBe 8) bytes n.0 n.1 = (be_reader 8).takes bytes n.0 n.1 fits
     (from_or_fault not_normal (be_at 8 bytes) n e1) in
     let u : TakesFront (SpellsMany SpellsExactly n.0) n.1 v rest

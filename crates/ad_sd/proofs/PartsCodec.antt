@@ -245,7 +245,9 @@ list_takes part name protected offset bytes P o fits pos e k =
     from_bind (from_offset part offset bytes) _ o e
     (λ (front : List ℕ) (e2 : from_offset part offset bytes ≡ Ok front) e3.
     let at = offset_takes part offset bytes front e2 in
-    from_bind (fault_as name (list_at front)) _ o e3 (λ (list : List Entry × List ℕ) (e4 : fault_as name (list_at front) ≡ Ok list) (e5 : Ok (Some (ace_list protected list.0)) ≡ Ok o).
+    from_bind (fault_as name (list_at front)) _ o e3
+    (λ (list : List Entry × List ℕ)
+    (e4 : fault_as name (list_at front) ≡ Ok list) (e5 : Ok (Some (ace_list protected list.0)) ≡ Ok o).
     let read : list_at (drop offset bytes) ≡ Ok (list.0, list.1) = ap list_at at.1
     ∙ from_fault_as name (list_at front) list e4 in
     subst P (from_ok {E = SdFault} (Some (ace_list protected list.0)) o e5)

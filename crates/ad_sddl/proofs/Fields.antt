@@ -298,7 +298,9 @@ unfolding present_guid_at
 present_takes bytes v rest e =
     from_bind (or_stop kind.Guid bytes (guid_of_text (take 36 bytes))) _ (v, rest) e
     (λ (g : Guid) (e1 : or_stop kind.Guid bytes (guid_of_text (take 36 bytes)) ≡ Ok g) e2.
-    from_bind (end_at 59 (drop 36 bytes)) _ (v, rest) e2 (λ (end : Unit {0} × List ℕ) (e3 : end_at 59 (drop 36 bytes) ≡ Ok end) (e4 : Ok (Some g, end.1) ≡ Ok (v, rest)).
+    from_bind (end_at 59 (drop 36 bytes)) _ (v, rest) e2
+    (λ (end : Unit {0} × List ℕ)
+    (e3 : end_at 59 (drop 36 bytes) ≡ Ok end) (e4 : Ok (Some g, end.1) ≡ Ok (v, rest)).
     let same : (Some g, end.1) ≡ (v, rest) = from_ok {E = Stop} (Some g, end.1) (v, rest) e4 in
     subst (λ (p : Option Guid × List ℕ). TakesField 59 (SpellsGuidIf true) bytes p.0 p.1) same
     (record {

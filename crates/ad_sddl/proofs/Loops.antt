@@ -22,7 +22,8 @@ unfolding list_flags_at
 flags_more zero protected is_p next bytes after most total within is le shorter read so_far
     = absurd (omega (arith, le, shorter))
 flags_more (suc n) protected is_p next bytes after most total within is le shorter read so_far =
-    let one : list_flags_at (suc n) protected bytes ≡ list_flags_at n (protected || is_p) after = rw (sym read) refl in (
+    let one : list_flags_at (suc n) protected bytes ≡ list_flags_at n (protected || is_p) after
+    = rw (sym read) refl in (
       n,
       (
         omega (arith, le, shorter),

@@ -73,7 +73,8 @@ fn push_rights(text: &mut String, mask: u32) -> Result<(), AllocError>
     push_hex(text, 8, mask)
 }
 
-/// The rights of a mask as a text of a descriptor has them: as codes where these have all its bits, else in hexadecimal.
+/// The rights of a mask as a text of a descriptor has them: as codes where these have all its bits, else in
+/// hexadecimal.
 ///
 /// # Errors
 ///

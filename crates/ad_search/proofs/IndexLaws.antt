@@ -256,7 +256,8 @@ one_more dir f above next false left after is live never made so_far = subst (Is
           | inl less ↦ is.none m live_m more less
           | inr no_less ↦
               let same : next ≡ m = omega (arith, le, no_less) in
-              subst (IsNever dir f) same (never refl (subst (λ (n : ℕ). is_live dir.objects n ≡ true) (sym same) live_m))
+              subst (IsNever dir f) same
+              (never refl (subst (λ (n : ℕ). is_live dir.objects n ≡ true) (sym same) live_m))
         ]
         | inr no_more ↦ so_far.none m live_m no_more out
       ];

@@ -1,6 +1,7 @@
 -- What a filter needs, from what its items need.
 use Rattle.std.proofs.Common.{◌≡◌, ◌↔◌, ◌⊎◌, ℕ, ◌+◌, ◌<◌, ◌≤◌, Bool, true, false, List, [], ◌∷◌, ◌++◌, map, length}
-use Rattle.std.proofs.Common.{get_or, drop, Option, Some, None, Result, Ok, Err, Vec, Global, inl, inr, refl, sym, subst}
+use Rattle.std.proofs.Common.{get_or, drop, Option, Some, None, Result, Ok, Err, Vec, Global}
+use Rattle.std.proofs.Common.{inl, inr, refl, sym, subst}
 use Rattle.std.proofs.Common.{ap, ◌∙◌, arith}
 use Rattle.std.specs.Prelude.{slice_get, not, if◌then◌else◌, option_to_list, IfSome}
 use Rattle.std.specs.List.{AllByRecursion}

@@ -39,7 +39,8 @@ shown_next dir leaf sought above result is next = record {
 
 pub next_any : (dir : Directory) (need : Need) (needs : Vec Need Global) (items : List Need) (above : ℕ)
     (result : Option ℕ) → need ≡ AnyOf needs → items ≡ needs.items
-    → IsNextOf dir (λ (n : ℕ). HasMet dir n items) above result → IsNextOf dir (λ (n : ℕ). IsMet dir n need) above result
+    → IsNextOf dir (λ (n : ℕ). HasMet dir n items) above result
+    → IsNextOf dir (λ (n : ℕ). IsMet dir n need) above result
 next_any dir need needs items above result is same next = record {
   is_above = next.is_above;
   none = λ n live more before met. next.none n live more before
@@ -48,7 +49,8 @@ next_any dir need needs items above result is same next = record {
 
 pub next_all : (dir : Directory) (need : Need) (needs : Vec Need Global) (items : List Need) (above : ℕ)
     (result : Option ℕ) → need ≡ AllOf needs → items ≡ needs.items
-    → IsNextOf dir (λ (n : ℕ). AreMet dir n items) above result → IsNextOf dir (λ (n : ℕ). IsMet dir n need) above result
+    → IsNextOf dir (λ (n : ℕ). AreMet dir n items) above result
+    → IsNextOf dir (λ (n : ℕ). IsMet dir n need) above result
 next_all dir need needs items above result is same next = record {
   is_above = next.is_above;
   none = λ n live more before met. next.none n live more before

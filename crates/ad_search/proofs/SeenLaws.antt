@@ -109,7 +109,8 @@ pub one_found : (dir : Directory) (token : Token) (rdns : List Rdn) (n : ℕ) (n
 one_found dir token rdns n [] live has is only = absurd (both_ways false refl has)
 one_found dir token rdns n (m ∷ ms) live has is only
     = elim (cases_Bool (is_visible dir token m && is_named rdns (seen_of dir token m))) [
-      | inl named ↦ named_here dir token rdns m ms named ∙ ap (λ (k : ℕ). Some (seen_of dir token k)) (only m live.0 named)
+      | inl named ↦ named_here dir token rdns m ms named
+          ∙ ap (λ (k : ℕ). Some (seen_of dir token k)) (only m live.0 named)
       | inr not_so ↦
           let other : (m == n) ≡ false = ne_eqb m n
           (λ e. both_ways (is_visible dir token m && is_named rdns (seen_of dir token m)) not_so

@@ -128,9 +128,10 @@ fn tell_forms(rt: &HostRuntime, first: &str) -> io::Result<()> {
         let word = Shown { text: first };
         eprint!(rt; "adsd: there is no command {word}")?;
     }
-    eprintln!(rt;
-        "; the commands: access, sddl, change, and of a STORE load, serve, settle, check, audit, grants, list, effective, token, who, can, diff, sample"
-    )
+    eprint!(rt;
+        "; the commands: access, sddl, change, and of a STORE load, serve, settle, check, audit, "
+    )?;
+    eprintln!(rt; "grants, list, effective, token, who, can, diff, sample")
 }
 
 /// Tells that a word is no text.

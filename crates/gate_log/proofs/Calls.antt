@@ -184,7 +184,8 @@ module _ {S : Type 0} (s : Ghosts S) where
 
   -- the site failed
   pub failed_rewrite : {T : Type 0} {after : Log} (x y : S) (log : Log) (made body : List ℕ) → made ≡ body
-      → log.spent ≡ false → after.spent ≡ true → IfSome (s.reads x) (λ held. (bodies : List (List ℕ)) → RestsIn log held bodies
+      → log.spent ≡ false → after.spent ≡ true
+      → IfSome (s.reads x) (λ held. (bodies : List (List ℕ)) → RestsIn log held bodies
       → Leaves (s.now x) (s.now y) (s.left x) (s.left y) (λ images. Began (s.now x) (s.left x) images
       ⊎ OldOrWhole bodies made images)) → (after.first ≡ log.first) × (after.behind ≡ log.behind)
       → TouchesSlots s x y → HasRisen (s.slot_faults x) (s.slot_faults y)

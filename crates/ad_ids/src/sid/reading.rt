@@ -1,6 +1,7 @@
 //! Reading the text of an identifier, a byte a step.
 
-ghost use Rattle.std.specs.Prelude.{◌≡◌, ◌<◌, ◌≤◌, ◌^◌, ◌++◌, [], ◌∷◌, length, take, if◌then◌else◌, IfOk, IfErr, IfSome, OnSome, Some, None};
+ghost use Rattle.std.specs.Prelude.{◌≡◌, ◌<◌, ◌≤◌, ◌^◌, ◌++◌, [], ◌∷◌, length, take, if◌then◌else◌};
+ghost use Rattle.std.specs.Prelude.{IfOk, IfErr, IfSome, OnSome, Some, None};
 ghost use Rattle.std.specs.Prelude.{◌-◌};
 ghost use Rattle.ad_ids.specs.SidSteps.{is_digit, state, more_digits, with_number, hex_step, decimal_step};
 ghost use Rattle.ad_ids.specs.SidSteps.{number_step, step, from_there, start, finished, Stops};

@@ -10,7 +10,8 @@ returns-clause-judged c =
     let dir = c.args.asking.now.dir.now in
     let token = c.args.asking.now.token.now in record {
       live = c.requires.sample;
-      knows = λ m of_m. subst (AreTrue (is_readable_at dir token m)) (sym (c.in_ok-verdicts.ensures.items_if_clones_equal
+      knows = λ m of_m. subst (AreTrue (is_readable_at dir token m))
+          (sym (c.in_ok-verdicts.ensures.items_if_clones_equal
           (λ y same. elim (cases_verdict y) [
             | inl none ↦ none
             | inr some ↦ absurd (rw some.1 at same)

@@ -15,7 +15,8 @@ each-preserved c =
           (map (λ (held : Held). held.attr) (map held_seen c.args.values.now)) c.each.held-index
           (held_seen c.held-item.result).attr c.args.places.now.items c.each.places.items c.push_given.new.places.items
           (mapped_front (λ (held : Held). held.attr) c.each.held-index (held_seen c.held-item.result)
-          (map held_seen c.args.values.now) (mapped_front held_seen c.each.held-index c.held-item.result c.args.values.now
+          (map held_seen c.args.values.now)
+          (mapped_front held_seen c.each.held-index c.held-item.result c.args.values.now
           (from_here c.args.values.now c.each.held-index c.held-item.result c.each-test.true c.held-item.is)))
           c.each.invariant.0 c.in_ok-push_given.ensures.places,
       c.push_given.ensures.one,

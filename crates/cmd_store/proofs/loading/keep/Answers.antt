@@ -14,7 +14,8 @@ pub returns-in-Ok-create_store : goal.returns-in-Ok-create_store
 returns-in-Ok-create_store g c = record {
   keeps = kept_said g.S.Site (record { output = g.met.S.Site.left_output; until = g.met.S.Site.left_until })
       c.args.dir c.args.site.now c.create_store.new.site c.say.new.site c.say.result
-      c.in-Ok-create_store.ensures.creating.outside c.in-Ok-create_store.ensures.held c.in-Ok-create_store.ensures.every_crash
+      c.in-Ok-create_store.ensures.creating.outside c.in-Ok-create_store.ensures.held
+      c.in-Ok-create_store.ensures.every_crash
       (subst (λ (text : List ℕ). Says g.S.Site c.create_store.new.site c.say.new.site text Done c.say.result)
       (c.deref.ensures.value ∙ c.in-Ok.ensures) c.say.ensures);
 }
