@@ -102,6 +102,7 @@ def away(world):
     one, other, wrong = a.client(), b.client(), []
     wrong += same(other.ask(WRITE + "before"), DONE)
     wrong += same(other.ask(READ), shown("before"))
+    world.wait("a has it too", lambda: one.ask(READ) == shown("before"))
     for member in world.members:
         member.cut()
     time.sleep(0.2)
