@@ -23,9 +23,10 @@ MULTIPLIER = struct.pack("<Q", 0x9E3779B97F4A7C15)
 class Call:
     """What is counted, over a store of a text, whose slots may be changed before; and what is taken off."""
 
-    def __init__(self, text, given, answer, words=SERVE, status=0, changed=None, bare=None):
+    def __init__(self, text, given, answer, words=SERVE, status=0, changed=None, bare=None, beside=None):
         self.text, self.given, self.answer = text, given, answer
-        self.words, self.status, self.changed = words, status, changed
+        # (the store T is loaded of what is beside)
+        self.words, self.status, self.changed, self.beside = words, status, changed, beside
         bare = {"text": text, "given": b"", "words": words, **(bare or {})}
         self.bare_text, self.bare_given, self.bare_words = bare["text"], bare["given"], bare["words"]
 
@@ -302,6 +303,31 @@ def sddl(count):
     """The text of a descriptor with so many entries."""
     text = "D:" + "".join(f"(OA;CI;RPWP;{'b0000000-0000-4000-8000'}-{number:012x};;AU)" for number in range(count))
     return Call(None, text.encode(), lambda said: said.count(b"\n") > 0, ("sddl",), bare={"given": b"D:"})
+
+
+def compares(text, beside, count):
+    """What everyone who may do anything on an object gains and loses there, which is more than so much."""
+    itself = {"words": ("diff", "S", "S")}
+    return Call(text, b"", lambda said: said.count(b"\n+ ") > count, ("diff", "S", "T"), bare=itself, beside=beside)
+
+
+def listed(text, mask):
+    """The text, whose list of one user grants everyone this."""
+    return text.replace(f"dn: {BOB}\n", f"dn: {BOB}\n{descriptor([make.entry(0, mask, make.USERS)])}", 1)
+
+
+@case("diff-gained", 400, 200)
+def diff_gained(count):
+    """A comparison where everyone may write so many attributes more of one object."""
+    text, _ = with_schema(count)
+    return compares(listed(text, 0x10), listed(text, 0x30), count)
+
+
+@case("diff-order", 400, 200)
+def diff_order(count):
+    """A comparison where two schemas have so many attributes in opposite orders, all of which everyone may read."""
+    text, _ = with_schema(count)
+    return compares(listed(text, 0x10), listed(with_schema(count, turned=True)[0], 0x10010), 1)
 
 
 def changes(text, bare="dn: CN=x\nchangetype: delete\n"):

@@ -118,10 +118,10 @@ def guid(kind, number):
     return base64.b64encode(struct.pack("<IHH", kind, 0, 0x4000) + struct.pack(">Q", number)).decode()
 
 
-def with_schema(count):
-    """BASE, whose users may have so many attributes more."""
+def with_schema(count, turned=False):
+    """BASE, whose users may have so many attributes more; they may stand in the opposite order."""
     made, names = BASE, [f"extra{number}" for number in range(count)]
-    for number, name in enumerate(names):
+    for number, name in sorted(enumerate(names), reverse=turned):
         made += (f"\ndn: CN={name}\nobjectClass: attributeSchema\nlDAPDisplayName: {name}\nattributeSyntax: 2.5.5.12\n"
                  f"schemaIDGUID:: {guid(0xB0000000, number)}\n")
     may = "".join(f"mayContain: {name}\n" for name in names)
