@@ -11,7 +11,8 @@ import time
 import ldap_store
 from ldap_client import PROGRAM, TOP
 from adsd_ask import ber
-from replica_checks import differences
+from adsd_ldap.program import STEPS
+from replica_checks import all_entries, differences
 from replica_faults import begun, ended
 from replica_world import MANY, ROOT, World, is_apart
 
@@ -33,9 +34,9 @@ def shown(value):
 
 
 def resting(world):
-    """The log's head, once nothing is put any more: the keeper's steps come a little later than what they are for."""
+    """The log's head, once the keeper has put steps for the last change, and nothing is put any more."""
     head = None
-    while head != world.log().head():
+    while head != world.log().head() or all_entries(world)[-1].frames[-1][0] != STEPS:
         head = world.log().head()
         time.sleep(2)
     return head
