@@ -35,11 +35,14 @@ def shown(value):
 
 def resting(world):
     """The log's head, once the keeper has put steps for the last change, and nothing is put any more."""
-    head = None
-    while head != world.log().head() or all_entries(world)[-1].frames[-1][0] != STEPS:
+
+    def rests():
         head = world.log().head()
         time.sleep(2)
-    return head
+        is_done = head == world.log().head() and all_entries(world)[-1].frames[-1][0] == STEPS
+        return head if is_done else None
+
+    return world.wait("the log rests", rests)
 
 
 def commands(world):
