@@ -1,7 +1,7 @@
 """Builds the wheel of this package: by `pip install python/`, without a network and without any other package.
 
-The shared library is linked by tools/library of the tree that this folder stands in, so a C compiler is needed, and the
-library that is built there or is in the release; or ADSD_LIBRARY names a shared library that is taken as it is.
+The shared library is the one that tools/library of the tree that this folder stands in gives: that of the release, or
+of the library that is built there; or ADSD_LIBRARY names a shared library that is taken as it is.
 """
 
 import base64

@@ -3,19 +3,17 @@
 # The program that is proved and built here, and the one that is run.
 built=$here/crates/adsd/out/adsd
 program=$built
-# What is kept of the last build: the toolchain's version, and what its files looked like. As old as the build's beginning, so
-# that what was changed during the build is newer.
+# What is kept of the last build: the toolchain's version; what its files looked like; the marks of the program, as
+# `marks_of` tells them; and its sum and that of its sources. As old as the build's beginning, so that what was changed
+# during the build is newer.
 stamp=$here/out/adsd.built
 # How many seconds the last build by tools/build took.
 took=$here/out/adsd.took
 # The release: the program for this system, its sum, and what it was made of. tools/release writes it.
 release=$here/release/x86_64-linux
-# When the release was last found to be good, on which machine, and of which folders it was made.
+# When the release was last found to be good, on which machine, of which folders it was made, and the marks of the
+# program.
 release_seen=$here/out/adsd.release
-
-# The library for C that is proved and built here, and the header that tells its calls.
-library_built=$here/crates/adsd_c/out/libadsd_c.a
-header=$here/include/adsd.h
 
 # The crates that the program is made of, lowest first, itself last. With them is the library for C, which but for its
 # own crate is made of the same.
@@ -59,50 +57,69 @@ sum_of_sources() {
 
 sum_of_input() { sha256sum | cut -d ' ' -f 1; }
 
+# What tells a file from any other: its inode, its length, and when it was last changed (ctime), to the nanosecond. The
+# system alone sets that time, and nobody knows beforehand when an archive will be unpacked or a tree copied: so a note
+# with these marks was made here, of this very file, and didn't come with the tree.
+marks_of() { stat -c '%i %s %.9Z' "$1" 2>/dev/null; }
+
 # What tells one toolchain from another without asking it: the file rt, and the folders that it stands in.
 toolchain_files() {
     local rt
     rt=$(command -v rt) && rt=$(readlink -f "$rt") && stat -c '%n %Y %s' "$rt" "${rt%/*}" "${rt%/*/*}" | paste -sd ' '
 }
 
-# Whether the program is there, nothing that it is made of is newer, and the toolchain is that of the build, where there is one.
-# A folder is newer where a file in it was added or removed.
+# Whether the program is there and is the one that the build noted, nothing that it is made of is newer, and the
+# toolchain is that of the build, where there is one. A folder is newer where a file in it was added or removed.
 is_built() {
     [ -x "$built" ] && [ -f "$stamp" ] || return 1
-    local version files sources now
-    { read -r version && read -r files; } <"$stamp"
+    local version files marks sums sources now
+    { read -r version && read -r files && read -r marks && read -r sums; } <"$stamp" || return 1
+    [ "$marks" = "$(marks_of "$built")" ] || return 1
     sources_of_program
     [ -z "$(cd "$here" && find "${sources[@]}" -newer "$stamp" -print -quit 2>/dev/null)" ] || return 1
     now=$(toolchain_files) || return 0
     [ "$now" = "$files" ] && return 0
     [ "$(rt version)" = "$version" ] || return 1
     # It is the same one, elsewhere.
-    keep "$version" "$now" -r "$stamp"
+    keep "$version" "$now" "$marks" "$sums" -r "$stamp"
 }
 
-# Writes the stamp: its two lines, and then the words that give touch its time. It is there whole or not at all.
+# Writes the stamp: its four lines, and then the words that give touch its time. It is there whole or not at all.
 keep() {
     local made=$stamp.$$
-    mkdir -p "${stamp%/*}" && printf '%s\n%s\n' "$1" "$2" >"$made" && touch "${@:3}" "$made" && mv -f "$made" "$stamp"
+    mkdir -p "${stamp%/*}" && printf '%s\n' "${@:1:4}" >"$made" && touch "${@:5}" "$made" && mv -f "$made" "$stamp"
 }
 
 # Notes that the program was proved and built, from $1 seconds after 1970 on.
 note_built() {
-    keep "$(rt version)" "$(toolchain_files)" -d "@$1"
+    keep "$(rt version)" "$(toolchain_files)" "$(marks_of "$built")" "$(sum_of_input <"$built") $(sum_of_sources)" \
+        -d "@$1"
 }
 
 # What the release was made of: made_of toolchain, made_of sources
 made_of() { sed -n "s/^$1 //p" "$release/made-of"; }
 
-# Why the release isn't to be run here; nothing where it is.
-fault_of_release() {
-    local noted said
+# The sum of a file of the release, as SHA256SUMS has it.
+noted_sum() { sed -n "s/  $1\$//p" "$release/SHA256SUMS"; }
+
+# Why the release isn't what stands in it, for a system like this one; nothing where it is. Nothing of it is run.
+fault_of_bytes() {
+    local noted
     if [ "$(uname -sm)" != "Linux x86_64" ]; then
         echo "it is for Linux on x86_64"
     elif [ "$(made_of sources)" != "$(sum_of_sources)" ]; then
         echo "it was made of other sources than these"
-    elif ! read -r noted _ <"$release/SHA256SUMS" || [ "$(sum_of_input <"$release/adsd")" != "$noted" ]; then
+    elif noted=$(noted_sum adsd) && [ -z "$noted" ] || [ "$(sum_of_input <"$release/adsd")" != "$noted" ]; then
         echo "its bytes aren't those of its checksum"
+    fi
+} 2>/dev/null
+
+# Why the release isn't to be run here; nothing where it is. It is run only where its bytes have their sum.
+fault_of_release() {
+    local fault said
+    fault=$(fault_of_bytes)
+    if [ -n "$fault" ]; then
+        echo "$fault"
     elif ! said=$(printf O:BA | "$release/adsd" sddl 2>&1) || [ "${said##*$'\n'}" != O:S-1-5-32-544 ]; then
         echo "it doesn't start here: ${said##*$'\n'}"
     fi
@@ -110,23 +127,26 @@ fault_of_release() {
 
 # Whether there is a release that is made of these sources, whole, and starts here; else `release_fault` says why not. It
 # is asked once, and again where one of these files was changed since: by the time of a change (ctime), which no command
-# sets back.
+# sets back. With `anew` it is asked in any case.
 is_release() {
-    local since about touched sources now
+    local since about marks touched sources now
     release_fault=
     [ -d "$release" ] || return 1
     sources_of_program
-    if [ -f "$release_seen" ] && { read -r since && read -r about; } <"$release_seen" &&
+    if [ "${1-}" != anew ] && [ -f "$release_seen" ] &&
+        { read -r since && read -r about && read -r marks; } <"$release_seen" &&
         [ "$about" = "${HOSTNAME-} ${sources[*]}" ] && [[ $since =~ ^[0-9]+$ ]] &&
+        [ "$marks" = "$(marks_of "$release/adsd")" ] &&
         touched=$(cd "$here" && find release/x86_64-linux "${sources[@]}" -newerct "@$since" -print -quit) &&
         [ -z "$touched" ]; then
         return 0
     fi
     now=$(($(date +%s) - 1))
+    marks=$(marks_of "$release/adsd")
     release_fault=$(fault_of_release)
     [ -z "$release_fault" ] || return 1
     # (where nothing can be kept, it is asked again)
-    { mkdir -p "${release_seen%/*}" && printf '%s\n' "$now" "${HOSTNAME-} ${sources[*]}" >"$release_seen.$$" &&
+    { mkdir -p "${release_seen%/*}" && printf '%s\n' "$now" "${HOSTNAME-} ${sources[*]}" "$marks" >"$release_seen.$$" &&
         mv -f "$release_seen.$$" "$release_seen"; } 2>/dev/null
     return 0
 }
@@ -137,54 +157,38 @@ choose_program() {
     is_release && program=$release/adsd
 }
 
-# Whether the library for C is there and nothing that it is made of is newer.
-is_library_built() {
-    local crate part of=(crates.txt HANDLES)
-    [ -f "$library_built" ] || return 1
-    while read -r crate; do
-        for part in src specs proofs; do
-            [ ! -d "$here/crates/$crate/$part" ] || of+=("crates/$crate/$part")
-        done
-    done <<<"$(crates_of_program adsd_c)"
-    [ -z "$(cd "$here" && find "${of[@]}" -newer "$library_built" -print -quit)" ]
-}
-
-# Makes an archive of the library that is built here, with what it takes memory by, which is the toolchain's: archive_of_built FILE
-archive_of_built() {
-    local rt kit place=$1.$$
-    rt=$(command -v rt) && rt=$(readlink -f "$rt") && kit=${rt%/*/*} || return 1
-    rm -rf "$place" && mkdir -p "$place" &&
-        (cd "$place" && ar x "$library_built" && ar x "$kit/c/liblibc_c.a" && ar rcD made.a $(ar t "$library_built") $(ar t "$kit/c/liblibc_c.a")) &&
-        mv -f "$place/made.a" "$1" && rm -rf "$place"
-}
-
-# Why the release's library isn't to be used; nothing where it is.
-fault_of_library() {
-    local noted
-    if [ ! -f "$release/libadsd.a" ]; then
-        echo "there is none in the release"
-    elif [ "$(uname -sm)" != "Linux x86_64" ]; then
-        echo "it is for Linux on x86_64"
-    elif [ "$(made_of sources)" != "$(sum_of_sources)" ]; then
-        echo "it was made of other sources than these"
-    elif ! noted=$(sed -n 's/  libadsd.a$//p' "$release/SHA256SUMS") || [ "$(sum_of_input <"$release/libadsd.a")" != "$noted" ]; then
-        echo "its bytes aren't those of its checksum"
+# Says on standard error why nothing is run, and what a build would take: as long as the last one here, or as one was
+# measured.
+tell_unbuilt() {
+    local seconds by
+    [ -z "$release_fault" ] || echo "adsd: the release isn't used: $release_fault"
+    if read -r seconds <"$took" && [[ $seconds =~ ^[0-9]{1,9}$ ]]; then
+        by=$(printf 'the last time here it took %d:%02d' $((seconds / 60)) $((seconds % 60)))
+    else
+        by="on four processors it takes an hour where nothing is proved yet"
     fi
-} 2>/dev/null
+    echo "adsd: no program is proved and built of these sources; tools/build does that, and $by"
+    command -v rt >/dev/null || echo "adsd: it needs the command rt of the Rattle toolchain, which isn't found"
+} >&2 2>/dev/null
 
-# What is run, in words: what it was proved with, and the sum of its sources.
+# What is run, in words: what it was proved with, and the sum of its sources. The sums of its bytes and of its sources
+# are taken now, whatever is kept of earlier calls, and 'proved and built' is said of what has the noted ones alone.
 proved_with() {
-    local version sum
-    sum="of sources $(sum_of_sources)"
+    local version sources sums
+    sources=$(sum_of_sources)
     if is_built; then
-        read -r version <"$stamp"
-        echo "proved and built here with $version, $sum"
-    elif is_release; then
+        { read -r version && read -r _ && read -r _ && read -r sums; } <"$stamp"
+        if [ "$sums" = "$(sum_of_input <"$built") $sources" ]; then
+            echo "proved and built here with $version, of sources $sources"
+        else
+            echo "built here, but its bytes or its sources aren't those of the build's note, of sources $sources"
+        fi
+    elif is_release anew; then
         version=$(made_of toolchain)
         [ "$version" != unknown ] || version="a toolchain that isn't known, if at all"
-        echo "the release, proved and built with $version, $sum"
+        echo "the release, proved and built with $version, of sources $sources"
     else
-        [ -z "$release_fault" ] || sum="$sum; the release isn't used: $release_fault"
-        echo "not built yet, $sum"
+        [ -z "$release_fault" ] || release_fault="; the release isn't used: $release_fault"
+        echo "not built yet, of sources $sources$release_fault"
     fi
 }

@@ -12,9 +12,9 @@ sys.path.insert(0, os.path.join(TOP, "tools"))
 
 
 def program_to_run(script):
-    """The program that ADSD names, or the launcher's, which is proved and built first where it has to be. From then on
+    """The program that ADSD names, or the launcher's; where there is none it is said what would build it. From then on
     ADSD names it, so that tools/adsd-ask asks the same one."""
-    words = [os.path.join(TOP, "tools/which-program"), "--build"]
+    words = [os.path.join(TOP, "tools/which-program"), "--must"]
     asked = subprocess.run(words, stdin=subprocess.DEVNULL, stdout=subprocess.PIPE, text=True)
     if asked.returncode != 0:
         sys.exit(f"{script}: there is no program: tools/which-program ended with {asked.returncode}")

@@ -16,11 +16,13 @@ CODES = {1: "memory ran out", 2: "there is too little room", 3: "the bytes are n
 
 
 class AdsdError(ValueError):
-    """A call of the library has no answer: its code (`ADSD_..` in adsd.h), and the place of a fault in a text."""
+    """A call of the library has no answer: its code (`ADSD_..` in adsd.h), the place of a fault in a text, and the
+    argument that it is about, where that is known."""
 
-    def __init__(self, code: int, place: int = 0) -> None:
-        super().__init__(CODES.get(code, f"code {code}") + (f", at place {place}" if code >= 32 else ""))
-        self.code, self.place = code, place
+    def __init__(self, code: int, place: int = 0, argument: str = "") -> None:
+        told = CODES.get(code, f"code {code}") + (f", at place {place}" if code >= 32 else "")
+        super().__init__(f"{argument}: {told}" if argument else told)
+        self.code, self.place, self.argument = code, place, argument
 
 
 class TypeNode(ctypes.Structure):
@@ -56,8 +58,9 @@ def given(*parts: bytes) -> "list[Any]":
     return [one for part in parts for one in (part, len(part))]
 
 
-def answer(name: str, *arguments: Any) -> bytes:
-    """The bytes that a call answers, in a buffer that is large enough at the second try."""
+def answer(name: str, *arguments: Any, about: str = "") -> bytes:
+    """The bytes that a call answers, in a buffer that is large enough at the second try. A fault names what it is
+    about."""
     size, room = c_size_t(), 512
     while True:
         out = create_string_buffer(room)
@@ -65,5 +68,5 @@ def answer(name: str, *arguments: Any) -> bytes:
         if code == 0:
             return out.raw[: size.value]
         if code != 2:
-            raise AdsdError(code, size.value)
+            raise AdsdError(code, size.value, about)
         room = size.value

@@ -3,14 +3,18 @@
 import struct
 from ctypes import byref, c_uint32
 from dataclasses import dataclass
-from typing import Dict, List, Optional, Sequence, Tuple
+from typing import Any, Dict, List, Optional, Sequence, Tuple
 
+from . import _arguments as arguments
 from ._library import AdsdError, TypeNode, answer, call, given
 from .descriptors import Descriptor
-from .ids import GuidLike, SidLike, guid_bytes, sid_bytes
+from .ids import GuidLike, SidLike, guid_of, sid_if
 from .tokens import Token
 
 _ALL = 0x10000000
+# As many GUIDs as a path has at most (adsd.h), and what a code of the library is about.
+_PATH, _TOO_LONG = 3, 11
+_ABOUT = {3: "sd", 5: "token", 6: "own", 7: "path", 8: "nodes", 12: "sd"}
 # A descriptor that grants all that can be asked for to a token.
 _SYSTEM = Token("S-1-5-18", privileges=["security"])
 _OPEN = Descriptor.from_sddl("O:SYG:SYD:(A;;0x0fffffff;;;SY)")
@@ -22,7 +26,27 @@ def map_rights(mask: int) -> int:
     >>> hex(map_rights(0x80000000))
     '0x20094'
     """
-    return check(_OPEN, _SYSTEM, mask)
+    return check(_OPEN, _SYSTEM, arguments.mask(mask, "mask"))
+
+
+def _told(code: int) -> None:
+    if code:
+        raise AdsdError(code, argument=_ABOUT.get(code, ""))
+
+
+def _asked(sd: Descriptor, token: Token, desired: int, own: Optional[SidLike]) -> "Tuple[bytes, bytes, bytes, int]":
+    """What each check is given, looked at: the descriptor's bytes and its normal ones are there, the others fit."""
+    arguments.kind(sd, "sd", Descriptor)
+    arguments.kind(token, "token", Token)
+    wanted, owned = arguments.mask(desired, "desired"), sid_if(own, "own")
+    try:
+        return sd.normal(), token.to_bytes(), owned, wanted
+    except AdsdError as fault:
+        raise AdsdError(fault.code, argument="sd") from None
+
+
+def _path_of(path: Sequence[GuidLike]) -> bytes:
+    return b"".join(arguments.pieces(path, "path", guid_of, _PATH))
 
 
 def check(sd: Descriptor, token: Token, desired: int, path: Sequence[GuidLike] = (), own: Optional[SidLike] = None) -> int:
@@ -38,13 +62,20 @@ def check(sd: Descriptor, token: Token, desired: int, path: Sequence[GuidLike] =
     >>> check(sd, ann, 0x20, path=["bf967aba-0de6-11d0-a285-00aa003049e2", "bf9679c0-0de6-11d0-a285-00aa003049e2"])
     32
     """
-    guids = b"".join(guid_bytes(guid) for guid in path)
+    *asked, wanted = _asked(sd, token, desired, own)
+    return _granted(asked, _path_of(path), wanted)
+
+
+def _granted(asked: Sequence[bytes], path: bytes, wanted: int) -> int:
+    """What the library grants, of bytes that were looked at."""
     mask = c_uint32()
-    code = call("adsd_granted_normal")(
-        *given(sd.normal(), token.to_bytes(), b"" if own is None else sid_bytes(own), guids), desired, byref(mask))
-    if code:
-        raise AdsdError(code)
+    _told(call("adsd_granted_normal")(*given(*asked, path), wanted, byref(mask)))
     return mask.value
+
+
+def _node(value: Any, name: str) -> Tuple[int, bytes]:
+    level, guid = arguments.row(value, name, "a level and a GUID", 2)
+    return arguments.number(level, f"{name}, level", arguments.MASK), guid_of(guid, f"{name}, GUID")
 
 
 def check_tree(sd: Descriptor, token: Token, desired: int, nodes: Sequence[Tuple[int, GuidLike]],
@@ -59,15 +90,14 @@ def check_tree(sd: Descriptor, token: Token, desired: int, nodes: Sequence[Tuple
     >>> check_tree(sd, ann, 0x10, [(0, user), (1, member), (1, other)])
     [0, 16, 0]
     """
-    given_nodes = (TypeNode * max(1, len(nodes)))()
-    for made, (level, guid) in zip(given_nodes, nodes):
-        made.level, made.guid[:] = level, guid_bytes(guid)
-    masks = (c_uint32 * max(1, len(nodes)))()
-    code = call("adsd_check_tree")(*given(sd.to_bytes(), token.to_bytes(), b"" if own is None else sid_bytes(own)), given_nodes,
-                                   len(nodes), desired, masks, len(nodes))
-    if code:
-        raise AdsdError(code)
-    return list(masks[: len(nodes)])
+    _, caller, owned, wanted = _asked(sd, token, desired, own)
+    found = arguments.pieces(nodes, "nodes", _node)
+    given_nodes, masks = (TypeNode * max(1, len(found)))(), (c_uint32 * max(1, len(found)))()
+    for made, (level, guid) in zip(given_nodes, found):
+        made.level, made.guid[:] = level, guid
+    count = len(found)
+    _told(call("adsd_check_tree")(*given(sd.to_bytes(), caller, owned), given_nodes, count, wanted, masks, count))
+    return list(masks[:count])
 
 
 @dataclass(frozen=True)
@@ -93,6 +123,8 @@ def _entries(sd: Descriptor) -> Tuple[bytes, List[bytes]]:
 
 def _with_entries(front: bytes, entries: Sequence[bytes]) -> Descriptor:
     body = b"".join(entries)
+    if 8 + len(body) > 0xFFFF:
+        raise AdsdError(_TOO_LONG, argument="sd")
     return Descriptor(front + struct.pack("<BBHHH", 4, 0, 8 + len(body), len(entries), 0) + body)
 
 
@@ -114,11 +146,16 @@ def explain(sd: Descriptor, token: Token, desired: int, path: Sequence[GuidLike]
     and denied by the first one behind which such an entry doesn't help. So each single answer is a proved one, and that
     they are put together rightly is not. It costs as many checks as there are entries, twice.
     """
-    front, entries = _entries(sd)
+    _, caller, owned, asked = _asked(sd, token, desired, own)
+    guids, (front, entries) = _path_of(path), _entries(sd)
     probe = [_allow(token.user)] + [_allow(sid) for sid in token.restricting[:1]]
-    wanted = map_rights(desired)
-    has = [check(_with_entries(front, entries[:k]), token, desired, path, own) for k in range(len(entries) + 1)]
-    may = [check(_with_entries(front, entries[:k] + probe), token, desired, path, own) for k in range(len(entries) + 1)]
+    wanted = map_rights(asked)
+
+    def granted(some: Sequence[bytes]) -> int:
+        return _granted([_with_entries(front, some).normal(), caller, owned], guids, asked)
+
+    has = [granted(entries[:k]) for k in range(len(entries) + 1)]
+    may = [granted(entries[:k] + probe) for k in range(len(entries) + 1)]
     found = {}
     for bit in (1 << n for n in range(32)):
         if wanted & bit and has[-1] & bit:

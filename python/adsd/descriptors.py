@@ -2,8 +2,9 @@
 
 from typing import Optional
 
-from ._library import answer, given
-from .ids import GuidLike, SidLike, guid_bytes, sid_bytes
+from . import _arguments as arguments
+from ._library import AdsdError, answer, given
+from .ids import GuidLike, SidLike, guid_of, sid_if
 
 
 class Descriptor:
@@ -18,9 +19,9 @@ class Descriptor:
     """
 
     def __init__(self, data: bytes) -> None:
-        self._bytes = bytes(data)
+        self._bytes = arguments.octets(data, "data")
         # (a fault shows here, and not at the first use)
-        self._sddl = answer("adsd_sd_to_sddl", *given(self._bytes)).decode("ascii")
+        self._sddl = answer("adsd_sd_to_sddl", *given(self._bytes), about="data").decode("ascii")
         self._normal: Optional[bytes] = None
 
     @classmethod
@@ -31,10 +32,10 @@ class Descriptor:
         'O:S-1-5-21-1-2-3-512'
         >>> Descriptor.from_sddl("O:BAD:(A;;XX;;;BA)")
         Traceback (most recent call last):
-        adsd._library.AdsdError: neither a right nor the end of the rights, at place 10
+        adsd._library.AdsdError: text: neither a right nor the end of the rights, at place 10
         """
-        below = b"" if domain is None else sid_bytes(domain)
-        return cls(answer("adsd_sd_from_sddl", *given(text.encode(), below)))
+        below = sid_if(domain, "domain")
+        return cls(answer("adsd_sd_from_sddl", *given(arguments.text(text, "text"), below), about="text"))
 
     def to_sddl(self) -> str:
         """Its one canonical text."""
@@ -76,4 +77,9 @@ def inherit(parent: Descriptor, own: Descriptor, object_class: GuidLike) -> Desc
     >>> inherit(above, Descriptor.from_sddl("O:SYG:SYD:(A;;GA;;;SY)"), user).to_sddl()
     'O:S-1-5-18G:S-1-5-18D:(A;;GA;;;S-1-5-18)(A;CIID;RP;;;S-1-5-11)S:'
     """
-    return Descriptor(answer("adsd_inherit", *given(parent.to_bytes(), own.to_bytes(), guid_bytes(object_class))))
+    above, below = arguments.kind(parent, "parent", Descriptor), arguments.kind(own, "own", Descriptor)
+    parts = above.to_bytes(), below.to_bytes(), guid_of(object_class, "object_class")
+    try:
+        return Descriptor(answer("adsd_inherit", *given(*parts)))
+    except AdsdError as fault:
+        raise AdsdError(fault.code, fault.place, {3: "own", 4: "parent"}.get(fault.code, "")) from None

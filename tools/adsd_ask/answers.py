@@ -4,8 +4,8 @@ import base64
 import struct
 
 from adsd_import import descriptor as descriptors
-from adsd_import.report import seen
 from adsd_import.sids import text_of_guid, text_of_sid
+from adsd_shown import shown, text_of
 
 from . import ber
 from .words import codes
@@ -66,8 +66,8 @@ def entry_lines(body):
     lines = [value_line("dn", dn)]
     for _, held in ber.parts(attributes):
         (_, name), (_, values) = ber.parts(held)
-        found = [value for _, value in ber.parts(values)]
-        lines += [value_line(name.decode(), value) for value in found] or [f"# {name.decode()} without values"]
+        found, name = [value for _, value in ber.parts(values)], shown(text_of(name))
+        lines += [value_line(name, value) for value in found] or [f"# {name} without values"]
     return lines + [""]
 
 
@@ -76,8 +76,8 @@ def result_lines(tag, body):
     code, matched, text = (field[1] for field in fields[:3])
     number = int.from_bytes(code, "big")
     told = f"# {OPERATIONS.get(tag, hex(tag))}: {number} {CODES.get(number, '')}".rstrip()
-    told += f", matched {matched.decode(errors='replace')}" if matched else ""
-    return [seen(told + (f", {text.decode(errors='replace')}" if text else "")), ""]
+    told += f", matched {text_of(matched)}" if matched else ""
+    return [shown(told + (f", {text_of(text)}" if text else "")), ""]
 
 
 def message_lines(body):

@@ -5,6 +5,7 @@ import struct
 import sys
 
 from adsd_import.sids import text_of_sid
+from adsd_shown import Words, shown
 
 from . import answers, ber, requests, words
 
@@ -34,8 +35,8 @@ OWNER_AT, DACL_AT = 4, 16
 
 
 def parsed(arguments):
-    form = argparse.ArgumentParser(prog="adsd-ask", description="Questions and streams as text.", epilog=ABOUT,
-                                   formatter_class=argparse.RawDescriptionHelpFormatter)
+    form = Words(prog="adsd-ask", description="Questions and streams as text.", epilog=ABOUT,
+                 formatter_class=argparse.RawDescriptionHelpFormatter)
     words_of = form.add_subparsers(dest="word", required=True)
     check = words_of.add_parser("access", help="asks one access check")
     check.add_argument("--sddl", required=True, help="a descriptor with an owner and a discretionary list, as SDDL")
@@ -58,13 +59,16 @@ def accounts_of(asked):
     """The accounts that may be named, or None."""
     if asked.store is None:
         return None
+    import adsd_incomplete
     from adsd_names.accounts import Accounts
     from adsd_report.store import Broken
 
     try:
-        return Accounts(asked.store)
+        made = Accounts(asked.store)
     except Broken as why:
         raise words.Wrong(f"{asked.store}: {why}") from None
+    adsd_incomplete.warn(asked.store)
+    return made
 
 
 def part(data, at):
@@ -93,10 +97,11 @@ def access(asked):
         print(f"not granted: {' '.join(left)}")
 
 
-def opened(name, text):
+def given(name):
     if name == "-":
-        return sys.stdin if text else sys.stdin.buffer
-    return open(name, encoding="utf-8") if text else open(name, "rb")
+        return sys.stdin.buffer.read()
+    with open(name, "rb") as opened:
+        return opened.read()
 
 
 def main(arguments):
@@ -105,12 +110,12 @@ def main(arguments):
         if asked.word == "access":
             access(asked)
         elif asked.word == "frames":
-            made = b"".join(requests.frames(opened(asked.file, True), accounts_of(asked)))
+            made = b"".join(requests.frames(requests.lines_of(given(asked.file)), accounts_of(asked)))
             sys.stdout.buffer.write(made)
         else:
-            for line in answers.lines(opened(asked.file, False).read()):
+            for line in answers.lines(given(asked.file)):
                 print(line)
     except (words.Wrong, answers.Broken, ber.Broken, OSError) as wrong:
-        print(f"adsd-ask: {wrong}", file=sys.stderr)
+        print(f"adsd-ask: {shown(str(wrong))}", file=sys.stderr)
         return 1
     return 0

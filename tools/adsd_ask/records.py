@@ -3,14 +3,16 @@
 import base64
 import re
 import struct
-import subprocess
+
+from adsd_run import run
+from adsd_shown import text_of
 
 from . import ber
 from .words import ADSD, Wrong
 
 TREE_DELETE = b"1.2.840.113556.1.4.805"
 HEADER = struct.Struct(">BHI")
-FAULT = re.compile(r"line (\d+) (.+)")
+FAULT = re.compile(r"line ([1-9][0-9]*) ([^\n]+)\n")
 
 
 def spelled(name, value):
@@ -66,8 +68,8 @@ def requests(records):
     if not records:
         return []
     text = "\n\n".join("\n".join(lines) for lines in records) + "\n"
-    done = subprocess.run([ADSD, "change"], input=text.encode(), stdout=subprocess.PIPE)
-    fault = FAULT.fullmatch(done.stdout.decode(errors="replace").strip()) if done.returncode == 1 else None
+    done = run([ADSD, "change"], text.encode())
+    fault = FAULT.fullmatch(text_of(done.stdout)) if done.returncode == 1 else None
     if fault:
         raise Faulty(place_of(records, int(fault[1])), fault[2])
     if done.returncode:

@@ -203,6 +203,17 @@ def fill(messages):
         message.request, message.controls = request, controls + message.controls
 
 
+def lines_of(data):
+    """The lines of some bytes: each ends with LF, before which a CR may stand, and with nothing else."""
+    made = []
+    for at, line in enumerate(data.split(b"\n"), 1):
+        try:
+            made.append(line.removesuffix(b"\r").decode())
+        except UnicodeDecodeError:
+            raise Wrong(f"line {at}: it isn't UTF-8") from None
+    return made
+
+
 def frames(lines, accounts=None):
     """The frames of lines of text, whose tokens may name these accounts; empty lines and those that begin with # are
     passed over. Messages are numbered from 1."""

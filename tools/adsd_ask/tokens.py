@@ -1,17 +1,16 @@
 """The token that a store gives a principal, as the program's command `token` tells it (docs/profile/who.md#token)."""
 
 import struct
-import subprocess
 from dataclasses import dataclass, field
 from typing import List
 
-from adsd_import.sids import sid_of_text
+import adsd_lines
+from adsd_run import run
+from adsd_shown import line_of, shown
 
 from .words import Wrong
 
 ANSWERED, NO_SUCH_WORDS, NO_ANSWER = 0, 2, 3
-# What the program says where a name has no token; all else of that status is about the store.
-REASONS = ("no object", "several objects", "no principal", "no identifier", "too many groups")
 
 
 class NoToken(Wrong):
@@ -39,34 +38,31 @@ class Told:
         return head + struct.pack(">H", len(self.groups)) + marked + struct.pack(">H", 0)
 
 
-def read(text):
+def read(said):
     """The token of the command's lines."""
     made = Told()
-    for line in text.splitlines():
-        word, _, value = line.partition(" ")
-        if word == "privileges":
-            made.privileges = int(value)
-        elif word == "group":
-            made.groups.append(sid_of_text(value))
-        elif word in ("user", "owner", "primary"):
-            setattr(made, word, sid_of_text(value))
+    for word, value in adsd_lines.token(said):
+        if word == "group":
+            made.groups.append(value)
         else:
-            raise Wrong(f"adsd token printed {line!r}")
+            setattr(made, word, value)
     return made
 
 
 def of_store(path, store, name, *more):
     """The token of a name, with further identifiers, by the program at `path`; NoToken where it has none."""
     try:
-        done = subprocess.run([path, "token", store, name, *more], stdin=subprocess.DEVNULL, stdout=subprocess.PIPE,
-                              stderr=subprocess.DEVNULL)
+        done = run([path, "token", store, name, *more], tell=False)
     except (OSError, ValueError) as fault:
         raise Wrong(f"{path}: {fault}") from None
-    said = done.stdout.decode("utf-8", "backslashreplace").strip()
     if done.returncode == NO_SUCH_WORDS:
         raise NoCommand("the program has no command token, or can't take this name")
-    if done.returncode == NO_ANSWER and said.startswith(REASONS):
-        raise NoToken(said)
-    if done.returncode != ANSWERED:
-        raise Wrong(f"adsd token ended with {done.returncode}: {said or 'nothing was said'}")
-    return read(said)
+    try:
+        why = adsd_lines.reason("token", done.stdout) if done.returncode == NO_ANSWER else None
+        if why is not None:
+            raise NoToken(shown(why))
+        if done.returncode != ANSWERED:
+            raise Wrong(f"adsd token ended with {done.returncode}: {line_of(done.stdout) or 'nothing was said'}")
+        return read(done.stdout)
+    except adsd_lines.Unread as why:
+        raise Wrong(str(why)) from None

@@ -2,10 +2,11 @@
 
 import os
 import struct
-import subprocess
 
 from adsd_import.sddl import RIGHTS
 from adsd_import.sids import sid_of_alias, sid_of_text
+from adsd_run import run
+from adsd_shown import line_of
 
 ADSD = os.environ.get("ADSD") or os.path.join(os.path.dirname(os.path.dirname(os.path.dirname(os.path.abspath(__file__)))), "adsd")
 PRIVILEGES = {"security": 1, "take-ownership": 2, "restore": 4}
@@ -83,9 +84,9 @@ def token(user, owner="", primary="", groups="", deny="", restricting="", privil
 
 
 def adsd(word, given):
-    done = subprocess.run([ADSD, word], input=given, stdout=subprocess.PIPE)
+    done = run([ADSD, word], given)
     if done.returncode:
-        raise Wrong(f"adsd {word} ended with {done.returncode}: {done.stdout.decode(errors='replace').strip()}")
+        raise Wrong(f"adsd {word} ended with {done.returncode}: {line_of(done.stdout)}")
     return done.stdout
 
 

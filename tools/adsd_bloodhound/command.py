@@ -1,13 +1,17 @@
 """The command: words, files, statuses."""
 
 import argparse
+import errno
+import io
 import json
 import os
 import sys
 import zipfile
 
-from adsd_import.report import seen
+import adsd_incomplete
+from adsd_files import write
 from adsd_report import store
+from adsd_shown import Words, shown
 
 from .library import Library, Missing
 from .nodes import NoDomain, Nodes
@@ -28,12 +32,12 @@ written. Where it isn't 0, no file is left half written."""
 
 
 def say(line):
-    sys.stderr.write(f"adsd-bloodhound: {seen(str(line))}\n")
+    sys.stderr.write(f"adsd-bloodhound: {shown(str(line))}\n")
 
 
 def parsed(arguments):
-    form = argparse.ArgumentParser(prog="adsd-bloodhound", description=ABOUT, epilog=STATUSES,
-                                   formatter_class=argparse.RawDescriptionHelpFormatter)
+    form = Words(prog="adsd-bloodhound", description=ABOUT, epilog=STATUSES,
+                 formatter_class=argparse.RawDescriptionHelpFormatter)
     form.add_argument("store", metavar="STORE", help="the store, as `adsd` is given it")
     form.add_argument("--output", metavar="FOLDER", help="where the files are put; made where it isn't there (bloodhound)")
     form.add_argument("--zip", metavar="FILE", help="write one archive of the six files instead, as BloodHound takes it too")
@@ -44,21 +48,22 @@ def parsed(arguments):
     return made
 
 
-def put(path, data):
-    """Writes a file that its owner alone may read, whole or not at all."""
-    begun = f"{path}.part"
-    with open(os.open(begun, os.O_WRONLY | os.O_CREAT | os.O_TRUNC, 0o600), "wb") as opened:
-        opened.write(data)
-    os.replace(begun, path)
+def zipped(files):
+    """The bytes of an archive of some files."""
+    made = io.BytesIO()
+    with zipfile.ZipFile(made, "w", zipfile.ZIP_DEFLATED) as archive:
+        for name, data in files.items():
+            archive.writestr(name, data)
+    return made.getvalue()
 
 
-def zipped(path, files):
-    begun = f"{path}.part"
-    with open(os.open(begun, os.O_RDWR | os.O_CREAT | os.O_TRUNC, 0o600), "w+b") as opened:
-        with zipfile.ZipFile(opened, "w", zipfile.ZIP_DEFLATED) as archive:
-            for name, data in files.items():
-                archive.writestr(name, data)
-    os.replace(begun, path)
+def put(folder, files):
+    """Writes some files into a folder, which is made where it isn't there."""
+    if os.path.islink(folder):
+        raise OSError(errno.EEXIST, "it is a link, and no folder", folder)
+    os.makedirs(folder, mode=0o700, exist_ok=True)
+    for name, data in files.items():
+        write(os.path.join(folder, name), data)
 
 
 def main(arguments):
@@ -67,6 +72,9 @@ def main(arguments):
     try:
         writer = Writer(Nodes(asked.store), Library(asked.library))
         made = writer.files()
+        for told in adsd_incomplete.warn(asked.store):
+            for item in made["domains"]["data"]:
+                item["Properties"]["incomplete"] = told
     except (store.Broken, NoDomain) as why:
         say(f"{asked.store}: {why}")
         return 1
@@ -79,12 +87,9 @@ def main(arguments):
     files = {f"{name}.json": json.dumps(content, separators=(",", ":")).encode() for name, content in made.items()}
     try:
         if asked.zip:
-            zipped(asked.zip, files)
+            write(asked.zip, zipped(files))
         else:
-            folder = asked.output or "bloodhound"
-            os.makedirs(folder, mode=0o700, exist_ok=True)
-            for name, data in files.items():
-                put(os.path.join(folder, name), data)
+            put(asked.output or "bloodhound", files)
     except OSError as fault:
         say(f"{fault.filename or 'output'}: {fault.strerror}")
         return 5

@@ -2,7 +2,6 @@
 
 import ctypes
 import os
-import shutil
 import subprocess
 import tempfile
 from ctypes import POINTER, byref, c_char_p, c_size_t, c_uint32
@@ -18,13 +17,14 @@ class Missing(Exception):
 
 
 def made():
-    """The library linked of the archive that was built here or of the release, where the repository and a linker are there."""
-    if not os.path.exists(MAKES) or not shutil.which(os.environ.get("CC", "cc")):
+    """The library of the release, or one linked of the archive that was built here, where the repository is there."""
+    if not os.path.exists(MAKES):
         raise Missing("no libadsd.so.1: install it (make install), or name it by --library or ADSD_LIBRARY")
     with tempfile.TemporaryDirectory() as place:
         done = subprocess.run([MAKES, place], stdin=subprocess.DEVNULL, capture_output=True, text=True)
         if done.returncode:
-            raise Missing(f"no libadsd.so.1: {(done.stderr.strip() or 'tools/library failed').splitlines()[-1]}")
+            last = done.stderr.removesuffix("\n").rpartition("\n")[2]
+            raise Missing(f"no libadsd.so.1: {last or 'tools/library failed'}")
         return ctypes.CDLL(os.path.join(place, "lib/libadsd.so.1"))
 
 

@@ -6,10 +6,11 @@ from adsd_import.sids import sid_of_text, text_of_sid
 from adsd_report.differences import phrases, several
 from adsd_report.names import WELL_KNOWN
 
+from . import asked
 from .differences import Differences, order
 from .pictures import Picture
 from .trying import Wrong
-from .views import NotThere, count_of, sid_given
+from .views import NotThere, count_of
 
 OPS = {"add": ("n", "ace"), "edit": ("n", "old", "ace"), "remove": ("n", "old"), "revoke": ("n", "sid"),
        "list": ("n", "sddl"), "protect": ("n", "on"), "owner": ("n", "sid"), "run": (), "settle": ()}
@@ -40,24 +41,21 @@ class Api:
         called = (self.reads if body is None else self.writes).get(name)
         if called is None:
             raise NotThere("no such request")
+        given = asked.words(name, words) if body is None else body
         with self.explorer.lock:
-            return called(words if body is None else body)
+            return called(given)
 
     # ---- words
 
-    def number(self, words, key="n"):
-        text = words.get(key, "")
-        if not text.isdigit() or int(text) not in self.explorer.world.objects:
+    def number(self, words):
+        """The number of an object that there is."""
+        if words["n"] not in self.explorer.world.objects:
             raise NotThere("no such object")
-        return int(text)
-
-    def count(self, words, key, other=0):
-        text = words.get(key, "")
-        return int(text) if text.lstrip("-").isdigit() and len(text) < 12 else other
+        return words["n"]
 
     def at(self, words):
         """The moment that is asked about."""
-        return self.explorer.moment(words.get("plan", ""), self.count(words, "step", -1))
+        return self.explorer.moment(words["plan"], words["step"])
 
     # ---- what is read
 
@@ -65,10 +63,10 @@ class Api:
         return self.explorer.start()
 
     def children(self, words):
-        return self.explorer.views.children(self.number(words), max(0, self.count(words, "after")), self.explorer.now)
+        return self.explorer.views.children(self.number(words), words["after"], self.explorer.now)
 
     def find(self, words):
-        found, more = self.explorer.world.search(words.get("q", "")[:2000], MOST_FOUND)
+        found, more = self.explorer.world.search(words["q"], MOST_FOUND)
         views = self.explorer.views
         return {"found": [{**views.brief(one, self.explorer.now), "dn": self.explorer.world.dn(one),
                            "sid": views.sid_of(one), "label": self.explorer.world.label(one)} for one in found],
@@ -79,19 +77,19 @@ class Api:
 
     def askable(self, words):
         """What may be asked of an object, or of the objects of a class."""
-        world, of_class = self.explorer.world, words.get("class")
-        if of_class is None:
-            return self.explorer.views.askable(world.objects[self.number(words)].of_class)
-        if of_class.lower() not in world.schema.of_class:
-            raise NotThere("no such class")
-        return self.explorer.views.askable(world.schema.of_class[of_class.lower()])
+        if (words["class"] is None) == (words["n"] is None):
+            raise Wrong("either n or class is wanted")
+        views = self.explorer.views
+        if words["class"] is None:
+            return views.askable(self.explorer.world.objects[self.number(words)].of_class)
+        return views.askable(views.class_called(words["class"]))
 
     def classes(self, words):
         return {"classes": self.explorer.views.classes()}
 
     def whom(self, words):
         """The principals whose name has a text, for a form: those of the store, and those that everybody knows."""
-        text, world = words.get("q", "")[:2000].casefold(), self.explorer.world
+        text, world = words["q"].casefold(), self.explorer.world
         found, _ = world.search(text, 4 * MOST_FOUND)
         made = [world.principal(world.own(one)) for one in found if world.own(one)]
         known = [(sid, name) for sid, name in WELL_KNOWN.items() if text and (text in name or text == sid.casefold())]
@@ -103,14 +101,14 @@ class Api:
         return {"found": made[:MOST_FOUND]}
 
     def who(self, words):
-        right = (words.get("kind", ""), words.get("name", ""), words.get("code", ""))
-        return self.explorer.views.who(self.number(words), right, self.at(words), max(0, self.count(words, "after")))
+        right = words["kind"], words["name"], words["code"]
+        return self.explorer.views.who(self.number(words), right, self.at(words), words["after"])
 
     def principal(self, words):
-        return self.explorer.principals.principal(sid_given(words.get("sid", "")), self.at(words))
+        return self.explorer.principals.principal(words["sid"], self.at(words))
 
     def can(self, words):
-        return self.explorer.principals.can(sid_given(words.get("sid", "")), self.number(words), self.at(words))
+        return self.explorer.principals.can(words["sid"], self.number(words), self.at(words))
 
     def exposed(self, words):
         return self.explorer.principals.exposed(self.at(words))
@@ -124,27 +122,31 @@ class Api:
         return [self.change_of(one) for one in given]
 
     def change_of(self, one):
-        keys = OPS.get(one.get("op")) if isinstance(one, dict) else None
+        word = one.get("op") if isinstance(one, dict) else None
+        keys = OPS.get(word) if isinstance(word, str) else None
         if keys is None or any(type(one.get(key)) is not SHAPES[key] for key in keys):
             raise Wrong("a change of no kind")
         if any(isinstance(one[key], str) and len(one[key]) > MOST_TEXT for key in keys):
             raise Wrong("a text that is too long")
         if "n" in keys and one["n"] not in self.explorer.world.objects:
             raise Wrong("a change of no object")
-        return {"op": one["op"], **{key: one[key] for key in keys}}
+        made = {"op": word, **{key: one[key] for key in keys}}
+        if "sid" in keys:
+            made["sid"] = text_of_sid(asked.sid(one["sid"], "the owner" if word == "owner" else "that"))
+        return made
 
     def attempt(self, body):
         """Makes changes on a copy, and says what the program said to each."""
-        by = body.get("by") or ""
-        if not isinstance(by, str):
+        by = body.get("by")
+        if by is not None and not isinstance(by, str):
             raise Wrong("who makes the changes is a text")
-        plan = self.explorer.plan(self.changes_of(body.get("changes")), by)
+        plan = self.explorer.plan(self.changes_of(body.get("changes")), text_of_sid(asked.sid(by, "who makes the changes")) if by else "")
         return {"plan": plan.key, "told": plan.told, "pending": len(plan.first.queue), "lines": plan.lines,
                 "grants": plan.grants, "by": self.explorer.world.principal(plan.token.sid)}
 
     def moment(self, words):
         """A moment as a picture."""
-        plan = self.explorer.open_plan(words.get("plan", ""))
+        plan = self.explorer.open_plan(words["plan"])
         if not hasattr(plan, "picture"):
             plan.picture = Picture(self.explorer.world, plan.first, plan.last)
         moment = self.at(words)
@@ -154,7 +156,7 @@ class Api:
 
     def sides(self, words):
         """The three moments that are compared: the store, the one that is asked about, and the last one."""
-        plan = self.explorer.open_plan(words.get("plan", ""))
+        plan = self.explorer.open_plan(words["plan"])
         moments = [self.explorer.now, self.at(words), plan.last]
         if getattr(plan, "sides", None) is None or plan.sides[0] != moments[1].step:
             made = Differences(self.explorer.answers, self.explorer.views.accounts, self.explorer.protected, moments)
@@ -177,7 +179,7 @@ class Api:
         """What comes to one account and what goes, right by right: up to the moment, and from there to the last one."""
         made, moments = self.sides(words)
         explorer = self.explorer
-        token, found = explorer.views.accounts.token(sid_given(words.get("sid", ""))), {}
+        token, found = explorer.views.accounts.token(words["sid"]), {}
         for group in made.groups:
             for number in group.numbers:
                 objects = [explorer.answers.object(number, moment) for moment in moments]
@@ -193,15 +195,20 @@ class Api:
         return {"who": explorer.world.principal(token.sid), "rows": rows[:MOST_ROWS], "more": len(rows[MOST_ROWS:])}
 
     def frames(self, words):
-        plan = self.explorer.open_plan(words.get("plan", ""))
-        if words.get("form") == "bytes":
+        plan = self.explorer.open_plan(words["plan"])
+        if words["form"] == "bytes":
             return Raw("adsd.frames", b"".join(plan.frames))
-        if words.get("form") == "text":
+        if words["form"] == "text":
             return Raw("adsd.txt", "".join(f"{line}\n" for line in plan.lines).encode())
+        if words["form"]:
+            raise Wrong("frames are told as text or as bytes")
         return {"lines": plan.lines, "grants": plan.grants}
 
     def write(self, body):
-        return self.explorer.write(str(body.get("plan", "")), bool(body.get("settle")))
+        plan, settle = body.get("plan"), body.get("settle", False)
+        if not isinstance(plan, str) or not isinstance(settle, bool):
+            raise Wrong("a what-if is written by its key, and settled or not")
+        return self.explorer.write(plan, settle)
 
 
 def said(rights):

@@ -6,10 +6,10 @@ import sys
 import tempfile
 import threading
 
-from adsd_import.report import seen
 from adsd_report import program, store
 
-from . import library
+from . import library, private
+from .texts import told
 
 ABOUT = """Serves a web page on a loopback address that explores the rights in a store: the tree, each list in words, who
 can do what and by which entry and groups, what somebody may do and where, ranked by harm; and what-ifs: lists changed
@@ -23,6 +23,10 @@ will do. Rights are answers of the proved library, and what changes make is the 
 STATUSES = """status: 0 ended; 1 the store can't be taken, or there is no library; 2 usage; 5 the port can't be had."""
 
 
+class Ended(BaseException):
+    """A signal asks for the end."""
+
+
 class Words(argparse.ArgumentParser):
     """The words of the command. A fault is told in one line."""
 
@@ -32,7 +36,7 @@ class Words(argparse.ArgumentParser):
 
 
 def say(line):
-    sys.stderr.write(f"adsd-explore: {seen(str(line))}\n")
+    sys.stderr.write(f"adsd-explore: {told(str(line))}\n")
     sys.stderr.flush()
 
 
@@ -51,6 +55,21 @@ def parsed(arguments):
     return form.parse_args(arguments)
 
 
+def watch():
+    """Lets a signal end the command at any moment, so that no copy of the directory is left. A second one changes nothing;
+    and who starts the command with one of them ignored, as nohup does, isn't ended by it."""
+    numbers = [number for number in (signal.SIGHUP, signal.SIGTERM, signal.SIGINT)
+               if signal.getsignal(number) is not signal.SIG_IGN]
+
+    def end(*_):
+        for number in numbers:
+            signal.signal(number, signal.SIG_IGN)
+        raise Ended
+
+    for number in numbers:
+        signal.signal(number, end)
+
+
 def served(asked, place):
     """Serves until a signal; the status."""
     library.open_library(place)
@@ -66,32 +85,38 @@ def served(asked, place):
             say(f"port {asked.port}: {fault.strerror}")
             return 5
         explorer.warm()
-        stop = threading.Event()
-        for number in (signal.SIGTERM, signal.SIGINT):
-            signal.signal(number, lambda *_: stop.set())
-        threading.Thread(target=server.serve_forever, daemon=True).start()
-        sys.stdout.write(f"{server.address()}\n")
-        sys.stdout.flush()
-        stop.wait()
-        server.shutdown()
-        server.server_close()
+        # (a signal that another thread is told of is looked at when this one comes to its turn)
+        serving, pause = threading.Thread(target=server.run, daemon=True), threading.Event()
+        serving.start()
+        try:
+            if explorer.incomplete:
+                say(explorer.incomplete)
+            sys.stdout.write(f"{server.address()}\n")
+            sys.stdout.flush()
+            while serving.is_alive():
+                pause.wait(1)
+        finally:
+            server.stop()
+            serving.join(1)
     finally:
         explorer.close()
-    return 0
+    return 1
 
 
 def main(arguments):
     """Runs the command; the status."""
     asked = parsed(arguments)
+    watch()
     try:
-        with tempfile.TemporaryDirectory(prefix="adsd-explore-") as place:
-            return served(asked, place)
+        private.remove_left()
+        with private.Folder(tempfile.gettempdir()) as folder:
+            return served(asked, folder.path)
     except (store.Broken, program.Failed) as why:
         say(f"{asked.store}: {why}")
     except library.Missing as why:
         say(f"no library: {why}")
     except OSError as fault:
         say(f"{fault.filename or asked.store}: {fault.strerror}")
-    except KeyboardInterrupt:
+    except Ended:
         return 0
     return 1

@@ -1,12 +1,12 @@
 """A descriptor in words: who, what, on what, for whom below, and where an inherited entry comes from."""
 
 from adsd_import.descriptor import INHERITED
-from adsd_import.report import shown
 from adsd_import.sddl import RIGHTS
 from adsd_import.sids import CREATOR_GROUP, CREATOR_OWNER, OWNER_RIGHTS, text_of_guid
 from adsd_report.names import CODES
 
 from .answers import SELF
+from .texts import told
 from .trying import Lists
 
 CI, NP, IO, SUCCESS, FAILURE = 0x02, 0x04, 0x08, 0x40, 0x80
@@ -31,9 +31,9 @@ class Describing:
         for kind, ones, names in (("class", schema.classes, schema.class_names),
                                   ("attribute", schema.attributes, schema.attribute_names)):
             for one, name in zip(ones, names):
-                made.setdefault(one.guid("schemaIDGUID"), (kind, name))
+                made.setdefault(one.guid("schemaIDGUID"), (kind, told(name, 200)))
         for guid, one in zip(schema.right_guids, schema.rights):
-            made.setdefault(guid, (OF_TYPE.get(one.number("validAccesses"), "right"), shown(one.text("cn"), 200)))
+            made.setdefault(guid, (OF_TYPE.get(one.number("validAccesses"), "right"), told(one.text("cn"), 200)))
         return made
 
     def rights(self, mask):

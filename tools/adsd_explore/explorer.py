@@ -4,21 +4,21 @@ import gc
 import hashlib
 import json
 import os
-import shutil
 import struct
-import tempfile
 import threading
 
+import adsd_incomplete
 from adsd_ask import requests
-from adsd_import.report import seen
+from adsd_ask.words import ADSD
 from adsd_import.sids import sid_of_text
 from adsd_report import program, store
 from adsd_report.protection import HOLDER, frozen
 
-from . import tokens, walks
+from . import private, tokens, walks
 from .answers import Answers
 from .library import Calls
 from .principals import Principals
+from .texts import told
 from .trying import Plan, Wrong
 from .views import NotThere, Views
 from .world import Moment, World
@@ -39,12 +39,13 @@ class Explorer:
         if not os.path.exists(source):
             raise store.Broken("there is no such file")
         size = sum(os.path.getsize(source + slot) for slot in store.SLOTS if os.path.exists(source + slot))
-        self.place = tempfile.mkdtemp(prefix="adsd-explore-", dir=walks.folder_for(size) or place)
+        self.folder = private.Folder(walks.folder_for(size) or place)
+        self.place, self.slots = self.folder.path, None
         self.operator, self.plans, self.lock = tokens.operator(), {}, threading.RLock()
         try:
             self.load()
         except BaseException:
-            shutil.rmtree(self.place, ignore_errors=True)
+            self.folder.close()
             raise
 
     def stamp(self):
@@ -52,34 +53,38 @@ class Explorer:
         return [(one.st_mtime_ns, one.st_size) for one in found]
 
     def load(self):
-        """Copies the store and reads the copy, while the program checks another one and opens a third."""
+        """Copies the store and reads the copy, while the program checks it and opens another one. Then the copy has no
+        name any more."""
         gc.disable()
         try:
             self.read()
         finally:
             gc.freeze()
             gc.enable()
+            private.unname(os.path.join(self.place, "copy"))
 
     def read(self):
         self.stamped = self.stamp()
-        self.copy = store.copied(self.source, self.place)
-        asked = {}
+        copy = store.copied(self.source, self.place)
+        self.incomplete = adsd_incomplete.line(self.source)
+        self.slots, asked = private.Slots(copy), {}
 
         def check():
             try:
-                asked["counts"] = program.counts(self.program, self.copy)
-                asked["walk"] = walks.Walk(self.program, self.copy, self.place, None, self.operator)
+                asked["counts"] = program.counts(self.program, copy)
+                asked["walk"] = walks.Walk(self.program, self.slots, self.place, None, self.operator)
             except BaseException as fault:
                 asked["fault"] = fault
 
-        beside = threading.Thread(target=check)
+        beside = threading.Thread(target=check, daemon=True)
         beside.start()
         fault = None
         try:
-            self.world = World(self.copy, self.calls)
+            self.world = World(copy, self.calls)
         except (store.Broken, LookupError, ValueError, struct.error) as why:
             fault = why
-        beside.join()
+        while beside.is_alive():
+            beside.join(0.5)
         if "fault" in asked:
             raise asked["fault"]
         if fault:
@@ -92,7 +97,7 @@ class Explorer:
         self.answers = Answers(self.world, self.calls)
         self.views = Views(self.world, self.answers, self.protected)
         self.principals = Principals(self.views)
-        self.walks = walks.Stable(lambda: walks.Walk(self.program, self.copy, self.place, self.world, self.operator))
+        self.walks = walks.Stable(lambda: walks.Walk(self.program, self.slots, self.place, self.world, self.operator))
 
     def find_protected(self, walk):
         """The objects that have AdminSDHolder's descriptor, frozen, and adminCount after a protection run on a copy."""
@@ -123,7 +128,8 @@ class Explorer:
 
     def start(self):
         """What the page begins with."""
-        return {"store": seen(os.path.basename(self.source)), "objects": len(self.world.objects),
+        return {"incomplete": self.incomplete, "store": told(os.path.basename(self.source)),
+                "objects": len(self.world.objects),
                 "accounts": len(self.views.accounts.numbers), "protected": len(self.protected),
                 "stale": len(self.world.stale), "pending": len(self.world.queue), "write": self.may_write,
                 "root": self.views.brief(1, self.now)}
@@ -132,12 +138,7 @@ class Explorer:
 
     def plan(self, changes, by):
         """The plan of some changes, made by somebody: an identifier's text, or nobody for the administrators."""
-        token = self.operator
-        if by:
-            sid = sid_of_text(by)
-            if sid is None:
-                raise Wrong("who makes the changes is no identifier")
-            token = self.views.accounts.token(sid)
+        token = self.views.accounts.token(sid_of_text(by)) if by else self.operator
         key = hashlib.sha256(json.dumps([changes, by], sort_keys=True).encode()).hexdigest()[:24]
         if key not in self.plans:
             made = Plan(key, self.world, self.walks, changes, token)
@@ -170,7 +171,8 @@ class Explorer:
         if self.stamp() != self.stamped:
             raise Changed("the store was written by another program since it was read: start the explorer anew")
         frames = plan.frames + ([requests.frame(walks.STEPS, 0, struct.pack(">I", walks.ALL_STEPS))] if settle else [])
-        serving = program.Serving(self.program, self.source)
+        # (the launcher, which looks whose the files are)
+        serving = program.Serving(ADSD, self.source)
         try:
             for frame in frames:
                 serving.answer(frame)
@@ -186,11 +188,17 @@ class Explorer:
             plan.close()
         self.plans = {}
         self.walks.close()
+        self.slots.close()
         self.load()
         self.warm()
 
     def close(self):
-        self.walks.close()
-        for plan in self.plans.values():
-            plan.close()
-        shutil.rmtree(self.place, ignore_errors=True)
+        """Ends the program's runs, and takes the copies away. What is being answered fails then, and nobody waits for it."""
+        self.tell = lambda line: None
+        try:
+            self.walks.close()
+            for plan in list(self.plans.values()):
+                plan.close()
+        finally:
+            self.slots.close()
+            self.folder.close()

@@ -22,7 +22,8 @@ class Missing(Exception):
 
 
 def found(place):
-    """The path of the shared library: the one that ADSD_LIBRARY names, the installed one, or one linked into `place`."""
+    """The path of the shared library: the one that ADSD_LIBRARY names, the installed one, or that of the release or of
+    what was built here, which comes into `place`."""
     given = os.environ.get("ADSD_LIBRARY")
     if given:
         return given

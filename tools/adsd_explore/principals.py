@@ -1,10 +1,10 @@
 """What somebody may do and where: ranked by harm, with the entry that decides and the chain of groups; and what stands
 out in the whole directory."""
 
-from adsd_import.report import shown
 from adsd_report.harms import HARMS
 
 from .answers import worst
+from .texts import told
 from .views import MOST_ROWS, count_of, each, on_words
 
 MOST_OBJECTS, MOST_FINDINGS = 8, 40
@@ -106,7 +106,7 @@ class Principals:
         for (kind, by, names), bits in merged.items():
             entries = self.world.known.list_of(on.normal)
             target = entries[by].sid if isinstance(by, int) else self.world.known.of(on.normal).owner
-            rows.append({"kind": kind, "names": [shown(name, 200) for name in names if name],
+            rows.append({"kind": kind, "names": [told(name, 200) for name in names if name],
                          "by": [self.views.deciding(on, by)], "rights": self.views.describing.rights(sum(bits)),
                          "chains": [[] if by == "privilege" else self.views.chain(on, sid, target)]})
         ranks = self.answers.ranks(on, token, number in self.views.protected)

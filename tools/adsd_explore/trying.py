@@ -8,9 +8,10 @@ from functools import cached_property
 from adsd_ask import ber, requests
 from adsd_ask.answers import CODES
 from adsd_import.descriptor import INHERITED
-from adsd_import.report import seen
 from adsd_import.sids import sid_of_text, text_of_sid
+from adsd_shown import shown
 
+from .texts import told
 from .walks import ALL_STEPS, MESSAGE, RUN, STEPS, TOKEN
 from .world import Moment
 
@@ -52,13 +53,13 @@ class Lists:
         except self.calls.error as fault:
             said = str(fault).partition(", at place ")[0]
             raise Wrong(f"at character {fault.place + 1}: {said}" if fault.code >= 32 else said) from None
-        shown = self.calls.sddl(data)
-        if not shown.startswith("D:") or "S:" in ENTRY.sub("", shown):
+        text = self.calls.sddl(data)
+        if not text.startswith("D:") or "S:" in ENTRY.sub("", text):
             raise Wrong("a list begins with D: and has nothing else")
-        entries = entries_of(shown)
+        entries = entries_of(text)
         if any(INHERITED & self.flags(one) for one in entries):
             raise Wrong("an entry with the flag ID is inherited, and none of the object's own")
-        return entries, shown.startswith("D:P")
+        return entries, text.startswith("D:P")
 
     def flags(self, entry):
         return INHERITED if "ID" in re.findall("..", entry.split(";")[1]) else 0
@@ -101,13 +102,13 @@ def put(entries, change, lists):
 
 
 def line_of_name(name):
-    """A name as it stands in a line of text: what would end or change the line is escaped."""
-    text = name.decode("utf-8", "surrogateescape")
+    """A name as it stands in a line of text: what would end or change the line is escaped, so that it reads back."""
+    text = shown(name.decode("utf-8", "surrogateescape"))
     return "".join(one if one.isprintable() else escaped(one) for one in text)
 
 
 def escaped(letter):
-    return "".join(f"\\{byte:02x}" for byte in letter.encode("utf-8", "surrogateescape"))
+    return "".join(f"\\{byte:02X}" for byte in letter.encode())
 
 
 def modify(number, name, flags, data):
@@ -205,8 +206,7 @@ class Plan:
                 grant = self.grant_of(change, name)
             text = list_text(entries, protected)
         data = self.world.calls.of_sddl(text, None)
-        shown = line_of_name(name)
-        line = (f"modify 0 dn={shlex.quote(shown)} sd={'owner' if flags == OWNER else 'dacl'} "
+        line = (f"modify 0 dn={shlex.quote(line_of_name(name))} sd={'owner' if flags == OWNER else 'dacl'} "
                 f"replace:nTSecurityDescriptor={shlex.quote('sddl:' + text)}")
         self.messages += 1
         body = self.send(walk, requests.frame(MESSAGE, 0, modify(self.messages, name, flags, data)), line)
@@ -215,16 +215,16 @@ class Plan:
         word = f"refused, {CODES.get(code, code)}" if code else "done"
         if code == 0 and after == before:
             word = "nothing is another than before"
-        self.told.append({"ok": code == 0, "said": word + (f": {seen(said)}" if said else ""), "text": text})
+        self.told.append({"ok": code == 0, "said": word + (f": {told(said)}" if said else ""), "text": text})
         self.grants.append(grant)
 
     def grant_of(self, change, name):
         """The line for `adsd grants` that does the same, where there is one."""
-        shown = line_of_name(name)
+        called = line_of_name(name)
         if change["op"] == "add":
             entry = self.lists.entry(change["ace"])
-            return f"{'deny' if entry.startswith(('(D;', '(OD;')) else 'grant'} {entry} {shown}"
-        return f"revoke {change['sid']} {shown}" if change["op"] == "revoke" else None
+            return f"{'deny' if entry.startswith(('(D;', '(OD;')) else 'grant'} {entry} {called}"
+        return f"revoke {change['sid']} {called}" if change["op"] == "revoke" else None
 
     def moment_of(self, walk):
         return Moment(self.world, dict(walk.changed), walk.queue, walk.step)

@@ -1,14 +1,15 @@
 """What the page is told of objects and principals, as JSON."""
 
-from adsd_import.report import shown
 from adsd_import.sddl import RIGHTS
-from adsd_import.sids import sid_of_text, text_of_guid
+from adsd_import.sids import text_of_guid
 from adsd_report.harms import HARMS, RANK, harm_of
 from adsd_report.names import CODES
 
 from .answers import RANK_BIT, SELF
 from .describing import Describing
 from .questions import WHOLE, codes
+from .texts import told
+from .trying import Wrong
 
 MOST_CHILDREN, MOST_NAMES, MOST_ROWS, MOST_ACCOUNTS = 200, 6, 12, 50
 # Members of a group that isn't protected are the same rights as those of one that is.
@@ -22,7 +23,7 @@ class NotThere(Exception):
 
 
 def on_words(question):
-    return ON[question.kind] + (f" {shown(question.name, 200)}" if question.name else "")
+    return ON[question.kind] + (f" {told(question.name, 200)}" if question.name else "")
 
 
 class Views:
@@ -81,7 +82,7 @@ class Views:
                     rights = self.answers.dangers(on, token).get(KEYS.get(HARMS[place].key, HARMS[place].key), [])
                     asked.setdefault(place, {}).update((self.asked_by(place, *one), None) for one in rights)
         return [{**self.rank(place), "count": count_of(mask), "first": self.few(mask),
-                 "rights": [list(one) for one in asked[place]]} for place, mask in sorted(found.items())]
+                 "rights": [[kind, told(name), code] for kind, name, code in asked[place]]} for place, mask in sorted(found.items())]
 
     def asked_by(self, place, question, bits):
         """The words by which a dangerous right is asked for."""
@@ -115,14 +116,14 @@ class Views:
         rights = [((question.kind, question.name, code), question) for question in of.lines
                   for code in codes(question.bits)]
         first = sorted((one for one in rights if one[0] in ranks), key=lambda one: ranks[one[0]])
-        return {"class": self.world.schema.class_names[of_class],
+        return {"class": told(self.world.schema.class_names[of_class]),
                 "first": [self.said(right, question, ranks) for right, question in first],
                 "all": [self.said(right, question, {}) for right, question in rights]}
 
     def classes(self):
         """The structural classes, with their GUIDs."""
         schema = self.world.schema
-        return [{"name": name, "guid": text_of_guid(schema.class_guid(place))}
+        return [{"name": told(name), "guid": text_of_guid(schema.class_guid(place))}
                 for place, name in enumerate(schema.class_names)
                 if schema.classes[place].number("objectClassCategory") in (0, 1)]
 
@@ -132,22 +133,28 @@ class Views:
     def said(self, right, question, ranks):
         kind, name, code = right
         place = ranks.get(right)
-        called = shown(name, 200)
+        called = told(name, 200)
         words = f"{CODES[code]}: {ON[kind]}" + (f" {called}" if name else "")
         if place is not None:
             words = f"{HARMS[place].title}" + (f": {called}" if name and kind != "right" else "")
-        return {"right": list(right), "words": words,
+        return {"right": [kind, told(name), code], "words": words,
                 "guid": text_of_guid(question.path[-16:]) if question.path else ""}
 
     def question(self, number, kind, name, code):
         of = self.answers.questions.of(self.world.objects[number].of_class)
-        found = next((one for one in of.lines if (one.kind, one.name) == (kind, name)), None)
+        found = only([(one.name, one) for one in of.lines if one.kind == kind and told(one.name) == name],
+                     "the object's class has no such right")
         bits = WHOLE if (kind, code) == ("object", "all") else RIGHTS.get(code, 0)
-        if found is None or not found.bits & bits:
+        if not found.bits & bits:
             raise NotThere("the object's class has no such right")
-        if kind == "attribute" and code == "RP" and self.world.schema.reads_by_control(name):
+        if kind == "attribute" and code == "RP" and self.world.schema.reads_by_control(found.name):
             bits |= RIGHTS["CR"]
         return found, bits
+
+    def class_called(self, name):
+        """The place of the class that is called so."""
+        names = enumerate(self.world.schema.class_names)
+        return only([(one, place) for place, one in names if told(one).lower() == name.lower()], "no such class")
 
     def path_of(self, number, question):
         """The path on which a right is explained; of a property set that of its first attribute."""
@@ -209,6 +216,15 @@ class Views:
         return made
 
 
+def only(pairs, why):
+    """What has a name, of pairs of names that are told alike: none answers a question that may be about another."""
+    if not pairs:
+        raise NotThere(why)
+    if len({name for name, _ in pairs}) > 1:
+        raise Wrong("several things of the schema have names that are told alike")
+    return pairs[0][1]
+
+
 def each(bits):
     while bits:
         yield bits & -bits
@@ -223,10 +239,3 @@ def most_first(item):
     """The order of pairs of what decides and the accounts: by how many these are, then by the places of entries."""
     by, mask = item
     return -count_of(mask), [one if isinstance(one, int) else -1 for one in by]
-
-
-def sid_given(text):
-    made = sid_of_text(text)
-    if made is None:
-        raise NotThere("that is no identifier")
-    return made

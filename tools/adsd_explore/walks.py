@@ -9,11 +9,12 @@ import uuid
 
 from adsd_ask import requests
 from adsd_report import store
-from adsd_report.program import Serving, copy_slots
+from adsd_report.program import Serving
+
+from .private import SHARED, unname
 
 TOKEN, MESSAGE, STEPS, RUN = 1, 2, 3, 4
 ALL_STEPS = 1_000_000
-SHARED = "/dev/shm"
 
 
 def folder_for(size):
@@ -91,18 +92,19 @@ def pending_of(row):
 
 class Walk:
     """A run of `serve` over a copy of its own, and what stands otherwise in it than in the store: descriptors, and the
-    pending list."""
+    pending list. The copy has no name any more once the program has it open."""
 
     def __init__(self, program, source, folder, world, token):
         self.path = os.path.join(folder, f"walk-{uuid.uuid4().hex}")
-        copy_slots(source, self.path)
-        self.serving, self.rows, self.step = Serving(program, self.path), {}, 0
-        self.changed = {}
+        self.serving, self.tail, self.rows, self.step, self.changed = None, None, {}, 0, {}
         if world:
             self.over(world)
         try:
+            source.put(self.path)
+            self.serving = Serving(program, self.path)
             self.serving.answer(requests.frame(TOKEN, 0, token.data))
             self.tail = Tail(self.path)
+            unname(self.path)
         except BaseException:
             self.close()
             raise
@@ -143,13 +145,12 @@ class Walk:
 
     def close(self):
         try:
-            self.serving.close()
+            if self.serving:
+                self.serving.close()
         finally:
-            if hasattr(self, "tail"):
+            if self.tail:
                 self.tail.close()
-            for slot in store.SLOTS:
-                if os.path.exists(self.path + slot):
-                    os.unlink(self.path + slot)
+            unname(self.path)
 
 
 class Stable:

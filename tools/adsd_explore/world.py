@@ -3,7 +3,6 @@
 from functools import cached_property
 
 from adsd_import.names import value_text
-from adsd_import.report import shown
 from adsd_import.sids import text_of_sid
 from adsd_report import store
 from adsd_report.names import Principals
@@ -11,6 +10,18 @@ from adsd_report.state import State
 
 from . import tokens
 from .normals import Known
+from .texts import told
+
+
+class Named(Principals):
+    """The principals, and what an identifier is called as the page has it."""
+
+    def name(self, sid):
+        number, text = self.of_sid.get(bytes(sid)), text_of_sid(sid)
+        naming = b"" if number is None else self.state.objects[number].naming
+        if number is not None and naming.decode("utf-8", "replace") != text:
+            return told(naming, 80)
+        return super().name(sid)
 
 
 class World(State):
@@ -21,7 +32,7 @@ class World(State):
         # Each descriptor once, and of each object the bytes of its row in front of its own.
         self.kept, self.fronts, self.owns = {}, {}, {}
         self.over(self.interned(path))
-        self.who = Principals(self)
+        self.who = Named(self)
 
     def interned(self, path):
         """The directory, with equal descriptors kept once."""
@@ -70,20 +81,20 @@ class World(State):
 
     def label(self, number, most=80):
         """What an object is called in short: its naming value."""
-        return shown(self.objects[number].naming, most)
+        return told(self.objects[number].naming, most)
 
     def first_part(self, number):
         """The first part of a name, as the tree shows it; of the root its whole name."""
         if number == 1:
-            return shown(self.names[1], 400)
+            return told(self.names[1], 400)
         one = self.objects[number]
-        return shown(self.schema.naming(one.of_class).encode() + b"=" + value_text(one.naming), 400)
+        return told(self.schema.naming(one.of_class).encode() + b"=" + value_text(one.naming), 400)
 
     def dn(self, number):
-        return shown(self.names[number], 4000)
+        return told(self.names[number], 4000)
 
     def class_name(self, number):
-        return self.schema.class_names[self.objects[number].of_class]
+        return told(self.schema.class_names[self.objects[number].of_class], 200)
 
     def above(self, number):
         """The objects above one, the root first."""

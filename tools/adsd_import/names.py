@@ -4,6 +4,8 @@ import re
 from dataclasses import dataclass
 from typing import Tuple
 
+from adsd_shown import shown_bytes
+
 TYPE = re.compile(rb"[A-Za-z][A-Za-z0-9-]*")
 BLANKS = re.compile(rb" *")
 ESCAPED = b'"+,;<>\\ #='
@@ -12,6 +14,10 @@ HEX = re.compile(rb"[0-9A-Fa-f]{2}")
 
 class NoName(Exception):
     """Bytes that are no name, with why."""
+
+
+class NoText(NoName):
+    """A name with bytes that aren't UTF-8."""
 
 
 @dataclass(frozen=True)
@@ -30,17 +36,15 @@ class Name:
 
 
 def value_text(value):
-    """The written text of a value."""
+    """The written text of a value: what parts a name is escaped by itself, and what isn't to be printed is spelled."""
     made = bytearray()
     for at, byte in enumerate(value):
         edge = (byte == 0x20 and at in (0, len(value) - 1)) or (byte == 0x23 and at == 0)
-        if byte == 0:
-            made += b"\\00"
-        elif edge or byte in b'"+,;<>\\':
+        if edge or byte in b'"+,;<>\\':
             made += b"\\" + bytes([byte])
         else:
             made.append(byte)
-    return bytes(made)
+    return shown_bytes(bytes(made))
 
 
 def escape_at(text, at):
@@ -102,7 +106,7 @@ def read(text):
         try:
             value.decode()
         except UnicodeDecodeError:
-            raise NoName("a value that isn't UTF-8") from None
+            raise NoText("a value that isn't UTF-8") from None
         parts.append((kind[0].decode().upper(), value))
         if at == len(text):
             break

@@ -1,14 +1,20 @@
 """The objects of an export: which are taken, and what is mended in their values. Descriptors are left to `rights`."""
 
+import re
 from dataclasses import dataclass, field
 from typing import Dict, List, Optional, Tuple
 
 from . import names, values
-from .report import Refused, shown
+from .report import ACCOUNTS, MEMBERS, PARENTS, SCHEMA, TEXTS, Refused, shown
 from .schema import lower
 from .text import Line, Record
 
 MOST_OBJECTS, MOST_ABOVE = 65536, 64
+RANGE = re.compile(r"range=([0-9]+)-([0-9]+|\*)", re.I)
+# Why an object isn't taken that the export lacks something for, and what that is.
+NO_CLASS, NO_PARENT = "the schema hasn't its class", "its parent isn't in the export"
+NO_SID = "its objectSid can't be read, and entries for the principal itself would miss it"
+LACKING = {NO_CLASS: SCHEMA, NO_PARENT: PARENTS, NO_SID: ACCOUNTS}
 
 
 @dataclass
@@ -35,6 +41,9 @@ def named(records, report):
     for record in records:
         try:
             name = names.read(record.dn)
+        except names.NoText as why:
+            report.missing(record.where, TEXTS, f"object {shown(record.dn)}", f"its name can't be read: {why}")
+            continue
         except names.NoName as why:
             report.loss(record.where, f"object {shown(record.dn)}", f"its name can't be read: {why}")
             continue
@@ -70,7 +79,7 @@ def class_of(one, schema):
     told = [lower(line.value) for line in lines]
     for name in told:
         if name not in schema.classes:
-            return None, [], f"its class {shown(name)} isn't in the schema"
+            return None, [], f"{NO_CLASS} {shown(name)}"
     category = {name: schema.classes[name].value("objectClassCategory", b"1") for name in told}
     for name in told:
         chain = schema.chain(name)
@@ -86,14 +95,31 @@ def plain_name(line, one, report):
     name, _, option = line.name.partition(";")
     if not option:
         return name
-    if option.lower().startswith("range="):
-        if not option.endswith("*"):
-            report.loss(line.where, f"{line.name} of {one.words()}", "a part of the values; the rest may be missing")
+    if RANGE.fullmatch(option):
         return name
     if option.lower() == "binary":
         return name
     report.left_out(line.where, f"{line.name} of {one.words()}", "its option isn't taken")
     return None
+
+
+def whole_ranges(one, report):
+    """Reports attributes of which an object has ranges (`member;range=0-1499`), but not all from 0 to the end (`*`)."""
+    found = {}
+    for line in one.record.lines:
+        name, _, option = line.name.partition(";")
+        told = RANGE.fullmatch(option)
+        if told:
+            found.setdefault(name.lower(), {})[int(told[1])] = (told[2], line)
+    for ranges in found.values():
+        wanted = 0
+        for first, (last, line) in sorted(ranges.items(), key=lambda item: item[0]):
+            if first != wanted or last == "*":
+                break
+            wanted = int(last) + 1
+        if first != wanted or last != "*":
+            what = f"{line.name} of {one.words()}"
+            report.missing(line.where, MEMBERS, what, f"a part of the values, and those from {wanted} on are missing")
 
 
 class Values:
@@ -110,6 +136,7 @@ class Values:
             line.name.lower() == "objectsid" for line in one.record.lines)
         one.is_head = any(line.name.lower() == "instancetype" and line.value.isdigit() and int(line.value) & 1
                           for line in one.record.lines)
+        whole_ranges(one, self.report)
         for line in one.record.lines:
             name = plain_name(line, one, self.report)
             if name is None:
@@ -120,9 +147,13 @@ class Values:
             if low == "ntsecuritydescriptor":
                 one.descriptors.append(line)
             elif low not in self.schema.attributes:
-                self.report.left_out(line.where, f"{name} of {one.words()}", "no attribute of the schema")
+                self.report.missing(line.where, SCHEMA, f"{name} of {one.words()}", "no attribute of the schema")
             elif low in ("objectclass", "distinguishedname", "name", naming) or self.schema.is_back_link(low):
-                kept.append(line)
+                if values.is_foreign(self.schema.syntax(low), line.value):
+                    what = f"{line.name} {shown(line.value, 40)} of {one.words()}"
+                    self.report.missing(line.where, TEXTS, what, "it isn't UTF-8")
+                else:
+                    kept.append(line)
             elif self.take(one, line, low, seen):
                 kept.append(line)
         one.record.lines = kept
@@ -132,8 +163,14 @@ class Values:
         what = f"{line.name} {shown(line.value, 40)} of {one.words()}"
         try:
             value, key, mend = values.read(low, self.schema.syntax(low), line.value)
+        except values.NoText as why:
+            self.report.missing(line.where, TEXTS, what, str(why))
+            return False
         except values.NoValue as why:
-            self.report.loss(line.where, what, str(why))
+            if low == "member":
+                self.report.missing(line.where, MEMBERS, what, str(why))
+            else:
+                self.report.loss(line.where, what, str(why))
             return False
         if seen.get(low) and (self.schema.is_single(low) or key in seen[low]):
             why = "the object has it already" if key in seen[low] else "a second value where one is meant"
@@ -150,13 +187,13 @@ class Values:
         return True
 
 
-def why_not(one, kept, taken, schema, root):
+def why_not(one, kept, taken, schema, root, given):
     """Why an object can't be taken, and the lines of objectClass that are taken out; ("", lines) where it can."""
     if "objectclass" in one.record.broken:
         return "a line of its objectClass can't be read", []
     if one is not root:
         if one.key[1:] not in kept:
-            return "its parent isn't in the export, or was left out", []
+            return "its parent was left out" if one.key[1:] in given else NO_PARENT, []
         if len(one.key) - len(root.key) > MOST_ABOVE:
             return "more than 64 objects stand above it", []
     of_class, rest, why = class_of(one, schema)
@@ -171,16 +208,25 @@ def why_not(one, kept, taken, schema, root):
     return "", rest
 
 
+def not_taken(one, why, report):
+    """Reports an object that isn't taken."""
+    sort = next((sort for lacking, sort in LACKING.items() if why.startswith(lacking)), None)
+    if sort is None:
+        report.loss(one.record.where, f"object {one.words()}", why)
+    else:
+        report.missing(one.record.where, sort, f"object {one.words()}", why)
+
+
 def take_objects(found, root, schema, report):
     """The objects that are taken, by key, parents before their children."""
     kept, taken, sids = {}, {}, {}
-    keep = Values(schema, report)
+    keep, given = Values(schema, report), {one.key for one in found}
     for one in found:
         if one is not root and len(one.key) <= len(root.key):
             why = f"{root.record.where} has its name" if one.key == root.key else f"it isn't below {root.words()}"
             report.loss(one.record.where, f"object {one.words()}", why)
             continue
-        why, rest = why_not(one, kept, taken, schema, root)
+        why, rest = why_not(one, kept, taken, schema, root, given)
         if not why:
             for line in rest:
                 what = f"objectClass {shown(line.value)} of {one.words()}"
@@ -190,11 +236,11 @@ def take_objects(found, root, schema, report):
             if one.sid is not None and one.sid in sids:
                 why = f"it has the objectSid of {sids[one.sid].words()}"
             if one.sid is None and one.has_sid:
-                why = "its objectSid can't be read, and entries for the principal itself would miss it"
+                why = NO_SID
         if why:
             if one is root:
                 raise Refused(f"{one.record.where}: the root {one.words()} can't be taken: {why}")
-            report.loss(one.record.where, f"object {one.words()}", why)
+            not_taken(one, why, report)
             continue
         kept[one.key] = one
         taken[one.key[1:], one.key[0][1]] = one
@@ -202,14 +248,25 @@ def take_objects(found, root, schema, report):
     return kept
 
 
+def is_of_elsewhere(target):
+    """Whether a name is that of a foreign principal which is an account of another domain. (Everybody has the
+    well-known ones, as S-1-5-11: without their objects the groups that these are in are missed.)"""
+    return (("CN", "foreignsecurityprincipals") in target[1:2] and target[0][0] == "CN"
+            and target[0][1].startswith("s-1-5-21-"))
+
+
 def drop_links(kept, report):
     """Takes out the links that lead to no object."""
     for one in kept.values():
-        outside = [line for line, target in one.links if target not in kept]
-        for line in outside:
-            report.loss(line.where, f"{line.name} of {one.words()}", f"{shown(line.value, 120)} is no object here")
+        outside = [(line, target) for line, target in one.links if target not in kept]
+        for line, target in outside:
+            what, why = f"{line.name} of {one.words()}", f"{shown(line.value, 120)} is no object here"
+            if line.name.lower() != "member" or is_of_elsewhere(target):
+                report.loss(line.where, what, why)
+            else:
+                report.missing(line.where, MEMBERS, what, why)
         if outside:
-            gone = {id(line) for line in outside}
+            gone = {id(line) for line, _ in outside}
             one.record.lines = [line for line in one.record.lines if id(line) not in gone]
 
 

@@ -2,7 +2,9 @@
 
 import base64
 
-from .report import Refused
+import adsd_incomplete
+
+from .report import Refused, seen
 from .schema import LISTS, REQUIRED, SINGLE
 
 LIMIT = 67108864
@@ -31,6 +33,11 @@ def record_text(record):
     return b"\n".join(lines) + b"\n\n"
 
 
+def comment(lacked):
+    """The first line of the text where the export lacks something."""
+    return f"# {adsd_incomplete.sentence(seen(lacked))}\n".encode("utf-8", "backslashreplace") if lacked else b""
+
+
 def table_of(kind):
     return {name.lower() for name in REQUIRED[kind] + SINGLE[kind] + LISTS[kind]} | {"objectclass"}
 
@@ -44,7 +51,7 @@ def may_go(schema, objects):
     for one in schema.records:
         table = table_of(one.kind)
         for line in one.record.lines:
-            if line.name.lower() not in table:
+            if line.name.lower() not in table and line.name != adsd_incomplete.ATTRIBUTE:
                 found.setdefault((0, "lines of the schema that no rule reads"), []).append((one.record, line))
     for one in objects:
         naming = one.name.parts[0][0].lower()
@@ -61,9 +68,9 @@ def size_of(lines):
     return sum(len(line_text(line.name, line.value)) + 1 for _, line in lines)
 
 
-def fit(schema, objects, limit, report):
+def fit(schema, objects, limit, lacked, report):
     """Takes attributes out until the text has at most `limit` bytes: by groups, and in a group the greatest first."""
-    total = sum(len(record_text(one.record)) for one in [*schema.records, *objects])
+    total = len(comment(lacked)) + sum(len(record_text(one.record)) for one in [*schema.records, *objects])
     if total <= limit:
         return
     found = {key: (size_of(lines), lines) for key, lines in may_go(schema, objects).items()}
@@ -81,6 +88,6 @@ def fit(schema, objects, limit, report):
                       "take a part by --base")
 
 
-def text_of(schema, objects):
-    """The whole text."""
-    return b"".join([record_text(one.record) for one in schema.records] + [record_text(one.record) for one in objects])
+def text_of(schema, objects, lacked):
+    """The whole text; `lacked` is what is missing of the export, empty where nothing is."""
+    return comment(lacked) + b"".join(record_text(one.record) for one in [*schema.records, *objects])

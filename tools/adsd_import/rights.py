@@ -9,6 +9,7 @@ from dataclasses import replace
 from . import sddl
 from .descriptor import ALLOW, DENY, INHERIT_ONLY, INHERITED, Acl, Descriptor, Unreadable, written
 from .descriptor import read as read_bytes
+from .report import DESCRIPTORS
 from .schema import lost_entries
 from .sids import CREATOR_GROUP, CREATOR_OWNER, NOBODY, OWNER_RIGHTS, sid_of_text
 from .text import Line
@@ -100,6 +101,10 @@ class Rights:
         self.schema, self.domain, self.defaults, self.report = schema, domain, defaults, report
         self.lists = {}
 
+    def closes(self, where, what, why):
+        """Reports a descriptor that grants nothing now."""
+        self.report.missing(where, DESCRIPTORS, what, f"{why}; written as one that grants nothing")
+
     def told(self, one):
         """The descriptor of an object's lines with its place; a closed one where it can't be read."""
         what = f"the descriptor of {one.words()}"
@@ -113,7 +118,7 @@ class Rights:
                 made, lost, mends = sddl.read(line.value.decode("latin-1"), self.domain)
                 self.report.mended(line.where, what, ", ".join(["a text, written as bytes"] + mends))
         except Unreadable as why:
-            self.report.loss(line.where, what, f"{why}; written as one that grants nothing")
+            self.closes(line.where, what, why)
             return closed(), line
         lost_entries(lost, line.where, one.words(), self.report)
         return self.filled(made, line, what), line
@@ -122,10 +127,10 @@ class Rights:
         """A descriptor with all parts that it has to have."""
         if made.dacl is None:
             why = "its list is null, which grants all to all" if made.null else "it has no discretionary list"
-            self.report.loss(line.where, what, f"{why}; written as one that grants nothing")
+            self.closes(line.where, what, why)
             made.dacl = Acl([], True)
         if made.owner is None:
-            self.report.mended(line.where, what, "it has no owner; written is S-1-0-0, which is nobody")
+            self.report.missing(line.where, DESCRIPTORS, what, "it has no owner; written is S-1-0-0, which is nobody")
         if made.group is None:
             self.report.mended(line.where, what, "it has no group; written is S-1-0-0, which is nobody")
         made.owner, made.group = made.owner or NOBODY, made.group or NOBODY
@@ -166,7 +171,7 @@ class Rights:
             return written(made), made
         except Unreadable as why:
             what = f"the descriptor of {one.words()}"
-            self.report.loss(line.where, what, f"{why}; written as one that grants nothing")
+            self.closes(line.where, what, why)
             return written(closed()), closed()
 
     def give(self, one):
@@ -176,9 +181,10 @@ class Rights:
             if self.defaults:
                 why = "it isn't in the export; loading gives the default of the class"
                 self.report.denies(one.record.where, what, why)
+                self.report.missing(one.record.where, DESCRIPTORS, what, why)
                 self.lists[one.key] = self.whole(one, self.default(one), self.lists.get(one.key[1:], []))
                 return
-            self.report.loss(one.record.where, what, "it isn't in the export; written as one that grants nothing")
+            self.closes(one.record.where, what, "it isn't in the export")
             made, line = closed(), Line(one.record.where, "nTSecurityDescriptor", b"")
         else:
             made, line = self.told(one)

@@ -6,7 +6,7 @@ from typing import Dict, List, Optional
 
 from . import names, sddl
 from .descriptor import Unreadable
-from .report import Refused, shown
+from .report import RIGHTS, SCHEMA, Refused, shown
 from .sids import GUID, guid_of_text
 from .text import MOST, Line, Record
 
@@ -24,6 +24,7 @@ LINE_NAME = re.compile(r"[A-Za-z0-9;-]+")
 UNTOLD = ("objectclass", "distinguishedname", "name", "unicodepwd", "ntsecuritydescriptor")
 CONFIDENTIAL = b"128"
 VALIDATED_WRITE = 8
+NO_SET = "its property set can't be read, so entries for the set would miss it"
 
 
 @dataclass
@@ -102,6 +103,11 @@ class Schema:
         return self.classes[name].value("schemaIDGUID")
 
 
+def sort_of(kind):
+    """What an export lacks that lacks a record of a kind."""
+    return RIGHTS if kind == "right" else SCHEMA
+
+
 def lower(value):
     return value.decode("utf-8", "replace").lower()
 
@@ -155,7 +161,7 @@ def read_record(kind, record, report):
             for other in made.told.get(name, ()):
                 other.value = CONFIDENTIAL
         if value is None and name == "attributesecurityguid":
-            report.loss(line.where, what, "its property set can't be read, so entries for the set would miss it")
+            report.missing(line.where, SCHEMA, what, NO_SET)
             return None
         if value is None or (name in once and name in made.told):
             why = "its value can't be read" if value is None else "a second value where one is meant"
@@ -176,10 +182,10 @@ def completed(made, what, report):
     record = made.record
     for name in REQUIRED[made.kind]:
         if name.lower() not in made.told:
-            report.loss(record.where, what, f"it has no {name}")
+            report.missing(record.where, sort_of(made.kind), what, f"it has no {name}")
             return None
     if "attributesecurityguid" in record.broken:
-        report.loss(record.where, what, "its property set can't be read, so entries for the set would miss it")
+        report.missing(record.where, SCHEMA, what, NO_SET)
         return None
     for name, value in (("searchFlags", CONFIDENTIAL), ("defaultSecurityDescriptor", b"D:P")):
         if name.lower() in record.broken and name in SINGLE[made.kind] and name.lower() not in made.told:
@@ -222,7 +228,8 @@ def without_broken_chains(classes, report):
         for name, one in list(good.items()):
             above = lower(one.value("subClassOf"))
             if above not in good:
-                report.loss(one.record.where, f"class {one.name()}", f"the class above it, {shown(above)}, isn't there")
+                why = f"the class above it, {shown(above)}, isn't there"
+                report.missing(one.record.where, SCHEMA, f"class {one.name()}", why)
                 del good[name]
                 again = True
     for name in list(good):
@@ -231,7 +238,8 @@ def without_broken_chains(classes, report):
             seen.add(at)
             at = lower(good[at].value("subClassOf"))
         if at not in good or lower(good[at].value("subClassOf")) != at:
-            report.loss(good[name].record.where, f"class {good[name].name()}", "its classes above lead in a circle")
+            what = f"class {good[name].name()}"
+            report.missing(good[name].record.where, SCHEMA, what, "its classes above lead in a circle")
             del good[name]
     return good
 
@@ -244,7 +252,7 @@ def drop_unknown(schema, report):
             for line in list(one.told.get(name, ())):
                 if lower(line.value) not in known:
                     what = f"{line.name} of class {one.name()}"
-                    report.left_out(line.where, what, f"{shown(line.value)} isn't there")
+                    report.missing(line.where, SCHEMA, what, f"{shown(line.value)} isn't there")
                     one.drop(line)
 
 
@@ -256,7 +264,8 @@ def read(records, report):
         try:
             name = names.read(record.dn)
         except names.NoName as why:
-            report.loss(record.where, f"{kind} {shown(record.dn)}", f"its name can't be read: {why}")
+            what = f"{kind} {shown(record.dn)}"
+            report.missing(record.where, sort_of(kind), what, f"its name can't be read: {why}")
             continue
         record.dn = name.text() if name.mended else record.dn
         one = read_record(kind, record, report)

@@ -6,7 +6,7 @@ import re
 from dataclasses import dataclass, field
 from typing import List, Set
 
-from .report import shown
+from .report import ENDS, LINES, TEXTS, shown
 
 MOST = 1048576
 # Ranges of values (`member;range=0-1499`) stand in names too.
@@ -17,6 +17,8 @@ VERSION = re.compile(rb"version\s*:", re.I)
 BEGUN = re.compile(rb"^dn\s*:", re.I | re.M)
 TOLD = re.compile(rb"^# (?:returned|numEntries:) ([0-9]{1,15})(?: records)?\r?$", re.M)
 TELLING = re.compile(rb"^# (?:record [0-9]+|extended LDIF|LDAPv3)\r?$", re.M)
+# What ldapsearch with -LL or -LLL writes behind a page of a search, with nothing behind cookie= behind the last one.
+PAGE = re.compile(rb"^# pagedresults:.*\bcookie=(\S*)\r?$", re.M)
 LF = b"\n"
 TRAILERS = (b"ref", b"search", b"result", b"matcheddn", b"text", b"control")
 
@@ -51,7 +53,11 @@ def unmarked(data, where, report):
     for mark, coding in ((b"\xff\xfe", "utf-16-le"), (b"\xfe\xff", "utf-16-be")):
         if data[:2] == mark:
             report.mended(where, "text in UTF-16", "written in UTF-8")
-            return data[2:].decode(coding, "replace").encode()
+            try:
+                return data[2:].decode(coding).encode()
+            except UnicodeDecodeError as why:
+                report.missing(where, TEXTS, "text in UTF-16", f"at byte {why.start + 2} it is none, or cut off")
+                return data[2:].decode(coding, "replace").encode()
     return data
 
 
@@ -107,16 +113,16 @@ def line_of(where, text, report):
     name, colon, rest = text.partition(b":")
     word = shown(name)
     if not colon or not NAME.fullmatch(name) or b"\0" in text:
-        report.left_out(where, f"line `{shown(text)}`", "it has no colon, a NUL, or a name that is none")
+        report.missing(where, LINES, f"line `{shown(text)}`", "it has no colon, a NUL, or a name that is none")
         return None
     if rest[:1] == b"<":
-        report.left_out(where, word, "its value would be fetched from a URL")
+        report.missing(where, LINES, word, "its value would be fetched from a URL")
         return None
     if rest[:1] != b":":
         return Line(where, name.decode(), rest.lstrip(b" \t"))
     value = decoded(where, word, rest[1:].lstrip(b" \t"), report)
     if value is None:
-        report.left_out(where, word, "its base64 can't be read")
+        report.missing(where, LINES, word, "its base64 can't be read")
         return None
     return Line(where, name.decode(), value)
 
@@ -128,11 +134,11 @@ def trailer(lines, report):
     for at, text in lines:
         found = re.match(rb"result:\s*([0-9]+)", text)
         if found and int(found[1]):
-            report.loss(at, f"`{shown(text)}`", "the export isn't whole")
+            report.missing(at, ENDS, f"`{shown(text)}`", "the search ended early, so the export isn't whole")
     if name in TRAILERS:
         report.left_out(where, f"`{shown(first)}`", "a referral or the end of a search, and no object")
     else:
-        report.left_out(where, f"block of `{shown(first)}`", "it has no dn")
+        report.missing(where, LINES, f"block of `{shown(first)}`", "it has no dn")
 
 
 def record_of(lines, report):
@@ -151,7 +157,7 @@ def record_of(lines, report):
         return None
     first = line_of(*lines[0], report)
     if first is None or len(first.value) > MOST:
-        report.loss(lines[0][0], "record", "its dn is too long or can't be read")
+        report.missing(lines[0][0], LINES, "record", "its dn is too long or can't be read")
         return None
     record = Record(first.where, first.value)
     for place, (where, text) in enumerate(lines[1:]):
@@ -202,28 +208,35 @@ def ended(lines, last, report):
     if [text for _, text in lines[-2:]] == [None, None]:
         return
     where, text = last[-1]
+    how = "behind it, without an empty line" if lines[-1][1] is None else "within it"
+    report.missing(where, ENDS, f"last line `{shown(text)}`", f"the export ends {how}, so it may be cut off")
     if re.match(rb"nTSecurityDescriptor\s*:", text, re.I):
         name = next(line for _, line in last if DN.match(line))
         report.denies(where, f"the descriptor of `{shown(name)}`", "the export ends in it, so it may be cut")
-    else:
-        how = "behind it, without an empty line" if lines[-1][1] is None else "within it"
-        report.loss(where, f"last line `{shown(text)}`", f"the export ends {how}, so it may be cut off")
 
 
 def counted(data, file, report):
     """Reports an export that has other records than it says, or that doesn't end as the tool ends it that made it."""
     begun = [found.start() for found in BEGUN.finditer(data)]
-    told = list(TOLD.finditer(data))
-    where = f"{file}:{data.count(LF)}"
+    told, pages = list(TOLD.finditer(data)), list(PAGE.finditer(data))
+    where, what = f"{file}:{data.count(LF)}", f"end of {file}"
     if told:
         said = sum(int(found[1]) for found in told)
         report.file(file, len(begun), f"it says that there are {said}")
         if said != len(begun):
-            report.loss(where, "export", f"it says that it has {said} records, and {len(begun)} are there")
+            report.missing(where, ENDS, what, f"it says that it has {said} records, and {len(begun)} are there")
         elif begun and told[-1].start() < begun[-1]:
-            report.loss(where, "export", "nothing behind its last records says how many they are, so it may be cut")
+            report.missing(where, ENDS, what, "nothing behind its last records says how many they are")
+    elif begun and pages and not TELLING.search(data):
+        report.file(file, len(begun), "it says where its last page ends, or should")
+        if pages[-1][1] or pages[-1].start() < begun[-1]:
+            report.missing(where, ENDS, what, "its last page is missing, or the end of that")
     elif begun and TELLING.search(data):
         report.file(file, len(begun), "it should say how many there are, and doesn't")
-        report.loss(where, "export", "the end is missing that its tool writes, so it is cut off")
-    else:
+        report.missing(where, ENDS, what, "the last lines are missing that its tool writes, so it is cut off")
+    elif begun:
+        report.untold.append((file, len(begun)))
         report.file(file, len(begun), "it doesn't say how many there should be, so a cut between two isn't seen")
+    else:
+        report.file(file, 0, "it is empty")
+        report.missing(f"{file}:1", ENDS, what, "no record is in it")

@@ -9,6 +9,9 @@ MOST = 1048576
 # How ldbsearch shows two numbers of 32 bits in one of 64, the lower one first.
 POOL = re.compile(rb"([0-9]{1,10})-([0-9]{1,10})")
 NUMBER = re.compile(rb"[+-]?[0-9]+")
+# The syntaxes of texts: of object identifiers, of letters with and without their case, of ASCII, of digits, of names
+# with something, of times, of Unicode.
+TEXTS = tuple(f"2.5.5.{number}" for number in (2, 3, 4, 5, 6, 7, 11, 12, 14))
 BITS = {"2.5.5.9": 32, "2.5.5.16": 64}
 EXTENDED = re.compile(rb"(?:<(?:GUID|SID|WKGUID|RMD_[A-Z]+)=[^>]*>;)+", re.I)
 
@@ -17,11 +20,17 @@ class NoValue(Exception):
     """Bytes that are no value of a syntax, with why."""
 
 
+class NoText(NoValue):
+    """Bytes that aren't UTF-8, where a text is meant."""
+
+
 def name_value(value):
     """A name: its bytes, its key and what was mended. An extended name has its GUID and its identifier taken off."""
     plain = EXTENDED.sub(b"", value)
     try:
         name = names.read(plain)
+    except names.NoText as why:
+        raise NoText(f"it is no name: {why}") from None
     except names.NoName as why:
         raise NoValue(f"it is no name: {why}") from None
     if name.mended:
@@ -63,12 +72,27 @@ def sid_value(value):
     return (value, sid, "") if value.upper() == text.upper() else (text, sid, "the identifier's spelling")
 
 
-def text_value(value, ascii_only):
+def is_foreign(syntax, value):
+    """Whether a value isn't UTF-8 where its syntax is a text or a name."""
+    if syntax not in TEXTS and syntax != "2.5.5.1":
+        return False
     try:
-        text = value.decode("ascii" if ascii_only else "utf-8")
+        value.decode()
     except UnicodeDecodeError:
-        raise NoValue("it isn't " + ("ASCII" if ascii_only else "UTF-8")) from None
-    return value, text.lower() if ascii_only else text.casefold(), ""
+        return True
+    return False
+
+
+def text_value(value, syntax):
+    """A text: those of object identifiers are ASCII, and of the syntaxes without a rule here only UTF-8 is asked."""
+    try:
+        text = value.decode()
+        if syntax == "2.5.5.2":
+            value.decode("ascii")
+    except UnicodeDecodeError:
+        raise NoText("it isn't " + ("ASCII" if syntax == "2.5.5.2" else "UTF-8")) from None
+    key = {"2.5.5.2": text.lower(), "2.5.5.12": text.casefold()}.get(syntax, value)
+    return value, key, ""
 
 
 def read(attribute, syntax, value):
@@ -89,6 +113,6 @@ def read(attribute, syntax, value):
         return octets_value(attribute, value)
     if syntax == "2.5.5.17":
         return sid_value(value)
-    if syntax in ("2.5.5.2", "2.5.5.12"):
-        return text_value(value, syntax == "2.5.5.2")
+    if syntax in TEXTS:
+        return text_value(value, syntax)
     return value, value, ""

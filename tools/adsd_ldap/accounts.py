@@ -8,7 +8,7 @@ from dataclasses import dataclass
 from adsd_import import names as dns
 from adsd_import.sids import below, sid_at, sid_of_text
 
-from . import items, searches
+from . import items, numerals, searches
 from .messages import MOST
 from .program import MESSAGE, TOKEN
 
@@ -27,12 +27,16 @@ EPOCH = 11_644_473_600
 ASKED = (b"objectSid", b"sAMAccountName", b"userPrincipalName", b"primaryGroupID", b"userAccountControl",
          b"accountExpires")
 # What tokens are made of.
-NEEDED = ("objectSid", "member", "groupType", "primaryGroupID")
+NEEDED = ("objectSid", "groupType", "primaryGroupID")
 PARTITIONS = b"CN=Partitions,CN=Configuration,"
 
 
 class Ambiguous(Exception):
     """A name of several accounts."""
+
+
+class Unidentified(Exception):
+    """An object of the name that has no identifier which the reader reads; the object's name."""
 
 
 class TooMany(Exception):
@@ -41,8 +45,8 @@ class TooMany(Exception):
 
 def number_of(values, other=None):
     """The number that the first of some values is."""
-    text = values[0].decode("latin-1") if values else ""
-    return int(text) if text.lstrip("-").isdigit() and len(text) < 24 else other
+    found = numerals.number_of(values[0]) if values else None
+    return other if found is None else found
 
 
 def sid_of(entry):
@@ -163,9 +167,12 @@ class Accounts:
 
     async def one(self, filter_made, base=None, scope=searches.SUBTREE):
         """The one account that fits; None where there is none."""
-        found = [one for one in map(account_of, await self.search(filter_made, ASKED, base, scope)) if one]
+        entries = await self.search(filter_made, ASKED, base, scope)
+        found = [one for one in map(account_of, entries) if one]
         if len(found) > 1:
             raise Ambiguous
+        if entries and not found:
+            raise Unidentified(entries[0].name.decode("utf-8", "backslashreplace"))
         return found[0] if found else None
 
     def ways(self, name):
@@ -184,15 +191,21 @@ class Accounts:
         if "=" in name:
             try:
                 if dns.read(name.encode()).parts:
-                    return await self.one(items.present(b"objectSid"), name.encode(), searches.BASE)
+                    return await self.one(searches.TRUE, name.encode(), searches.BASE)
             except dns.NoName:
                 pass
         if sid_of_text(name):
             return await self.one(items.equal(b"objectSid", sid_of_text(name)))
+        lacking = None
         for kind, value in self.ways(name):
-            found = await self.one(items.equal(kind.encode(), value.encode()))
+            try:
+                found = await self.one(items.equal(kind.encode(), value.encode()))
+            except Unidentified as which:
+                found, lacking = None, lacking or which
             if found:
                 return found
+        if lacking:
+            raise lacking
         return None
 
     async def token(self, account):

@@ -1,31 +1,30 @@
 """What Active Directory forbids beside what the program does (docs/clients.md#what-active-directory-forbids).
 
 Each refusal is made of the request, of the schema, and of what the caller reads; and where it tells of an object
-that the caller may not see, that a login or a principal's name is taken, only where the program would let the
-caller write it."""
+that the caller may not see, that a principal's name is taken, only where the program would let the caller write it
+(writable.py). What nobody may write is in guards.py."""
 
 import re
 from dataclasses import replace
 
 from adsd_import import names as dns
 
-from . import filling, items, operations, searches
+from . import filling, items, searches
+from .accounts import number_of as first_number
+from .numerals import number_of
 from .operations import ADD, DELETE, DELETES, MODIFY, RENAME
 from .searches import Refused, Search
+from .writable import Fault, Writable, class_of
 
-CONSTRAINT, SYNTAX, UNWILLING, TAKEN = 19, 21, 53, 68
-SYSTEM_ONLY = "{}: AtrErr: DSID-030F110C, problem 1005 (CONSTRAINT_ATT_TYPE), data 0, Att {}"
+CONSTRAINT, SYNTAX, UNWILLING = 19, 21, 53
 RANGE = "00002082: AtrErr: DSID-03151275, problem 1005 (CONSTRAINT_ATT_TYPE), data 0, Att {}"
 NO_TIME = "0000200B: AtrErr: DSID-03151292, problem 1006 (INVALID_ATTRIBUTE_SYNTAX), data 0, Att {}"
-LOGIN = "00000524: UpdErr: DSID-031A11E2, problem 6005 (ENTRY_EXISTS), data 0"
 PRINCIPAL = "000021C8: AtrErr: DSID-03200E5A, problem 1005 (CONSTRAINT_ATT_TYPE), data 0, Att userPrincipalName"
 PASSWORD = "0000001F: SvcErr: DSID-031A126C, problem 5003 (WILL_NOT_PERFORM), data 0"
 CRITICAL = "000020CE: SvcErr: DSID-031A05C4, problem 5003 (WILL_NOT_PERFORM), data 0"
 BY_FLAG = "00002185: SvcErr: DSID-031A0FC4, problem 5003 (WILL_NOT_PERFORM), data 0"
-# These are the program's to judge, whether the schema says that they are the system's or not.
-PROGRAMS = {"objectclass", "name", "distinguishedname", "instancetype", "objectsid", "ntsecuritydescriptor"}
 TIME = re.compile(rb"[0-9]{14}(\.[0-9]+)?(Z|[+-][0-9]{4})|[0-9]{10}([0-9]{2})?(Z|[+-][0-9]{4})")
-# A login is one value; of more the program says what is wrong.
+# A principal's name is one value; of more the program says what is wrong.
 MOST_VALUES = 16
 # Bits of systemFlags, as a number without a sign: not to be deleted, moved, renamed.
 NO_DELETE, NO_MOVE, NO_RENAME = 0x80000000, 0x04000000, 0x08000000
@@ -47,39 +46,25 @@ async def judged(session, operation, is_tree):
         if is_tree:
             await rules.flags_below()
         return operation
+    writable = Writable(session, operation)
+    for fault in rules.faults() + await rules.taken():
+        if await writable.may(fault.name):
+            raise fault.refusal
     of_class = class_of(operation, rules.schema) if operation.kind == ADD else None
-    if operation.kind == ADD and of_class is None:
-        return operation
-    fault = rules.fault() or await rules.taken()
-    if fault and await rules.could(of_class):
-        raise fault
-    if operation.kind != ADD:
+    if of_class is None:
         return operation
     number = session.bridge.accounts.counted()
     return replace(operation, items=filling.filled(operation, rules.schema, of_class, number))
 
 
-def class_of(operation, schema):
-    """The class that an Add makes an object of: the one with all others in its chain; None where there is none."""
-    named = {value.decode("latin-1").lower() for value in operation.values("objectclass")}
-    if not named <= set(schema.of_class):
-        return None
-    for name in named:
-        if named <= {schema.class_names[one].lower() for one in schema.chain(schema.of_class[name])}:
-            return schema.of_class[name]
-    return None
-
-
 def bound(record, name):
-    text = record.text(name)
-    return int(text) if text.lstrip("-").isdigit() and len(text) < 20 else None
+    return number_of(record.text(name).encode())
 
 
 def size_of(syntax, value):
     """What rangeLower and rangeUpper count of a value; None where they count nothing."""
     if syntax in NUMBERS:
-        text = value.decode("latin-1")
-        return int(text) if text.lstrip("-").isdigit() and len(text) < 24 else None
+        return number_of(value)
     return len(value.decode("utf-8", "replace")) if syntax in TEXTS else len(value) if syntax == OCTETS else None
 
 
@@ -107,24 +92,21 @@ class Rules:
         self.schema, self.accounts = session.bridge.schema, session.bridge.accounts
         self.view = session.face.view
 
-    def fault(self):
-        """What the request and the schema say; None where nothing is wrong."""
+    def faults(self):
+        """What the request and the schema say to be wrong, item by item."""
+        found = []
         for item in self.operation.items:
             at = self.schema.of_attribute.get(item.lower)
-            if at is not None:
-                found = self.of_item(item, self.schema.attributes[at], self.schema.attribute_names[at])
-                if found:
-                    return found
-        return None
+            refusal = None if at is None else self.of_item(
+                item, self.schema.attributes[at], self.schema.attribute_names[at])
+            found += [Fault(item.lower, refusal)] if refusal else []
+        return found
 
     def of_item(self, item, record, name):
         if item.lower == "unicodepwd":
             new = () if item.act == DELETES else item.values
             good = self.session.is_safe() and all(map(is_quoted, new))
             return None if good else Refused(UNWILLING, PASSWORD)
-        if record.text("systemOnly").upper() == "TRUE" and item.lower not in PROGRAMS:
-            number = "000020A6" if self.operation.kind == ADD else "000020B1"
-            return Refused(CONSTRAINT, SYSTEM_ONLY.format(number, name))
         if item.act == DELETES:
             return None
         if record.text("attributeSyntax") == filling.TIME and not all(map(TIME.fullmatch, item.values)):
@@ -132,50 +114,27 @@ class Rules:
         return Refused(CONSTRAINT, RANGE.format(name)) if any(is_out(record, one) for one in item.values) else None
 
     async def taken(self):
-        """Whether another object has the login or the principal's name."""
+        """Whether another object has the principal's name."""
         for item in self.operation.items:
-            if item.lower not in ("samaccountname", "userprincipalname") or item.act == DELETES:
+            if item.lower != "userprincipalname" or item.act == DELETES:
                 continue
             wanted = items.any_of(*(items.equal(item.name, value) for value in item.values[:MOST_VALUES]))
             for entry in await self.accounts.search(wanted, (b"1.1",)) if item.values else ():
                 if self.operation.kind == ADD or dns.read(entry.name).key() != key_of(self.operation.name):
-                    is_login = item.lower == "samaccountname"
-                    return Refused(TAKEN, LOGIN) if is_login else Refused(CONSTRAINT, PRINCIPAL)
-        return None
+                    return [Fault(item.lower, Refused(CONSTRAINT, PRINCIPAL))]
+        return []
 
     async def read(self, name, *attributes):
         """An object as the caller reads it; None where there is none."""
         found = await self.view.found(Search(1, name, searches.BASE, attributes=attributes))
         return searches.entry_of(found.entries[0]) if found.entries else None
 
-    async def could(self, of_class):
-        """Whether the program would let the caller make the object, or write the attributes."""
-        name = self.operation.name
-        if self.operation.kind == ADD:
-            parent = await self.read(above(name), b"allowedChildClassesEffective")
-            made = self.schema.class_names[of_class].lower().encode()
-            return parent is not None and made in lower(parent.values("allowedchildclasseseffective"))
-        own = await self.read(name, b"allowedAttributesEffective")
-        if own is None:
-            return False
-        # Who changes a password, with the old one, needs no right to set it.
-        asked = {item.lower.encode() for item in self.operation.items} - self.changed()
-        return asked <= lower(own.values("allowedattributeseffective")) | self.systems()
-
-    def changed(self):
-        own = [item.act for item in self.operation.items if item.lower == "unicodepwd"]
-        return {b"unicodepwd"} if own == [operations.DELETES, operations.ADDS] else set()
-
-    def systems(self):
-        """The back links and others that nobody writes aren't among what may be written."""
-        return {item.lower.encode() for item in self.operation.items if self.schema.link_number(item.lower) % 2}
-
     async def flags(self):
         """Whether what the caller reads of an object forbids to delete, rename or move it."""
         own = await self.read(self.operation.name, b"isCriticalSystemObject", b"systemFlags")
         if own is None:
             return
-        flags = number_of(own.values("systemflags"))
+        flags = first_number(own.values("systemflags"), 0) % 2**32
         if self.operation.kind == DELETE:
             if own.values("iscriticalsystemobject") == (b"TRUE",) or flags & NO_DELETE:
                 raise Refused(UNWILLING, CRITICAL)
@@ -190,25 +149,8 @@ class Rules:
             raise Refused(UNWILLING, CRITICAL)
 
 
-def number_of(values):
-    text = values[0].decode("latin-1") if values else ""
-    return int(text) % 2**32 if text.lstrip("-").isdigit() and len(text) < 20 else 0
-
-
-def lower(values):
-    return {value.lower() for value in values}
-
-
 def key_of(name):
     try:
         return dns.read(name).key()
     except dns.NoName:
         return None
-
-
-def above(name):
-    """The name of the object above another one; the empty name where there is none."""
-    try:
-        return dns.Name(dns.read(name).parts[1:]).text()
-    except dns.NoName:
-        return b""

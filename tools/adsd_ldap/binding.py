@@ -6,13 +6,20 @@ import time
 from adsd_ask import ber
 
 from . import messages, names
-from .accounts import Ambiguous, TooMany
+from .accounts import Ambiguous, TooMany, Unidentified
+from .groups import NotKnown
 from .names import Who
 
 EXTERNAL = b"EXTERNAL"
 # What Active Directory says of a bind that it refuses; clients look at the code behind `data`.
 REFUSED = "80090308: LdapErr: DSID-0C090400, comment: AcceptSecurityContext error, data {}, v1db1"
 WRONG = "52e"
+# What a client is told whose groups aren't known.
+NO_GROUPS = "who is in which group isn't known to the server"
+# So often a token is made beside changes, and then while they wait.
+TRIES = 3
+# What the program answers of a password that isn't the account's.
+NOT_IT = 19
 STRONGER = ("00002028: LdapErr: DSID-0C090257, comment: The server requires binds to turn on integrity checking if "
             "SSL\\TLS are not already active on the connection, data 0, v1db1")
 
@@ -81,6 +88,9 @@ class Binder:
         """Lets the client be somebody, or has it wait."""
         try:
             who = await work
+        except NotKnown as why:
+            self.bridge.log.timed(f"{self.session.peer} not bound, whoever it is: {why}")
+            return messages.UNAVAILABLE, NO_GROUPS
         except NotBound as told:
             self.bridge.log.timed(f"{self.session.peer} not bound: {told.why}")
             await self.bridge.wait(self.bridge.peers.delay(self.session.host))
@@ -112,7 +122,8 @@ class Binder:
             good = account is not None and await self.by_store(account, password)
         if not good:
             raise NotBound(f"wrong password of {who.name if who else account.name.decode()}" if who or account else
-                           "a name that isn't in the file" + (", nor an account" if self.is_open() else ""))
+                           "a name that isn't in the file" +
+                           (", nor of an account that the reader sees" if self.is_open() else ""))
         return await self.whole(who or Who(name, None, None), account)
 
     def is_open(self):
@@ -128,7 +139,11 @@ class Binder:
         if held is None:
             return False
         reply = await self.accounts.ask(ber.sequence(ber.number(1), change(account.name, held, held)))
-        return messages.code_of(reply)[0] == messages.SUCCESS
+        code = messages.code_of(reply)[0]
+        if code not in (messages.SUCCESS, NOT_IT):
+            raise NotBound(f"whether it is the password of {account.name.decode()} isn't known: the reader's change of "
+                           f"it to itself ended with {code}")
+        return code == messages.SUCCESS
 
     async def account(self, name):
         """The account of a name, or None."""
@@ -138,6 +153,8 @@ class Binder:
             return await self.accounts.find(name)
         except Ambiguous:
             raise NotBound("a name of several accounts") from None
+        except Unidentified as which:
+            raise NotBound(f"{which} has no objectSid that the reader reads") from None
 
     async def whole(self, who, account=None):
         """Somebody with a token: that of the line, else the one that the directory makes."""
@@ -145,12 +162,46 @@ class Binder:
             return who
         account = account or await self.account(who.name)
         if account is None:
-            raise NotBound(f"{who.name} is no account of the store")
+            raise NotBound(await self.why_none(who.name))
         if self.options.ad_rules and account.fault(time.time()):
             raise NotBound(f"{who.name}: the account is disabled or has expired", account.fault(time.time()))
         try:
-            token = await self.accounts.token(account)
+            token = await self.token(account)
         except TooMany:
             raise NotBound(f"{who.name}: too many groups for a token") from None
         own = f"{self.accounts.short}\\{account.login}" if account.login else account.name.decode()
         return Who(own, None, token, None, account.name)
+
+    async def why_none(self, name):
+        """Why there is no account of a name whose password was right: whether the store has none, or the reader sees
+        none."""
+        try:
+            rows = await self.bridge.groups.rows()
+            is_there = await asyncio.get_running_loop().run_in_executor(None, rows.has_account, name)
+        except NotKnown:
+            is_there = None
+        if is_there is None:
+            return f"the reader sees no account {name}; whether the store has one isn't known"
+        return f"the reader doesn't see the account {name}" if is_there else f"{name} is no account of the store"
+
+    async def token(self, account):
+        """The token of an account, as the directory is at one moment; NotKnown where it could lack a group."""
+        turns = self.bridge.turns
+        for _ in range(TRIES):
+            changes, made, fault = turns.changes, None, None
+            try:
+                made = await self.token_now(account)
+            except NotKnown as why:
+                fault = why
+            if turns.changes == changes:
+                break
+        else:
+            async with turns.held(self.session.number):
+                return await self.token_now(account)
+        if fault:
+            raise fault
+        return made
+
+    async def token_now(self, account):
+        await self.bridge.groups.check(account)
+        return await self.accounts.token(account)

@@ -9,6 +9,7 @@ from urllib.parse import quote
 
 from . import messages, names, root_dse, schema
 from .accounts import Accounts
+from .groups import Groups, NotKnown, lines_of
 from .log import place_of
 from .paging import Shelf
 from .peers import Peers, peer_of
@@ -46,6 +47,7 @@ class Bridge:
         # How many bytes of large answers are put together just now.
         self.made_now = 0
         self.accounts, self.tls, self.servers = Accounts(self, options.reader), options.tls, []
+        self.groups = Groups(self)
 
     def made_turns(self):
         """Whose frame is next, with what the program is asked besides clients' requests."""
@@ -70,9 +72,10 @@ class Bridge:
             asyncio.get_running_loop().add_signal_handler(number, self.asked_to_stop, number)
         asyncio.get_running_loop().add_signal_handler(signal.SIGHUP, self.read_names_again)
         try:
-            await self.until_stopped(self.program.start())
+            begun = asyncio.ensure_future(self.program.start())
+            await self.until_stopped(begun)
             if self.signals:
-                self.program.kill()
+                await self.program.give_up(begun)
                 self.log.say("stopped before the store was opened")
                 return STOPPED
         except Ended as why:
@@ -110,12 +113,27 @@ class Bridge:
         return await self.ended(work)
 
     async def look_at_reader(self):
-        """Says of which objects the reader doesn't read what tokens are made of, where any are made."""
+        """Where tokens are made of the directory, stops if the reader doesn't read who is in some group, and says of
+        how many objects it doesn't read what else tokens are made of."""
         open_to_all = self.options.trust_names or self.options.store_passwords
-        if open_to_all or any(who.token is None for who in self.names.everybody()):
-            for name, count in (await self.accounts.unread()).items():
-                told = f"the reader doesn't read {name} of {count} objects, so tokens lack what it tells"
-                self.log.say(f"warning: {told}")
+        if not open_to_all and all(who.token is not None for who in self.names.everybody()):
+            return
+        await self.know_groups()
+        for name, count in (await self.accounts.unread()).items():
+            self.log.say(f"warning: the reader doesn't read {name} of {count} objects, so tokens lack what it tells")
+
+    async def know_groups(self):
+        """Stops where some groups aren't known, and names them; with --unknown-groups it names them alone."""
+        try:
+            lines = lines_of(await self.groups.unknown())
+        except NotKnown as why:
+            lines = [str(why)]
+        for line in lines:
+            self.log.say(f"warning: {line}" if self.options.unknown_groups else line)
+        if lines and not self.options.unknown_groups:
+            self.fault(STORE, "so tokens would lack groups, and what is denied to these: not served without "
+                              "--unknown-groups, or another --reader")
+            raise Stopped
 
     async def listen(self):
         """Listens where the words say: in the clear, under TLS, and at a Unix socket."""

@@ -3,7 +3,7 @@ in, and without what it forbids (docs/clients.md)."""
 
 from adsd_ask.records import TREE_DELETE
 
-from . import ad_rules, computed, messages, operations, permissive, searches
+from . import ad_rules, computed, guards, messages, operations, permissive, searches
 from .program import MESSAGE
 from .searches import Refused
 from .spelling import Speller
@@ -48,7 +48,8 @@ class Changes:
             controls = without_idle(message.controls)
             if message.operation == messages.COMPARE:
                 return await self.compared(message, made, await self.asked(message, data, operation, made, controls))
-            if ad_rules.has_any(self.session, made) or is_permissive(made, controls):
+            rules = guards.has_any(self.session, made) or ad_rules.has_any(self.session, made)
+            if rules or is_permissive(made, controls):
                 return await self.judged(message, data, operation, made, controls)
             return await self.asked(message, data, operation, made, controls)
         except Refused as why:
@@ -72,6 +73,8 @@ class Changes:
         if is_permissive(made, controls):
             made = await permissive.left(made, self.session.face.view)
             controls = tuple(one for one in controls if name_of(one) != permissive.PERMISSIVE)
+        if guards.has_any(self.session, made):
+            await guards.judge(self.session, made)
         if ad_rules.has_any(self.session, made):
             is_tree = any(name_of(one) == TREE_DELETE for one in controls)
             made = await ad_rules.judged(self.session, made, is_tree)

@@ -7,10 +7,12 @@ import resource
 import shlex
 import sys
 
+import adsd_incomplete
 from adsd_ask.words import ADSD, Wrong, groups_of, sid
 from adsd_import.sids import text_of_sid
 from adsd_names.accounts import Accounts
 from adsd_report.store import Broken
+from adsd_shown import shown
 
 from . import names, passwords, tls
 from .bridge import Bridge
@@ -36,6 +38,8 @@ def by_name(asked):
         accounts = Accounts(asked.store)
     except Broken as why:
         raise Wrong(f"{asked.store}: {why}") from None
+
+    adsd_incomplete.warn(asked.store)
 
     def text(name):
         return text_of_sid(sid(name, accounts)) if name else name
@@ -82,7 +86,9 @@ def room_for(clients):
 
 
 def serve(asked, kind=Bridge, called="adsd-ldap"):
-    log = Log(asked.log_changes, called)
+    log, told = Log(asked.log_changes, called), adsd_incomplete.line(asked.store)
+    if told:
+        log.say(told)
     known, warning = names.read(asked.names) if asked.names else (names.Names(), NO_NAMES)
     if asked.trust_names or asked.store_passwords:
         warning = None if warning == NO_NAMES else warning
@@ -109,7 +115,7 @@ def main(arguments):
             return serve(asked)
         print(line_of(asked))
     except Wrong as wrong:
-        print(f"adsd-ldap: {wrong}", file=sys.stderr)
+        print(f"adsd-ldap: {shown(str(wrong))}", file=sys.stderr)
         return 1
     except (KeyboardInterrupt, EOFError):
         print("adsd-ldap: no password was given", file=sys.stderr)

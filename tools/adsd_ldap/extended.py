@@ -6,7 +6,7 @@ import secrets
 from adsd_ask import ber
 
 from . import messages, tls
-from .accounts import Ambiguous
+from .accounts import Ambiguous, Unidentified
 from .binding import change, quoted
 from .program import MESSAGE
 
@@ -69,7 +69,7 @@ async def whose(session, given):
         return name.encode()
     try:
         found = await session.bridge.accounts.find(name)
-    except Ambiguous:
+    except (Ambiguous, Unidentified):
         return None
     return found.name if found else None
 

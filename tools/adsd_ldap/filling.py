@@ -6,10 +6,11 @@ import time
 import uuid
 
 from . import operations
+from .numerals import number_of as number_of_value
 
 OCTETS, NAME, TIME = "2.5.5.10", "2.5.5.1", "2.5.5.11"
 NUMBERS = ("2.5.5.9", "2.5.5.16")
-NORMAL, WORKSTATION, SERVER = 0x200, 0x1000, 0x2000
+NORMAL, WORKSTATION, SERVER, PARTIAL = 0x200, 0x1000, 0x2000, 0x4000000
 # An account that is disabled, and may have no password.
 NEW_ACCOUNT = 0x222
 GLOBAL_SECURITY = -2147483646
@@ -33,19 +34,28 @@ def login():
 def number_of(operation, name, other):
     """The number that an Add gives, or another one; None where what it gives is none."""
     values = operation.values(name)
-    text = values[0].decode("latin-1") if values else ""
-    if not values:
-        return other
-    return int(text) if text.lstrip("-").isdigit() and len(text) < 20 else None
+    return number_of_value(values[0]) if values else other
+
+
+def control_of(operation):
+    """The control of a new account; 0 where what is given is no number."""
+    return number_of(operation, "useraccountcontrol", NEW_ACCOUNT) or 0
+
+
+def primary_of(operation):
+    """The primary group of a new account: users, computers, servers of the domain, and those that hold some secrets."""
+    control = control_of(operation)
+    if not control & (WORKSTATION | SERVER):
+        return 513
+    return 516 if control & SERVER else 521 if control & PARTIAL else 515
 
 
 def of_account(operation):
     """What users and computers get."""
-    control = number_of(operation, "useraccountcontrol", NEW_ACCOUNT)
-    machine = control is not None and control & (WORKSTATION | SERVER)
-    primary = 516 if machine and control & SERVER else 515 if machine else 513
-    found = {"userAccountControl": str(NEW_ACCOUNT), "primaryGroupID": str(primary), "accountExpires": NEVER,
-             "sAMAccountType": str(0x30000001 if machine else 0x30000000), "sAMAccountName": login()}
+    machine = control_of(operation) & (WORKSTATION | SERVER)
+    found = {"userAccountControl": str(NEW_ACCOUNT), "primaryGroupID": str(primary_of(operation)),
+             "accountExpires": NEVER, "sAMAccountType": str(0x30000001 if machine else 0x30000000),
+             "sAMAccountName": login()}
     return {**found, **dict.fromkeys(ZEROS, "0")}
 
 

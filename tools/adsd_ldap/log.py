@@ -5,11 +5,16 @@ import sys
 import time
 import traceback
 
+from adsd_shown import shown
 
-def shown(text):
-    """A text as one line: what isn't printable is escaped, and a very long one is cut."""
-    text = "".join(letter if letter.isprintable() else letter.encode("unicode_escape").decode() for letter in text)
-    return text if len(text) <= 1000 else text[:1000] + ".."
+# So many letters of a line are said.
+LONGEST = 1000
+
+
+def one_line(text):
+    """A text as one line, of which a very long one is cut."""
+    text = shown(text)
+    return text if len(text) <= LONGEST else text[:LONGEST] + ".."
 
 
 def place_of(fault):
@@ -26,7 +31,7 @@ class Log:
 
     def say(self, text):
         try:
-            print(f"{self.name}: {shown(text)}", file=sys.stderr, flush=True)
+            print(f"{self.name}: {one_line(text)}", file=sys.stderr, flush=True)
         except (OSError, ValueError):
             pass  # Where nobody takes the lines, clients are served all the same.
 

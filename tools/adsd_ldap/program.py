@@ -1,14 +1,19 @@
 """The one `adsd serve` behind the bridge: a frame in, its answer out, one after the other (docs/profile/frames.md)."""
 
 import asyncio
+import contextlib
 import os
 import signal
 
+import adsd_run
 from adsd_ask import ber
 from adsd_ask.requests import frame
+from adsd_shown import shown
 
 TOKEN, MESSAGE, STEPS, RUN = 1, 2, 3, 4
-HEADER = 7
+HEADER, PIECE = 7, 65536
+# So often it is looked whether the process is there, in seconds.
+SOON = 0.01
 # As many frames as one run of the program takes.
 MOST_FRAMES = 1_000_000
 # What takes the token from a connection: an unbind.
@@ -40,6 +45,17 @@ class Ended(Exception):
         return f"adsd serve ended with {self.status}" + (f": {why}" if why else "")
 
 
+async def hand_on(pipe):
+    """Hands on what it says on standard error, line by line as it comes."""
+    rest = b""
+    while said := await pipe.read(PIECE):
+        lines, end, rest = (rest + said).rpartition(b"\n")
+        if len(rest) > PIECE:
+            lines, rest = lines + end + rest, b""
+        adsd_run.say(lines)
+    adsd_run.say(rest)
+
+
 class Program:
     """The running program, and which connection has which token. After `most` frames it is ended and started again,
     since it takes no more, and each connection gets its token again."""
@@ -54,10 +70,11 @@ class Program:
         try:
             pipe = asyncio.subprocess.PIPE
             self.running = await asyncio.create_subprocess_exec(
-                *self.words, stdin=pipe, stdout=pipe, start_new_session=True)
+                *self.words, stdin=pipe, stdout=pipe, stderr=pipe, start_new_session=True)
         except OSError as fault:
             raise Ended(127, f"{self.words[0]}: {fault.strerror}") from None
         self.gone, self.frames = asyncio.ensure_future(self.running.wait()), 0
+        self.telling = asyncio.ensure_future(hand_on(self.running.stderr))
         await self.exchange(MESSAGE, 0, DROP)
 
     async def ask(self, kind, connection, body):
@@ -99,7 +116,7 @@ class Program:
         """How it ended, where it gave no answer but perhaps a line that begins so."""
         self.running.stdin.close()
         said = (begun + await self.running.stdout.read()).decode("ascii", "replace").split("\n")[0]
-        return Ended(await self.gone, said if said.isprintable() else "")
+        return Ended(await self.gone, shown(said))
 
     async def end(self):
         """Closes its input behind the last frame and waits for it; its status."""
@@ -107,7 +124,16 @@ class Program:
         await self.running.stdout.read()
         return await self.gone
 
+    async def give_up(self, begun):
+        """Ends it at once where it is being started. A start that is cancelled may be waited for without an end."""
+        while self.running is None and not begun.done():
+            await asyncio.sleep(SOON)
+        self.kill()
+        await asyncio.wait({begun})
+        begun.exception()
+
     def kill(self):
         """Ends it at once, wherever it is: what a crash does, which loses nothing that was answered."""
         if self.running is not None and self.running.returncode is None:
-            os.killpg(self.running.pid, signal.SIGKILL)
+            with contextlib.suppress(ProcessLookupError):
+                os.killpg(self.running.pid, signal.SIGKILL)

@@ -6,6 +6,7 @@ import sys
 
 from adsd_ask.requests import Line
 from adsd_ask.words import PRIVILEGES, Wrong
+from adsd_shown import shown
 
 from .names import token_of
 from .program import MOST_FRAMES
@@ -27,8 +28,8 @@ and one that begins with # is passed over.
 What has blanks or quotes stands in quotes. SIGHUP reads the file again. SIGTERM and SIGINT stop the bridge behind the
 request in work; a second one stops it at once.
 
-status: 0 stopped; 1 the file of names isn't as it should be; 2 usage; 3 the store can't be served; 4 the address can't
-be had; 5 the program ended by itself. A line on standard error says why.
+status: 0 stopped; 1 the file of names isn't as it should be; 2 usage; 3 the store can't be served, or it isn't known who
+is in some groups; 4 the address can't be had; 5 the program ended by itself. A line on standard error says why.
 """
 MOST_CLIENTS, MOST_STEPS, PORT = 1023, 1_000_000, 1389
 # What each token has beside its groups, where nobody says otherwise: authenticated users, everyone.
@@ -39,7 +40,7 @@ class Words(argparse.ArgumentParser):
     """The words of the command. A fault is told in one line."""
 
     def error(self, message):
-        print(f"{self.prog}: {message}", file=sys.stderr)
+        print(f"{self.prog}: {shown(message)}", file=sys.stderr)
         sys.exit(2)
 
 
@@ -121,6 +122,12 @@ def words_of_serve(form):
                       help="the token by which accounts and groups are looked up (user=SY groups=BA,AU,WD)")
     form.add_argument("--no-ad-rules", dest="ad_rules", action="store_false",
                       help="neither fill in nor forbid what Active Directory does (docs/clients.md)")
+    form.add_argument("--profile-rules", action="store_true",
+                      help="refuse what the program refuses and no more; without it nobody gives an account a "
+                           "primary group that it isn't in, bits of trust, an identifier of before or another's login, "
+                           "nor writes what is the system's (docs/clients.md#what-nobody-may-write)")
+    form.add_argument("--unknown-groups", action="store_true",
+                      help="serve also where the reader doesn't read who is in some groups, so that tokens lack them")
     form.add_argument("--base", metavar="DN", type=str.encode,
                       help="the root's name, which the root DSE tells (found by the names that are DNs)")
     words_of_clients(form)
@@ -171,6 +178,7 @@ def parsed(arguments):
 
 def check(form, asked):
     """Ends with a fault where the words don't go together."""
+    asked.ad_rules = asked.ad_rules and not asked.profile_rules
     hosts = [one[0] for one in (asked.listen, asked.ldaps) if one]
     away = [host for host in hosts if not ipaddress.ip_address(host).is_loopback]
     if away and asked.trust_names:

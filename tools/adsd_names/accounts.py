@@ -3,11 +3,11 @@
 import os
 import struct
 
-from adsd_import.report import seen
 from adsd_import.sids import below, sid_at, sid_of_text, text_of_sid
 from adsd_report import store
 from adsd_report.names import OF_DOMAIN, WELL_KNOWN
 from adsd_report.schema import Schema
+from adsd_shown import shown, text_of
 
 SID_SYNTAX, ROOT = "2.5.5.17", 1
 # The groups that everybody is in who has proved an identity: authenticated users, and everyone.
@@ -49,13 +49,13 @@ class Accounts:
     def names_of(self, number):
         """What an object may be called: the name of its account, where it has one, and the first part of its name."""
         texts = [*self.values(number, "sAMAccountName")[:1], self.directory.objects[number].naming]
-        return [text.decode("utf-8", "backslashreplace") for text in texts]
+        return [text_of(text) for text in texts]
 
     def name(self, sid):
         """What an identifier is called, on one line; None where it is nothing but its text."""
         number, text = self.of_sid.get(bytes(sid)), text_of_sid(sid)
         own = self.names_of(number)[0] if number is not None else text
-        return seen(own) if own != text else WELL_KNOWN.get(text) or self.of_domain.get(bytes(sid))
+        return shown(own) if own != text else WELL_KNOWN.get(text) or self.of_domain.get(bytes(sid))
 
     def sid(self, name):
         """The identifier of the account of a name, whatever its case: by the names of accounts, then by the first parts
@@ -96,9 +96,12 @@ class Accounts:
             return set()
         return {self.of_sid[sid] for sid in [below(domain, int(value))] if sid in self.of_sid}
 
+    def names(self):
+        """The name of each object, as it is shown, by number."""
+        return {number: text_of(name) for number, name in store.names_of(self.directory, self.schema.naming).items()}
+
     def lines(self):
         """A line of each account: its identifier, its name, and the name of its object, parted by tabs."""
-        names = store.names_of(self.directory, self.schema.naming)
+        names = self.names()
         for number, sid in self.sids.items():
-            dn = seen(names[number].decode("utf-8", "backslashreplace"))
-            yield f"{text_of_sid(sid)}\t{seen(self.names_of(number)[0])}\t{dn}"
+            yield f"{text_of_sid(sid)}\t{shown(self.names_of(number)[0])}\t{names[number]}"

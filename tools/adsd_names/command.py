@@ -1,12 +1,14 @@
 """The command: words, what is read and written, statuses."""
 
 import argparse
+import base64
 import re
 import sys
 
-from adsd_import.report import seen
+import adsd_incomplete
 from adsd_import.sids import sid_of_text
 from adsd_report import store
+from adsd_shown import SPELLED, Words, shown, text_of
 
 from .accounts import Accounts
 
@@ -16,12 +18,15 @@ ABOUT = """Puts the name of an account behind each identifier of a text, as S-1-
     tools/adsd-ask frames day.txt | adsd serve corp | tools/adsd-ask replies | adsd-names corp
 
 The names are those of the store behind the last of its input, and of identifiers that are the same everywhere. Values
-and names of LDIF stay as they are, and so does the name of an object: no identifier within them gets a name, so that what
-is LDIF stays what it says. The store's files are read and not locked. This script is not proved."""
+and names of LDIF say what they did, and so does the name of an object: no identifier within them gets a name. A value of
+LDIF that has a control in it is written in base64, and anywhere else a control stands spelled, as \\1B. The store's
+files are read and not locked. This script is not proved."""
 STATUSES = "status: 0 written; 1 the store can't be read; 2 usage; 4 the input can't be read; 5 the output can't be written"
 SID = re.compile(r"(?<![^ :;(,])S-1-(?:[0-9]+|0x[0-9a-f]+)(?:-[0-9]+)+(?![0-9-])")
 # What stays as it is: values and names of LDIF, also where they go on, and the line of `list` with an object's name.
 KEPT = re.compile(r"[A-Za-z][A-Za-z0-9;.-]*:|[ \t]|object ")
+# A value of LDIF that stands as it is.
+PLAIN = re.compile(r"([A-Za-z][A-Za-z0-9;.-]*):(?![:<]) *")
 
 
 def named(line, accounts):
@@ -34,13 +39,33 @@ def named(line, accounts):
     return line if KEPT.match(line) else SID.sub(behind, line)
 
 
+def blocks(lines):
+    """The lines, each with those by which it goes on, as LDIF has it."""
+    block = []
+    for line in lines:
+        if block and line[:1] != " ":
+            yield block
+            block = []
+        block.append(line)
+    yield block
+
+
+def printed(lines, accounts):
+    """A line and those by which it goes on, with nothing in them that a terminal obeys."""
+    found = PLAIN.match(lines[0])
+    if not found or not any(map(SPELLED.search, lines)):
+        return [shown(named(line, accounts)) for line in lines]
+    value = "".join([lines[0][found.end() :], *(line[1:] for line in lines[1:])])
+    return [f"{found[1]}:: {base64.b64encode(value.encode('utf-8', 'surrogateescape')).decode()}"]
+
+
 def say(line):
-    sys.stderr.write(f"adsd-names: {seen(str(line))}\n")
+    sys.stderr.write(f"adsd-names: {shown(str(line))}\n")
 
 
 def parsed(arguments):
-    form = argparse.ArgumentParser(prog="adsd-names", description=ABOUT, epilog=STATUSES,
-                                   formatter_class=argparse.RawDescriptionHelpFormatter)
+    form = Words(prog="adsd-names", description=ABOUT, epilog=STATUSES,
+                 formatter_class=argparse.RawDescriptionHelpFormatter)
     form.add_argument("store", metavar="STORE", help="the store, as `adsd` is given it")
     form.add_argument("file", nargs="?", default="-", metavar="FILE", help="the text; - is standard input")
     form.add_argument("--list", action="store_true",
@@ -55,7 +80,7 @@ def given(file):
     else:
         with open(file, "rb") as opened:
             data = opened.read()
-    return data.decode("utf-8", "surrogateescape").split("\n")
+    return [line.removesuffix("\r") for line in text_of(data).split("\n")]
 
 
 def main(arguments):
@@ -74,7 +99,8 @@ def main(arguments):
     except OSError as fault:
         say(f"{asked.store}: {fault.strerror}")
         return 1
-    made = [*accounts.lines(), ""] if asked.list else (named(line, accounts) for line in text)
+    adsd_incomplete.warn(asked.store)
+    made = [*accounts.lines(), ""] if asked.list else (line for block in blocks(text) for line in printed(block, accounts))
     try:
         sys.stdout.buffer.write("\n".join(made).encode("utf-8", "surrogateescape"))
         sys.stdout.buffer.flush()

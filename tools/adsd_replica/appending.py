@@ -12,7 +12,7 @@ from adsd_ldap.turns import Stopped, refuse
 from . import entries
 from .etcd import Away, Denied
 from .lane import Lane
-from .ordered import Other
+from .ordered import Other, Parted
 
 # So many entries, of so many bytes, are put at once: etcd takes 128 operations, and 1.5 MB.
 MANY, MANY_BYTES = 100, entries.MOST
@@ -28,10 +28,11 @@ class Overtaken(Exception):
 
 
 class Waiting:
-    """An entry that waits to be put or to be answered. `behind` is the number of the entry that it has to follow."""
+    """The content of an entry that waits to be put or to be answered. `behind` is the number of the entry that it has
+    to follow."""
 
     def __init__(self, data, behind):
-        self.data, self.behind, self.id = data, behind, entries.id_of(data)
+        self.data, self.behind, self.id = data, behind, entries.request_of(data)
         self.answer, self.is_sent = asyncio.get_running_loop().create_future(), False
 
 
@@ -62,7 +63,7 @@ class Appender:
 
     def applied(self, entry, reply, _):
         """Answers whoever put an entry. (What the program took before a crash nobody waits for.)"""
-        one = self.sent.pop(entry.id, None)
+        one = self.sent.pop(entry.request, None)
         if one and not one.answer.done():
             one.answer.set_result(reply)
 
@@ -87,7 +88,7 @@ class Appender:
             if found and (one.behind is not None or size + len(one.data) > MANY_BYTES):
                 break
             self.queue.popleft()
-            if one.behind is not None and one.behind != self.heads.known:
+            if one.behind is not None and one.behind != self.heads.known.number:
                 one.answer.set_exception(Overtaken())
                 continue
             found.append(one)
@@ -111,18 +112,30 @@ class Appender:
 
     async def landed(self, some):
         """Whether entries were put: True, or False where they weren't and never will be by what was asked here."""
-        head, data = self.heads.known, [one.data for one in some]
+        head = self.heads.known
+        data, then = entries.chained(head, [one.data for one in some])
         while True:
             try:
-                done, now, behind = await self.lane.call(lambda log: log.put(head, data))
+                done, now, behind = await self.lane.call(lambda log: log.put(head, data, then))
             except (Away, Denied) as why:
                 self.heads.missed(why)
                 await asyncio.sleep(PAUSE)
                 continue
+            if not done:
+                self.look(head, now, behind)
             self.heads.seen(now)
-            if not done and behind is None and now > head:
-                raise Other(f"entry {head + 1} was removed before this replica has taken it")
-            return done or behind == some[0].id
+            return done or entries.id_of(behind) == entries.id_of(data[0])
+
+    def look(self, head, now, behind):
+        """Looks whether the log goes on after a head that isn't its own any more, with the entry behind it."""
+        if now.number <= head.number:
+            raise Parted(f"the log ends at {now.told()}, and the replica knows {head.told()}")
+        if behind is None:
+            raise Other(f"entry {head.number + 1} was removed before this replica has taken it")
+        before = entries.before_of(behind)
+        if before != head.id:
+            raise Parted(f"entry {head.number + 1} of the log follows {before.hex()}, and the replica knows "
+                         f"{head.told()}")
 
     def refuse(self):
         """Nobody is answered any more."""

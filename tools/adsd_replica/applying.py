@@ -10,6 +10,7 @@ from concurrent.futures import ThreadPoolExecutor
 from adsd_ldap.program import DROP, MESSAGE, TOKEN, Ended
 from adsd_ldap.turns import refuse
 
+from . import replay
 from .position import taken
 from .slots import Unfit
 
@@ -39,15 +40,16 @@ class Applying:
     def __init__(self):
         self.slots, self.positions, self.position, self.place = None, None, None, None
         # Whether the next entry was taken before a crash, so that it isn't given again.
-        self.skips = False
+        self.skips, self.program = False, None
         self.queue, self.bytes, self.room, self.news = deque(), 0, None, None
         self.lane, self.writing, self.fault = ThreadPoolExecutor(1), None, ""
         # Who waits until an entry is answered, by rising numbers; and who is told of each entry with its answer.
         self.waiting, self.tells = deque(), []
 
-    def open(self, slots, positions, news):
+    def open(self, slots, positions, news, program):
         """Finds out where the store stands, which the program has opened and synced by now."""
         self.slots, self.positions, self.news, self.room = slots, positions, news, asyncio.Event()
+        self.program = program
         self.position, self.place = positions.read(), slots.look()
         if self.position is None:
             raise Unfit(f"{slots.store} is no replica's store: {positions.path} isn't there")
@@ -57,6 +59,15 @@ class Applying:
     def number(self):
         """The number of the last entry that was answered."""
         return self.position.entry
+
+    def waits_for_taken(self):
+        """Whether the store has taken a change before a crash, and the entry that it is of isn't known yet."""
+        return self.skips and not self.queue
+
+    async def took(self, entry):
+        """Whether the change that was taken before a crash is that of an entry."""
+        loop = asyncio.get_running_loop()
+        return await loop.run_in_executor(self.lane, replay.took, self.program, self.slots.store, self.position, entry)
 
     # ---- as an upkeep
 

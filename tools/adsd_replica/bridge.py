@@ -3,15 +3,17 @@
 import asyncio
 
 from adsd_ldap.bridge import Bridge
+from adsd_ldap.program import Program
 from adsd_ldap.turns import Stopped
 
 from .appending import Appender
-from .applying import Applying
+from .applying import Applying, Spoilt
 from .etcd import Away, Denied, Etcd
 from .following import Follower, Heads
 from .keeper import Keeper
 from .ordered import Ordered, Other
-from .position import Positions
+from .position import Old, Positions
+from .release import release_of
 from .slots import Slots, Unfit
 from .turns import LogTurns
 
@@ -22,23 +24,43 @@ FIRST = 5.0
 SAID = 10.0
 
 
+class OneProgram(Program):
+    """The program, which takes the place of itself after many frames only where it is of the same release still."""
+
+    def __init__(self, options):
+        super().__init__(options.program, options.store, options.frames)
+        self.release = options.release
+
+    async def again(self):
+        now = await asyncio.get_running_loop().run_in_executor(None, release_of, self.words[0])
+        if now != self.release:
+            raise Spoilt(f"the program here is of {now.decode()} by now, and this replica of {self.release.decode()}")
+        await super().again()
+
+
 class Replica(Bridge):
     """One replica of a store."""
 
     def made_turns(self):
+        self.program = OneProgram(self.options)
         self.applying, self.tasks, self.parts = Applying(), [], []
         return LogTurns(self.program, self.applying, self.options.reads == "linear", self.options.patience)
 
     async def ready(self):
         """Finds out where the store stands, and follows the log until its end as of now."""
         try:
-            self.applying.open(Slots(self.options.store), Positions(self.options.store), self.turns.news)
+            slots, positions = Slots(self.options.store), Positions(self.options.store)
+            self.applying.open(slots, positions, self.turns.news, self.options.program)
+        except Old as why:
+            self.fault(LOG, str(why))
+            raise Stopped from None
         except Unfit as why:
             self.fault(STORE, str(why))
             raise Stopped from None
         position = self.applying.position
-        log = Ordered(Etcd(self.options.etcd, self.options.etcd_tls), position.log, position.own)
-        self.heads = self.turns.heads = Heads(log, position.entry, self.log.timed)
+        etcd = Etcd(self.options.etcd, self.options.etcd_tls)
+        log = Ordered(etcd, position.log, position.own, self.options.release)
+        self.heads = self.turns.heads = Heads(log, position.head(), self.log.timed, self.parted)
         appender = self.turns.appender = Appender(log, self.applying, self.heads, self.options.patience)
         self.follower = Follower(log, self.applying, self.heads)
         self.keeper = Keeper(log, self.applying, appender, self.options, self.log.timed)
@@ -49,7 +71,7 @@ class Replica(Bridge):
         try:
             await self.until_stopped(self.caught_up())
         except Other as why:
-            self.fault(LOG, str(why))
+            self.parted(why)
         if self.stop.is_set():
             raise Stopped
 
@@ -60,10 +82,23 @@ class Replica(Bridge):
         except (Away, Denied, asyncio.TimeoutError):
             self.log.say("the log doesn't answer: clients are told what the store has")
             return
-        name, reached = self.applying.position.name, asyncio.ensure_future(self.applying.reaches(head))
+        name, head = self.applying.position.name, head.number
+        reached = asyncio.ensure_future(self.applying.reaches(head))
+        reached.add_done_callback(lambda done: done.cancelled() or done.exception())  # It counts as seen.
         while not (await asyncio.wait({reached}, timeout=SAID))[0]:
             self.log.say(f"replica {name} stands at {self.applying.number()} of {head}")
-        self.log.say(f"replica {name} stands at {self.applying.number()} of log {self.applying.position.log}")
+        if not self.stop.is_set():
+            self.log.say(f"replica {name} stands at {self.applying.number()} of log {self.applying.position.log}")
+
+    def fault(self, status, why):
+        """Stops, and says why; and nothing more is answered."""
+        super().fault(status, why)
+        self.turns.close()
+
+    def parted(self, fault):
+        """The log isn't the one that was followed."""
+        if not self.stop.is_set():
+            self.fault(LOG, str(fault))
 
     def task_ended(self, task):
         """Stops where a part of the replica has ended by itself."""
@@ -71,7 +106,9 @@ class Replica(Bridge):
         if isinstance(fault, Stopped) or (fault is None and (task.cancelled() or self.stop.is_set())):
             return
         if isinstance(fault, Other):
-            self.fault(LOG, str(fault))
+            self.parted(fault)
+        elif isinstance(fault, Unfit):
+            self.fault(PROGRAM, str(fault))
         elif fault is not None:
             self.fault(PROGRAM, f"a fault of adsd-replica: {type(fault).__name__}: {fault}")
 

@@ -5,27 +5,17 @@ the replica does meanwhile stands after that, or in the other slot. Only where t
 is written over; then the copy is made anew."""
 
 import os
-import subprocess
 from dataclasses import replace
 
+from adsd_files import write
+from adsd_run import run
+from adsd_shown import line_of
+
 from .ordered import Other, new_id
-from .position import SUFFIX, Positions, beginning, sync_folder
+from .position import SUFFIX, Old, Positions, beginning
 from .slots import SLOTS, Slots, Unfit
 
 TRIES = 5
-
-
-def exclusive(path):
-    return open(os.open(path, os.O_WRONLY | os.O_CREAT | os.O_EXCL, 0o600), "wb")
-
-
-def synced(path, pieces):
-    """Makes a file of some pieces, which is on the disk then."""
-    with exclusive(path) as file:
-        for piece in pieces:
-            file.write(piece)
-        file.flush()
-        os.fsync(file.fileno())
 
 
 def removed(store):
@@ -37,13 +27,16 @@ def removed(store):
 def begin(program, store, log, name):
     """Begins a log with a store, which becomes its first replica."""
     positions = Positions(store)
-    known = positions.read()
+    try:
+        known = positions.read()
+    except Old:
+        known = None
     if known is not None and log.find() == known.own:
         raise Unfit(f"{store} is replica {known.name} of log {known.log} already")
     # The program makes a store of version 2 of it, and says whether it is one at all.
-    done = subprocess.run([program, "serve", store], stdin=subprocess.DEVNULL, stdout=subprocess.PIPE)
+    done = run([program, "serve", store])
     if done.returncode:
-        said = done.stdout.decode("ascii", "replace").strip()
+        said = line_of(done.stdout)
         raise Unfit(f"{store} can't be served: adsd serve ended with {done.returncode}" + (f": {said}" if said else ""))
     own, slots = new_id(), Slots(store)
     positions.make(beginning(log.name, own, name, slots.look()))
@@ -73,13 +66,17 @@ def copied(store, new, name, log_of):
     raise fault
 
 
-def copied_at(store, new, position):
+def cut_to(store, new, position):
+    """Makes a store of what another one was at a position."""
     slots = Slots(store)
     try:
-        synced(new, slots.cut(position.generation, position.records))
+        write(new, slots.cut(position.generation, position.records), new=True)
     finally:
         slots.close()
-    synced(new + SLOTS[1], [b"\0"])
-    sync_folder(new)
+    write(new + SLOTS[1], b"\0", new=True)
+
+
+def copied_at(store, new, position):
+    cut_to(store, new, position)
     Positions(new).make(position)
     return position

@@ -1,4 +1,7 @@
-"""Follows the log: what stands there is read, and then etcd tells of each new entry as it is put."""
+"""Follows the log: what stands there is read, and then etcd tells of each new entry as it is put.
+
+Each entry has to name the one that was taken before it, and is taken only where the entry after it, or the log's head,
+names it too. So what was put in the place of another is noticed before it is taken."""
 
 import asyncio
 import http.client
@@ -7,9 +10,9 @@ import json
 from adsd_ldap.turns import refuse
 
 from . import entries
-from .etcd import Away, Denied, decoded, shut
+from .etcd import Away, Denied, shut
 from .lane import Lane
-from .ordered import Other
+from .ordered import Other, Parted
 
 # A member that tells of nothing for so long is asked anew, in seconds; and so long one waits where none answers.
 QUIET, PAUSE = 60.0, 0.5
@@ -22,16 +25,17 @@ class Follower:
 
     def __init__(self, log, applying, heads):
         self.log, self.applying, self.heads = log, applying, heads
-        self.lane, self.number, self.open = Lane(log), applying.number(), None
+        # `at` is the last entry that was pushed.
+        self.lane, self.at, self.open = Lane(log), applying.position.head(), None
 
     async def work(self):
         """Follows until it is cancelled; Other where the log doesn't go with the replica."""
         await self.same()
         while True:
             try:
-                part = await self.lane.call(lambda log: log.read(self.number + 1))
+                part = await self.lane.call(lambda log: log.read(self.at.number + 1))
                 await self.take(part)
-                if self.number >= part.head:
+                if self.at.number >= part.head.number:
                     await self.told(part.revision)
             except (Away, Denied, OSError) as why:
                 self.heads.missed(why)
@@ -42,40 +46,70 @@ class Follower:
         """Looks whether the log has the entry that the replica stands at, where it is still kept."""
         while True:
             try:
-                number = self.number
-                part = await self.lane.call(lambda log: log.read(max(number, 1), 1))
-                if part.head < number:
-                    raise Other(f"the log ends at {part.head}, and the replica stands at {number}")
-                held = [entries.id_of(data) for at, data in part.found if at == number]
-                if held not in ([], [self.applying.position.id]):
-                    raise Other(f"entry {number} of the log isn't the one that the replica has taken")
+                part = await self.lane.call(lambda log: log.read(max(self.at.number, 1), 1))
+                self.goes_on(part)
+                held = [entries.id_of(data) for number, data in part.found if number == self.at.number]
+                if held not in ([], [self.at.id]):
+                    raise Parted(f"entry {self.at.number} of the log is {held[0].hex()}, and the replica has taken "
+                                 f"{self.at.id.hex()}")
                 return
             except (Away, Denied) as why:
                 self.heads.missed(why)
                 self.lane.log.etcd.next()
                 await asyncio.sleep(PAUSE)
 
-    async def take(self, part):
-        """Takes what was read."""
-        if part.head < self.number:
-            raise Other(f"the log ends at {part.head}, and the replica has entry {self.number} of it")
-        if part.head > self.number and part.first > self.number + 1:
-            raise Other(f"the log begins at {part.first}, and the replica wants {self.number + 1}: take a new copy")
-        if part.head > self.number and not part.found:
-            raise Other(f"entry {self.number + 1} isn't in the log, which ends at {part.head}")
-        for number, data in part.found:
-            await self.one(number, data)
+    def goes_on(self, part):
+        """Looks whether the log ends with what the replica has taken, or after it."""
+        if part.head.number <= self.at.number and part.head != self.at:
+            raise Parted(f"the log ends at {part.head.told()}, and the replica has taken {self.at.told()}")
+        if part.head == self.at and self.applying.waits_for_taken():
+            raise Parted(f"the log ends at {self.at.told()}, and the store has taken one change more")
 
-    async def one(self, number, data):
-        if number != self.number + 1:
-            raise Other(f"entry {number} stands after {self.number}")
-        await self.applying.room.wait()
-        try:
-            self.applying.push(entries.read(number, data))
-        except entries.Broken as why:
-            raise Other(str(why)) from None
-        self.number = number
-        self.heads.seen(number)
+    async def take(self, part):
+        """Takes what was read, as far as something names it."""
+        self.goes_on(part)
+        first = self.at.number + 1
+        if part.head.number >= first and part.first > first:
+            raise Other(f"the log begins at {part.first}, and the replica wants {first}: take a new copy")
+        if part.head.number >= first and not part.found:
+            raise Other(f"entry {first} isn't in the log, which ends at {part.head.told()}")
+        await self.push(self.joined(part.found, part.head))
+
+    def joined(self, found, head):
+        """The entries of these bytes behind the last that was taken, up to the head; without the last one where nothing
+        names it yet."""
+        made, at = [], self.at
+        for number, data in found:
+            if number > head.number:
+                break
+            if number != at.number + 1:
+                raise Other(f"entry {number} stands after {at.number}")
+            try:
+                one = entries.read(number, data)
+            except entries.Broken as why:
+                raise Other(str(why)) from None
+            if one.before != at.id:
+                other = "the replica has taken" if at == self.at else "the log has before it"
+                raise Parted(f"entry {number} of the log follows {one.before.hex()}, and {other} {at.told()}")
+            made.append(one)
+            at = entries.Head(number, one.id)
+        if made and at.number == head.number and at != head:
+            raise Parted(f"entry {at.number} of the log is {at.id.hex()}, and the log's head names {head.id.hex()}")
+        if made and at.number < head.number:
+            made.pop()
+            if not made:
+                raise Other(f"entry {at.number + 1} isn't in the log, which ends at {head.told()}")
+        return made
+
+    async def push(self, made):
+        if made and self.applying.waits_for_taken() and not await self.applying.took(made[0]):
+            raise Parted(f"the store has taken one change after {self.at.told()}, and it isn't entry {made[0].number}, "
+                         f"{made[0].id.hex()}")
+        for one in made:
+            await self.applying.room.wait()
+            self.applying.push(one)
+            self.at = entries.Head(one.number, one.id)
+            self.heads.seen(self.at)
 
     # ---- news
 
@@ -85,6 +119,8 @@ class Follower:
         look = asyncio.ensure_future(self.look())
         try:
             await loop.run_in_executor(self.lane.pool, self.listen, revision + 1, loop)
+            if look.done():
+                look.result()
         finally:
             look.cancel()
 
@@ -99,8 +135,8 @@ class Follower:
                 if "error" in said or result.get("canceled"):
                     return
                 events = [one["kv"] for one in result.get("events", ()) if one.get("type", "PUT") == "PUT"]
-                new = [(self.lane.log.number(one["key"]), decoded(one["value"])) for one in events]
-                if new and not asyncio.run_coroutine_threadsafe(self.hear(new), loop).result():
+                new, head = self.lane.log.news(events)
+                if new and not asyncio.run_coroutine_threadsafe(self.hear(new, head), loop).result():
                     return
         except (OSError, ValueError, http.client.HTTPException):
             return
@@ -108,13 +144,13 @@ class Follower:
             self.open = None
             opened.close()
 
-    async def hear(self, new):
-        """Takes entries that were told; whether none is left out."""
-        for number, data in new:
-            if number == self.number + 1:
-                await self.one(number, data)
-            elif number > self.number:
-                return False
+    async def hear(self, new, head):
+        """Takes entries that were told, with the head that came with them; whether that was all."""
+        if new[0][0] <= self.at.number:
+            raise Parted(f"entry {new[0][0]} was put once more, and the replica stands at {self.at.told()}")
+        if new[0][0] != self.at.number + 1 or head is None or head.number != new[-1][0]:
+            return False
+        await self.push(self.joined(new, head))
         return True
 
     async def look(self):
@@ -123,12 +159,15 @@ class Follower:
             await asyncio.sleep(LOOK)
             try:
                 head = await self.heads.now()
-            except (Away, Denied, Other):
+            except (Away, Denied):
                 continue
-            if head > self.number and self.applying.room.is_set():
-                at = self.number
+            except Other:
+                self.end()
+                raise
+            if head.number > self.at.number and self.applying.room.is_set():
+                at = self.at
                 await asyncio.sleep(LATE)
-                if self.number == at:
+                if self.at == at:
                     self.end()
 
     def end(self):
@@ -144,15 +183,20 @@ class Follower:
 
 
 class Heads:
-    """The log's head, as of a question: who asks while one is under way waits for the next one."""
+    """The log's head, as of a question: who asks while one is under way waits for the next one. `known` is the last
+    entry that the log is known to have behind those that were taken here."""
 
-    def __init__(self, log, number, say):
-        self.lane, self.asked, self.running, self.known = Lane(log), None, None, number
-        self.say, self.is_away = say, False
+    def __init__(self, log, at, say, ends):
+        self.lane, self.asked, self.running, self.known = Lane(log), None, None, at
+        self.say, self.ends, self.is_away = say, ends, False
 
-    def seen(self, number):
-        """An entry of this number is in the log."""
-        self.known = max(self.known, number)
+    def seen(self, head):
+        """An entry is in the log, behind those that were taken here."""
+        if head.number > self.known.number:
+            self.known = head
+        self.answers()
+
+    def answers(self):
         if self.is_away:
             self.is_away = False
             self.say("the log answers again")
@@ -164,7 +208,7 @@ class Heads:
             self.say(f"the log doesn't answer: {why}")
 
     async def now(self):
-        """The number of the last entry; Away where no member tells it."""
+        """The last entry; Away where no member tells it, Other where the log isn't the one that was taken here."""
         if self.asked is None:
             self.asked = asyncio.get_running_loop().create_future()
             if self.running is None or self.running.done():
@@ -176,12 +220,18 @@ class Heads:
             # Whoever asks from here on isn't helped by this answer.
             asked, self.asked = self.asked, None
             try:
+                known = self.known
                 head = await self.lane.call(lambda log: log.head())
-                self.seen(head)
+                self.answers()
+                if head.number <= known.number and head != known:
+                    raise Parted(f"the log ends at {head.told()}, and the replica knows {known.told()}")
                 if not asked.done():
                     asked.set_result(head)
             except Exception as fault:
-                self.missed(fault)
+                if isinstance(fault, Other):
+                    self.ends(fault)
+                else:
+                    self.missed(fault)
                 if not asked.done():
                     asked.set_exception(fault)
                     asked.exception()

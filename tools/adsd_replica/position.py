@@ -9,11 +9,13 @@ import os
 import zlib
 from dataclasses import dataclass, replace
 
-from .entries import NONE
+from adsd_files import write
+
+from . import entries
 from .slots import Unfit
 
 SUFFIX, BLOCK = ".position", 4096
-WORD = b"adsd-replica 1"
+WORD, OLD = b"adsd-replica 2", b"adsd-replica 1 "
 
 
 @dataclass(frozen=True)
@@ -38,6 +40,9 @@ class Position:
         """The position after an entry."""
         return replace(self, entry=entry.number, id=entry.id, generation=place.generation, records=place.records)
 
+    def head(self):
+        return entries.Head(self.entry, self.id)
+
 
 def taken(before, now):
     """How many changes a store has taken since it stood at a place, or at a position: 0 or 1. A frame is one commit at
@@ -61,12 +66,8 @@ def read_line(block):
                     bytes.fromhex(pairs["id"]), int(pairs["generation"]), int(pairs["records"]))
 
 
-def sync_folder(path):
-    folder = os.open(os.path.dirname(os.path.abspath(path)), os.O_RDONLY)
-    try:
-        os.fsync(folder)
-    finally:
-        os.close(folder)
+class Old(Unfit):
+    """A position in a log of before."""
 
 
 class Positions:
@@ -77,21 +78,19 @@ class Positions:
 
     def make(self, first):
         """Makes the file, whole or not at all."""
-        other = self.path + ".new"
-        with open(os.open(other, os.O_WRONLY | os.O_CREAT | os.O_TRUNC, 0o600), "wb") as file:
-            file.write(first.line().ljust(BLOCK, b"\0") + bytes(BLOCK))
-            file.flush()
-            os.fsync(file.fileno())
-        os.rename(other, self.path)
-        sync_folder(self.path)
+        write(self.path, first.line().ljust(BLOCK, b"\0") + bytes(BLOCK))
 
     def read(self):
         """The newest position; None where there is no file."""
         try:
             with open(self.path, "rb") as file:
-                blocks = [read_line(file.read(BLOCK)) for _ in range(2)]
+                held = [file.read(BLOCK) for _ in range(2)]
         except FileNotFoundError:
             return None
+        blocks = list(map(read_line, held))
+        if any(one.startswith(OLD) for one in held):
+            raise Old(f"{self.path} is of a log whose entries don't name the ones before them: begin a new one with "
+                      "the store whose position has the greatest entry: docs/replicas.md, Logs of before")
         known = [(one.entry, at) for at, one in enumerate(blocks) if one]
         if not known:
             raise Unfit(f"{self.path} holds no position")
@@ -101,7 +100,7 @@ class Positions:
     def write(self, position):
         """Writes a position in the place of the older one, and syncs it."""
         if self.file is None:
-            self.file = os.open(self.path, os.O_WRONLY)
+            self.file = os.open(self.path, os.O_WRONLY | os.O_NOFOLLOW | os.O_CLOEXEC)
         os.pwrite(self.file, position.line().ljust(BLOCK, b"\0"), BLOCK * (1 - self.newest))
         os.fdatasync(self.file)
         self.newest = 1 - self.newest
@@ -114,4 +113,4 @@ class Positions:
 
 def beginning(log, own, name, place):
     """The position of a store that a log begins with."""
-    return Position(log, own, name, 0, NONE, place.generation, place.records)
+    return Position(log, own, name, 0, entries.beginning(own).id, place.generation, place.records)

@@ -63,7 +63,7 @@ class LogTurns(Turns):
             try:
                 return await send(*made)
             except Overtaken:
-                await self.applying.reaches(self.heads.known)
+                await self.applying.reaches(self.heads.known.number)
             finally:
                 self.behind.pop(connection, None)
         raise Refused(messages.BUSY, "others change the directory too often; nothing was changed")
@@ -82,7 +82,7 @@ class LogTurns(Turns):
         """Waits for the head, and until it is reached."""
         while not self.closed:
             try:
-                return await self.applying.reaches(await self.heads.now())
+                return await self.applying.reaches((await self.heads.now()).number)
             except (Away, Denied):
                 await asyncio.sleep(PAUSE)
         raise Stopped

@@ -17,13 +17,14 @@ BEHIND = """
     adsd-replica serve STORE ..              runs a replica; it takes the words of `adsd-ldap serve` too
     adsd-replica status                      tells the log's head, and how far each replica is
     adsd-replica forget NAME                 no longer keeps the log for a replica that won't come back
+    adsd-replica upgrade                     takes the log to the release of the program here
     adsd-replica compare STORE STORE         whether two stores hold the same rows
 
 Beside STORE stand STORE.b and STORE.position, where the replica stands in the log. docs/replicas.md has the rest.
 
-status of serve: 0 stopped; 1 the file of names isn't as it should be; 2 usage; 3 the store can't be served; 4 the
-address can't be had; 5 the program ended by itself; 6 the log doesn't go with the store. Of the others: 0 done; 1 not
-done, or the stores differ; 2 usage. A line on standard error says why.
+status of serve: 0 stopped; 1 the file of names, or what ADSD names, isn't as it should be; 2 usage; 3 the store can't
+be served; 4 the address can't be had; 5 the program ended by itself; 6 the log doesn't go with the store, or with the
+program. Of the others: 0 done; 1 not done, or the stores differ; 2 usage. A line on standard error says why.
 """
 USUAL = "http://127.0.0.1:2379"
 
@@ -78,7 +79,7 @@ def words_of_serve(form):
 def parsed(arguments):
     form = ldap.Words(prog="adsd-replica", description=ABOUT, epilog=BEHIND,
                       formatter_class=argparse.RawDescriptionHelpFormatter)
-    of_word = form.add_subparsers(dest="word", required=True, metavar="begin|copy|serve|status|forget|compare")
+    of_word = form.add_subparsers(dest="word", required=True, metavar="begin|copy|serve|status|forget|upgrade|compare")
 
     def word(called, told):
         return of_word.add_parser(called, help=told, description=told[0].upper() + told[1:] + ".")
@@ -95,9 +96,12 @@ def parsed(arguments):
     status = word("status", "tells how far the log and the replicas are")
     forget = word("forget", "no longer keeps the log for a replica")
     forget.add_argument("name", metavar="NAME", type=name)
+    upgrade = word("upgrade", "takes the log to the release of the program here, once all replicas are at its head")
     compare = word("compare", "tells whether two stores hold the same rows")
     compare.add_argument("stores", metavar="STORE", nargs=2, type=ldap.store)
-    for one in (begin, status, forget):
+    upgrade.add_argument("--wait", metavar="SECONDS", type=ldap.count(1, 3600), default=30,
+                         help="how long replicas are waited for (%(default)s)")
+    for one in (begin, status, forget, upgrade):
         words_of_etcd(one)
     words_of_etcd(copy, has_log=False)
     asked = form.parse_args(arguments)

@@ -3,13 +3,16 @@
 from dataclasses import dataclass, field
 from typing import List, Optional, Tuple
 
+import adsd_lines
 from adsd_ask.words import codes
 from adsd_import.descriptor import INHERITED, KIND_WORDS
 from adsd_import.sddl import FLAGS, RIGHTS
 from adsd_import.sids import text_of_sid
+from adsd_shown import shown, text_of
 
-from .effective import KINDS, ON_OBJECT, read_line
+from .effective import KINDS, ON_OBJECT
 from .front import key_of
+from .program import answered
 from .why import Checked
 
 FLAGS_SHOWN = [(name, bit) for name, bit in FLAGS.items() if bit != INHERITED]
@@ -36,7 +39,7 @@ class Card:
     objects: List[int]
     key: Tuple
     listing: List[str] = field(default_factory=list)
-    effective: List[str] = field(default_factory=list)
+    effective: List[adsd_lines.Granted] = field(default_factory=list)
     rows: List[Row] = field(default_factory=list)
     checked: Optional[Checked] = None
     agrees: bool = True
@@ -111,13 +114,8 @@ class Explainer:
 
 def rows_of(card, explain):
     """The rows of a card: lines that have the same rights for the same reason stand in one."""
-    found, granted, unread = {}, set(), []
-    for line in card.effective:
-        told = read_line(line)
-        if told is None:
-            unread.append(Row("unread", [line], [], True, None, ()))
-            continue
-        kind, name, given = told
+    found, granted = {}, set()
+    for kind, name, given in card.effective:
         granted |= {code for code in given if kind == "object"}
         for code in given:
             why, others = explain.explained(kind, name, code, True)
@@ -130,16 +128,12 @@ def rows_of(card, explain):
     for (kind, code, is_granted, why, others), names in found.items():
         merged.setdefault((kind, tuple(names), is_granted, why, others), []).append(code)
     return [Row(kind, [name for name in names if name], given, is_granted, why, others)
-            for (kind, names, is_granted, why, others), given in merged.items()] + unread
+            for (kind, names, is_granted, why, others), given in merged.items()]
 
 
 def counted(card, schema):
     """Counts what attributes the token reads and writes, and keeps the rights on the object as a whole."""
-    for line in card.effective:
-        told = read_line(line)
-        if told is None:
-            continue
-        kind, name, given = told
+    for kind, name, given in card.effective:
         if kind == "object":
             card.codes = given
         elif kind == "attribute":
@@ -150,12 +144,13 @@ def counted(card, schema):
 
 def filled(card, state, token, listing, effective, name):
     """Puts the program's texts on a card, and what follows from them."""
-    first = b"object " + name + b"\n"
-    card.listing = listing[len(first) :].decode("utf-8", "replace").splitlines()
-    card.effective = effective.decode("utf-8", "replace").splitlines()
+    told = answered(adsd_lines.listed, listing)
+    card.listing = [shown(line) for line in (f"owner {told.owner}", f"group {told.group}", *told.dacl, *told.sacl)]
+    card.effective = answered(adsd_lines.effective, effective)
     number = card.objects[0]
     card.is_root = card.objects == [1]
-    card.agrees = listing.startswith(first) and card.listing == listing_lines(state, number)
+    read = [shown(line) for line in listing_lines(state, number)]
+    card.agrees = shown(told.name) == text_of(name) and card.listing == read
     one = state.descriptor(number)
     card.checked = Checked(one.dacl.entries, one.owner, state.own_sid(number))
     card.rows = rows_of(card, Explainer(card, state, token))

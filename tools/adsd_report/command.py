@@ -5,8 +5,10 @@ import os
 import sys
 import tempfile
 
+import adsd_incomplete
+import adsd_shown
 from adsd_ask import ber, filters, words
-from adsd_import.report import seen, shown
+from adsd_import.report import shown
 from adsd_names.accounts import Accounts
 
 from . import cards, program, store, tokens
@@ -41,7 +43,7 @@ class Words(argparse.ArgumentParser):
 
 
 def say(line):
-    sys.stderr.write(f"adsd-report: {seen(str(line))}\n")
+    sys.stderr.write(f"adsd-report: {adsd_shown.shown(str(line))}\n")
 
 
 def positive(text):
@@ -158,7 +160,7 @@ def built(asked, place):
     whole = Made(os.path.basename(asked.store), state, token[0], Principals(state), sees, reasons, made, of, numbers)
     whole.protected = protected(path, copy, state, notes)
     whole.how, whole.notes = whom.how, whom.notes(whole.who.name) + notes
-    whole.events = events
+    whole.events, whole.incomplete = events, adsd_incomplete.warn(asked.store)
     if front is not None:
         whole.shots, whole.left_out = front.shots, front.left_out
     return page(whole)

@@ -1,7 +1,5 @@
 """What the frames leave in the security log: the lines of the program's command `audit`, as a table."""
 
-from adsd_import.sids import guid_of_text, sid_of_text
-
 from .html import code, table, tag, text, yes_no
 
 HEADS = ["frame", "connection", "it was", "right", "on", "by", "object"]
@@ -11,17 +9,15 @@ by the system list that stood before it. The frame is its place among them."""
 NOTHING = "No entry of a system list asks for an event of these frames."
 
 
-def row(line, told):
-    frame, connection, outcome, right, guid, user, dn = line.split(b" ", 6)
-    cells = [text(frame), text(connection), yes_no(outcome == b"success", "granted", "refused"), code(right),
-             "the object" if guid == b"-" else text(told.schema.type_name(guid_of_text(guid.decode()))),
-             told.sid(sid_of_text(user.decode())), text(dn)]
+def row(event, told):
+    cells = [text(str(event.frame)), text(str(event.connection)), yes_no(event.granted, "granted", "refused"), code(event.code),
+             "the object" if event.guid is None else text(told.schema.type_name(event.guid)), told.sid(event.sid), text(event.name)]
     return "<tr>" + "".join(tag("td", cell) for cell in cells) + "</tr>"
 
 
-def markup(lines, told):
+def markup(events, told):
     """The section's inside."""
-    if not lines:
+    if not events:
         return tag("p", NOTHING)
-    more = tag("p", f"{len(lines) - MOST:,} further events aren't shown.") if len(lines) > MOST else ""
-    return tag("p", ABOUT) + table("", HEADS, [row(line, told) for line in lines[:MOST]], aria_label="events") + more
+    more = tag("p", f"{len(events) - MOST:,} further events aren't shown.") if len(events) > MOST else ""
+    return tag("p", ABOUT) + table("", HEADS, [row(event, told) for event in events[:MOST]], aria_label="events") + more

@@ -9,7 +9,7 @@ from adsd_ask import requests
 
 from .effective import rights_of
 from .html import plural
-from .program import Serving, asked, copy_slots
+from .program import Serving, answered, asked, copy_slots
 from .state import State
 from .store import SLOTS
 from .why import answers_to
@@ -43,7 +43,7 @@ def frames_of(data, accounts):
     """The frames of some bytes: frames as they are, or lines of text as `adsd-ask frames` takes them, which may name
     accounts."""
     if data[:1] not in (b"\1", b"\2", b"\3", b"\4"):
-        return list(requests.frames(data.decode("utf-8", "replace").splitlines(), accounts))
+        return list(requests.frames(requests.lines_of(data), accounts))
     made, at = [], 0
     while at < len(data):
         size = 7 + struct.unpack_from(">I", data, at + 3)[0] if at + 7 <= len(data) else len(data) + 1
@@ -110,7 +110,7 @@ class Front:
         key = key_of(state, number, self.token[0])
         if key not in self.known:
             words = [self.path, "effective", self.store + copy, state.names[number]]
-            self.known[key] = rights_of(asked(words, self.token[1]))
+            self.known[key] = answered(rights_of, asked(words, self.token[1]))
         return self.known[key]
 
     def serve(self, frames):

@@ -34,7 +34,7 @@ class Made:
         self.title, self.state, self.token, self.who = title, state, token, who
         self.sees, self.reasons, self.cards, self.of, self.numbers = sees, reasons, cards, of, numbers
         self.shots, self.left_out, self.events = [], 0, None
-        self.protected, self.notes, self.how = set(), [], ""
+        self.protected, self.notes, self.how, self.incomplete = set(), [], "", []
 
 
 def link_to(made):
@@ -125,7 +125,8 @@ def page(made):
     nav = tag("nav", tag("ul", "".join(tag("li", tag("a", head, href=f"#{name}")) for name, head, _, _ in parts)),
               aria_label="parts of this page")
     root = text(made.state.names[1])
-    head = tag("header", tag("h1", f"Rights in {root}") +
+    banner = "".join(tag("p", text(line, 5000), of="no banner", role="alert") + "\n" for line in made.incomplete)
+    head = banner + tag("header", tag("h1", f"Rights in {root}") +
                tag("p", f"{text(made.title)}: {plural(len(made.numbers), 'object')} as "
                    f"{text(made.who.name(made.token.user))} meets them", of="soft") + nav)
     sections = "\n".join(write(name, head, inner) for name, head, inner, write in parts)

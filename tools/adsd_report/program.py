@@ -2,7 +2,6 @@
 
 import os
 import queue
-import shutil
 import struct
 import subprocess
 import sys
@@ -11,12 +10,17 @@ from concurrent.futures import ThreadPoolExecutor
 
 from adsd_ask import ber, requests
 from adsd_ask.words import ADSD
+from adsd_files import copy
+from adsd_run import hand_on, run
+from adsd_shown import line_of, shown, shown_bytes
+
+import adsd_lines
 
 from .store import SLOTS
 
 TOP = os.path.dirname(os.path.dirname(os.path.dirname(os.path.abspath(__file__))))
-# Where the launcher has the program: in the repository, and where it is installed.
-BUILT = [os.path.join(TOP, "crates", "adsd", "out", "adsd"), os.path.join(TOP, "program")]
+# Where the program is installed, and what names it in the repository.
+INSTALLED, WHICH = os.path.join(TOP, "program"), os.path.join(TOP, "tools", "which-program")
 SEARCH, ENTRY, DONE, ALL_OF = 0x63, 0x64, 0x65, 0xA0
 SUBTREE = 2
 NO_SUCH_WORDS = 2
@@ -27,45 +31,54 @@ class Failed(Exception):
 
 
 def program():
-    """The path of the program: the one that ADSD names, or the launcher's, which builds it where it has to."""
+    """The path of the program, to be asked on copies: the one that ADSD names, the installed one, or that of the
+    repository. A store itself is opened by the launcher alone, which looks at its files."""
     if os.environ.get("ADSD"):
         return ADSD
-    # (a small question, so that the launcher builds the program where it has to)
-    status = subprocess.run([ADSD, "sddl"], input=b"O:BA", stdout=subprocess.DEVNULL).returncode
-    if status != 0:
-        raise Failed(f"the launcher ended with {status}")
-    return next((path for path in BUILT if os.path.exists(path)), ADSD)
+    if os.path.exists(INSTALLED):
+        return INSTALLED
+    found = subprocess.run([WHICH, "--must"], stdin=subprocess.DEVNULL, stdout=subprocess.PIPE, text=True)
+    if found.returncode:
+        raise Failed(f"there is no program: the launcher would end with {found.returncode}")
+    return found.stdout.rstrip("\n")
 
 
 def asked(words, given=b""):
     """What the program says to some words; Failed where its status isn't 0."""
     try:
-        done = subprocess.run(words, input=given, stdout=subprocess.PIPE)
+        done = run(words, given)
     except OSError as fault:
         raise Failed(f"{words[0]}: {fault.strerror}") from None
     if done.returncode:
-        said = done.stdout.decode("utf-8", "replace").strip()[:200]
+        said = line_of(done.stdout)
         raise Failed(f"adsd {words[1]} ended with {done.returncode}: {said or 'nothing was said'}")
     return done.stdout
 
 
+def answered(reader, said):
+    """What one of the readers of adsd_lines makes of an answer; Failed where it isn't of its form."""
+    try:
+        return reader(said)
+    except adsd_lines.Unread as why:
+        raise Failed(str(why)) from None
+
+
 def counts(path, store):
     """The numbers of `check`, by their words."""
-    lines = asked([path, "check", store]).decode().splitlines()
-    return {name: int(number) for name, _, number in (line.partition(" ") for line in lines)}
+    return answered(adsd_lines.check, asked([path, "check", store]))
 
 
 def events(path, store, frames):
-    """The lines that the frames leave in the security log of a store, or None where the program has no such command."""
+    """The events that the frames leave in the security log of a store, or None where the program has no such command."""
     try:
-        done = subprocess.run([path, "audit", store], input=b"".join(frames), stdout=subprocess.PIPE, stderr=subprocess.DEVNULL)
+        done = run([path, "audit", store], b"".join(frames), tell=False)
     except OSError as fault:
         raise Failed(f"{path}: {fault.strerror}") from None
     if done.returncode == NO_SUCH_WORDS:
         return None
     if done.returncode:
         raise Failed(f"adsd audit ended with {done.returncode}")
-    return done.stdout.splitlines()
+    return answered(adsd_lines.audit, done.stdout)
 
 
 class Copies:
@@ -101,7 +114,7 @@ class Copies:
 def copy_slots(store, made):
     for slot in SLOTS:
         if os.path.exists(store + slot):
-            shutil.copyfile(store + slot, made + slot)
+            copy(store + slot, made + slot)
 
 
 class Serving:
@@ -110,17 +123,18 @@ class Serving:
     def __init__(self, path, store):
         words = [path, "serve", store]
         try:
-            self.child = subprocess.Popen(words, stdin=subprocess.PIPE, stdout=subprocess.PIPE, bufsize=0)
+            pipe = subprocess.PIPE
+            self.child = subprocess.Popen(words, stdin=pipe, stdout=pipe, stderr=pipe, bufsize=0)
         except OSError as fault:
             raise Failed(f"{path}: {fault.strerror}") from None
+        self.said = hand_on(self.child.stderr)
 
     def taken(self, size):
         made = b""
         while len(made) < size:
             piece = self.child.stdout.read(size - len(made))
             if not piece:
-                said = made.decode("utf-8", "replace").strip()[:200]
-                raise Failed(f"adsd serve ended with {self.child.wait()}: {said or 'no answer'}")
+                raise Failed(f"adsd serve ended with {self.child.wait()}: {line_of(made) or 'no answer'}")
             made += piece
         return made
 
@@ -137,7 +151,9 @@ class Serving:
     def close(self):
         self.child.stdin.close()
         self.child.stdout.close()
-        return self.child.wait()
+        status = self.child.wait()
+        self.said.join(1)
+        return status
 
 
 def seen(path, store, token, root):
@@ -157,7 +173,7 @@ def seen(path, store, token, root):
     for _, message in ber.parts(body):
         tag, inner = ber.parts(message)[1]
         if tag == ENTRY:
-            names.add(ber.parts(inner)[0][1])
+            names.add(shown_bytes(ber.parts(inner)[0][1]))
         elif tag == DONE:
             code = int.from_bytes(ber.parts(inner)[0][1], "big")
     return names, code
@@ -170,6 +186,6 @@ def teller(wanted, name="adsd-report"):
     def tell(line):
         if (wanted or sys.stderr.isatty()) and time.time() - last[0] > 1:
             last[0] = time.time()
-            sys.stderr.write(f"{name}: {line}\n")
+            sys.stderr.write(f"{name}: {shown(line)}\n")
 
     return tell

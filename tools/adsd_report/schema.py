@@ -4,6 +4,7 @@ from dataclasses import dataclass
 from typing import Dict, List, Optional
 
 from adsd_import.sids import guid_of_text, text_of_guid
+from adsd_shown import text_of
 
 ATTRIBUTE, CLASS, RIGHT = 0, 1, 2
 CONFIDENTIAL = 0x80
@@ -21,7 +22,7 @@ class Lines:
 
     def text(self, name, other=""):
         found = self.told.get(name.lower())
-        return found[0].decode("utf-8", "replace") if found else other
+        return text_of(found[0]) if found else other
 
     def guid(self, name) -> Optional[bytes]:
         found = self.told.get(name.lower())

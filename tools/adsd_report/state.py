@@ -4,6 +4,7 @@
 from adsd_import.descriptor import INHERITED, Acl
 from adsd_import.rights import copies
 from adsd_import.sids import sid_at
+from adsd_shown import shown
 
 from . import store
 from .schema import Schema
@@ -119,7 +120,7 @@ class State:
     def found(self, name):
         """The number of the object of a name, or None; names compare without regard to case."""
         return {text.decode("utf-8", "replace").casefold(): number for number, text in self.names.items()}.get(
-            name.casefold())
+            shown(name).casefold())
 
     def counts(self):
         """The numbers that the program's `check` gives."""

@@ -2,14 +2,16 @@
 
 import fcntl
 import os
-import shutil
+import stat
 import struct
 from dataclasses import dataclass, field
 from typing import Dict, List, Tuple
 
+from adsd_files import pieces_of, write
 from adsd_import.descriptor import Acl, Descriptor, Entry, Lost, Unreadable, entry_at
 from adsd_import.names import value_text
 from adsd_import.sids import sid_at
+from adsd_shown import shown_bytes
 
 SLOTS = ("", ".b")
 HEAD = 14
@@ -71,6 +73,20 @@ class Bytes:
         return self.data[self.at :]
 
 
+def opened(path):
+    """A file of a store, open to be read: a regular one, and by no link of another user, who would choose what is
+    read."""
+    link = os.lstat(path)
+    if stat.S_ISLNK(link.st_mode) and link.st_uid not in (0, os.geteuid()):
+        raise Broken(f"{path} is a link of another user (uid {link.st_uid})")
+    # (a FIFO would be waited for)
+    file = open(os.open(path, os.O_RDONLY | os.O_NONBLOCK | os.O_CLOEXEC), "rb")
+    if not stat.S_ISREG(os.fstat(file.fileno()).st_mode):
+        file.close()
+        raise Broken(f"{path} is no regular file")
+    return file
+
+
 def copied(store, place):
     """Copies the slots of a store into a folder; the path of the copy. Refused while another program has the store."""
     if not os.path.exists(store):
@@ -78,13 +94,12 @@ def copied(store, place):
     made = os.path.join(place, "copy")
     for slot in SLOTS:
         if os.path.exists(store + slot):
-            with open(store + slot, "rb") as opened:
+            with opened(store + slot) as file:
                 try:
-                    fcntl.flock(opened, fcntl.LOCK_SH | fcntl.LOCK_NB)
+                    fcntl.flock(file, fcntl.LOCK_SH | fcntl.LOCK_NB)
                 except BlockingIOError:
                     raise Broken("another program has it open") from None
-                with open(made + slot, "wb") as copy:
-                    shutil.copyfileobj(opened, copy)
+                write(made + slot, pieces_of(file), durable=False)
     return made
 
 
@@ -92,8 +107,8 @@ def slot(path):
     """The bytes of a slot where it is open, else None."""
     if not os.path.exists(path):
         return None
-    with open(path, "rb") as opened:
-        data = opened.read()
+    with opened(path) as file:
+        data = file.read()
     return data if data[:1] == b"\x01" else None
 
 
@@ -101,8 +116,8 @@ def head(path):
     """What a slot begins with."""
     if not os.path.exists(path):
         return b""
-    with open(path, "rb") as opened:
-        return opened.read(HEAD)
+    with opened(path) as file:
+        return file.read(HEAD)
 
 
 def both(store):
@@ -240,7 +255,7 @@ def descriptor_of(data):
 
 def names_of(directory, types):
     """The name of each object as bytes, by number; `types` gives the type of a class's names."""
-    made, of = {}, {}
+    made, of, suffix = {}, {}, shown_bytes(directory.suffix)
 
     def name(number):
         if number not in made:
@@ -248,7 +263,7 @@ def names_of(directory, types):
             if one.of_class not in of:
                 of[one.of_class] = types(one.of_class).encode() + b"="
             own = of[one.of_class] + value_text(one.naming)
-            above = name(one.parent) if one.parent else directory.suffix
+            above = name(one.parent) if one.parent else suffix
             made[number] = own + (b"," + above if above else b"")
         return made[number]
 

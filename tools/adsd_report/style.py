@@ -52,6 +52,7 @@ tbody th { font-weight: 600; }
 .numbers b { display: block; font-size: 1.45rem; line-height: 1.2; }
 .yes { color: var(--yes); } .no { color: var(--no); } .mark { color: var(--mark); }
 .yes, .no, .mark { font-weight: 600; }
+.banner { margin: 0; padding: .6rem 1rem; border: 3px solid currentColor; overflow-wrap: anywhere; }
 .lead { font-size: 1.15rem; }
 .harms { padding: 0; margin: .8rem 0 1.2rem; list-style: none; max-width: 62rem; }
 .harms li { display: grid; grid-template-columns: 4.5rem 1fr; gap: .75rem; padding: .3rem 0;

@@ -12,7 +12,7 @@ from .schema import UNREAD
 from .style import ENTRIES, MAY
 
 KINDS = {"object": "the object as a whole", "attribute": "attribute", "set": "property set", "right": "extended right",
-         "validated": "validated write", "child": "children of class", "unread": "a line that isn't known"}
+         "validated": "validated write", "child": "children of class"}
 SIGNS = {0: ("yes", "\u2713 allow"), 1: ("no", "\u2717 deny"), 2: ("mark", "\u25e6 audit")}
 
 

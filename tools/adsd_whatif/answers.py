@@ -1,18 +1,20 @@
 """What the program answers to the questions at each moment, and what of it changes."""
 
-import subprocess
 import time
 from concurrent.futures import ThreadPoolExecutor
 from dataclasses import dataclass
 from typing import Dict, Optional
 
-from adsd_import.report import seen
-from adsd_report.program import Failed
+import adsd_lines
+from adsd_import.sids import text_of_sid
+from adsd_names.accounts import Accounts
+from adsd_report.program import Failed, answered
+from adsd_run import run
+from adsd_shown import line_of, shown
 
 from .moments import AFTER, BEFORE, SETTLED
 
 MOMENTS = (BEFORE, AFTER, SETTLED)
-REASONS = ("no object", "several objects", "no right", "too many groups")
 
 
 @dataclass
@@ -23,34 +25,59 @@ class Answer:
     why_not: str = ""
 
 
-def who(path, store, right, name):
+def said_by(path, *words):
+    """What the program says to some words; and why it has no answer, where that is so."""
+    try:
+        done = run([path, *words], tell=False)
+    except (OSError, ValueError) as fault:
+        raise Failed(f"{path}: {fault}") from None
+    why = answered(lambda said: adsd_lines.reason(words[0], said), done.stdout) if done.returncode == 3 else None
+    if done.returncode and why is None:
+        raise Failed(f"adsd {words[0]} ended with {done.returncode}: {line_of(done.stdout) or 'nothing was said'}")
+    return done.stdout, why
+
+
+class People:
+    """Who there is in the store of each moment, by identifier. A line of the program that tells of nobody there is one
+    that a name made, and would hide somebody who is."""
+
+    def __init__(self, stores):
+        self.of = {store: self.read(store) for store in stores}
+
+    def read(self, store):
+        accounts = Accounts(store)
+        names = accounts.names()
+        return {text_of_sid(sid): names[number] for number, sid in accounts.sids.items()}
+
+    def hold(self, store, word, sid, name):
+        """Refuses a line of a command that has this identifier and this name."""
+        if self.of[store].get(sid) != shown(name):
+            raise Failed(f"adsd {word} tells of {sid} {shown(name)}, and the store has no such account")
+
+
+def who(path, store, right, name, people):
     """The program's answer to `who`."""
     if name is None:
         return Answer({}, "no object")
-    words = [path, "who", store, right, name]
-    try:
-        done = subprocess.run(words, stdin=subprocess.DEVNULL, stdout=subprocess.PIPE, stderr=subprocess.DEVNULL)
-    except (OSError, ValueError) as fault:
-        raise Failed(f"{path}: {fault}") from None
-    said = done.stdout.decode("utf-8", "backslashreplace")
-    if done.returncode == 3 and said.startswith(REASONS):
-        return Answer({}, seen(said.rstrip("\n")))
-    if done.returncode:
-        raise Failed(f"adsd who ended with {done.returncode}: {seen(said.strip()[:200]) or 'nothing was said'}")
-    found = [line.split(" ", 2) for line in said.split("\n")[:-1]]
-    return Answer({sid: (decides, name) for decides, sid, name in found})
+    said, why = said_by(path, "who", store, right, name)
+    if why is not None:
+        return Answer({}, shown(why))
+    found = answered(adsd_lines.who, said)
+    for one in found:
+        people.hold(store, "who", one.sid, one.name)
+    return Answer({one.sid: (one.decides, one.name) for one in found})
 
 
 def fill(path, moments, questions, jobs, tell):
     """Asks every question at every moment, several at once; a moment that has the store of the one before isn't asked."""
-    todo, begun = [], time.time()
+    todo, begun, people = [], time.time(), People(set(moments.stores.values()))
     with ThreadPoolExecutor(jobs) as pool:
         for question in questions:
             of = {}
             for word in MOMENTS:
                 key = moments.stores[word], question.names[word]
                 if key not in of:
-                    of[key] = pool.submit(who, path, key[0], question.right, key[1])
+                    of[key] = pool.submit(who, path, key[0], question.right, key[1], people)
                 todo.append((question, word, of[key]))
         for number, (question, word, one) in enumerate(todo, 1):
             question.answers[word] = one.result()

@@ -5,12 +5,13 @@ import os
 import sys
 import tempfile
 
+import adsd_incomplete
 from adsd_ask import ber, filters, words
 from adsd_ask import answers as replies
-from adsd_import.report import seen
 from adsd_names.accounts import Accounts
 from adsd_report import program, store
 from adsd_report.front import BadFrames
+from adsd_shown import shown
 
 from . import answers, differing, questions, told
 from .moments import Unanswered, frames, moments
@@ -47,7 +48,7 @@ class Words(argparse.ArgumentParser):
 
 
 def say(line):
-    sys.stderr.write(f"adsd-whatif: {seen(str(line))}\n")
+    sys.stderr.write(f"adsd-whatif: {shown(str(line))}\n")
 
 
 def positive(text):
@@ -105,6 +106,7 @@ def built(asked, place):
     # What is no directory is refused by the program before any of it is read here.
     program.counts(path, copy)
     made = moments(path, copy, frames(asked, path, copy, data, Accounts(copy)))
+    made.incomplete = (adsd_incomplete.warn if asked.json else adsd_incomplete.lines)(asked.store)
     if asked.diff:
         said = differing.texts(path, made)
         return differing.document(made, said) + "\n" if asked.json else "\n".join(differing.lines(made, said)) + "\n"

@@ -1,13 +1,12 @@
 """All that the frames change, as `adsd diff` tells it of the copies: from before them to right after them, and to when every list is
 passed down."""
 
-import json
-import subprocess
-
-from adsd_import.report import seen
-from adsd_report.program import Failed
+import adsd_lines
+from adsd_report.program import answered
+from adsd_shown import json_of, shown, text_of
 from adsd_who import differences
 
+from .answers import People, said_by
 from .moments import AFTER, BEFORE, SETTLED
 from .told import counts_of, head
 
@@ -19,23 +18,20 @@ class Refused(Exception):
 
 
 def texts(path, moments):
-    """What the program answers to `diff`, from the first moment to each later one that has a store of its own."""
-    made = {}
+    """What the program answers to `diff`, from the first moment to each later one that has a store of its own: its
+    lines, and what they say."""
+    made, people = {}, People({moments.stores[AFTER], moments.stores[SETTLED]})
     for word in (AFTER, SETTLED):
         if word == SETTLED and moments.stores[SETTLED] == moments.stores[AFTER]:
             made[word] = made[AFTER]
             continue
-        words = [path, "diff", moments.stores[BEFORE], moments.stores[word]]
-        try:
-            done = subprocess.run(words, stdin=subprocess.DEVNULL, stdout=subprocess.PIPE, stderr=subprocess.DEVNULL)
-        except (OSError, ValueError) as fault:
-            raise Failed(f"{path}: {fault}") from None
-        said = done.stdout.decode("utf-8", "backslashreplace")
-        if done.returncode == 3 and said.startswith("too many groups"):
-            raise Refused(seen(said.rstrip("\n")))
-        if done.returncode:
-            raise Failed(f"adsd diff ended with {done.returncode}: {seen(said.strip()[:200]) or 'nothing was said'}")
-        made[word] = said
+        said, why = said_by(path, "diff", moments.stores[BEFORE], moments.stores[word])
+        if why is not None:
+            raise Refused(shown(why))
+        read = answered(lambda data: differences.read(text_of(data)), said)
+        for one in read["principals"]:
+            people.hold(moments.stores[word], "diff", one["sid"], one["name"])
+        made[word] = answered(lambda data: adsd_lines.lines("diff", data), said), read
     return made
 
 
@@ -47,13 +43,9 @@ def lines(moments, told):
             continue
         yield ""
         yield title
-        yield from (seen(line) for line in told[word].split("\n")[:-1])
+        yield from map(shown, told[word][0])
 
 
 def document(moments, told):
     """The same as JSON, with the lines read."""
-    try:
-        read = {word: differences.read(text) for word, text in told.items()}
-    except (differences.Unread, ValueError) as line:
-        raise Failed(f"adsd diff said {seen(str(line))}") from None
-    return json.dumps({**counts_of(moments), "diff": read}, indent=1, ensure_ascii=False)
+    return json_of({**counts_of(moments), "diff": {word: read for word, (_, read) in told.items()}}, 1)

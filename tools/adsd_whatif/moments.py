@@ -1,15 +1,17 @@
 """The three moments of a store: before the frames, after them, and once every list is passed down. Each is a copy."""
 
 import struct
-import subprocess
 from dataclasses import dataclass, field
 from typing import Dict, List, Tuple
 
+import adsd_lines
 from adsd_ask import answers, requests, tokens
 from adsd_import.sids import text_of_sid
 from adsd_report import program
 from adsd_report.front import frames_of
 from adsd_report.tokens import user_of
+from adsd_run import run
+from adsd_shown import line_of
 
 TOKEN, STEPS = 1, 3
 BEFORE, AFTER, SETTLED = "before", "after", "settled"
@@ -24,7 +26,8 @@ class Unanswered(Exception):
 
 @dataclass
 class Moments:
-    """The store of each moment by its word, what the frames were answered, and what was pending after them."""
+    """The store of each moment by its word, what the frames were answered, what was pending after them, and what the
+    export lacked that the store was made of."""
 
     stores: Dict[str, str]
     answered: List[Tuple[int, str]] = field(default_factory=list)
@@ -32,13 +35,14 @@ class Moments:
     pending: int = 0
     stale: int = 0
     steps: int = 0
+    incomplete: List[str] = field(default_factory=list)
 
 
 def made_by(path, words, given):
     """The frames that a command of the program makes of lines."""
-    done = subprocess.run([path, *words], input=given, stdout=subprocess.PIPE)
+    done = run([path, *words], given)
     if done.returncode:
-        said = done.stdout.decode("utf-8", "replace").strip()[:200]
+        said = line_of(done.stdout)
         raise Unanswered(f"adsd {words[0]} ended with {done.returncode}: {said or 'nothing was said'}")
     return done.stdout
 
@@ -81,7 +85,7 @@ def refused(line):
 
 def served(path, store, given):
     """Serves frames on a copy; the line of each answer."""
-    done = subprocess.run([path, "serve", store], input=b"".join(given), stdout=subprocess.PIPE)
+    done = run([path, "serve", store], b"".join(given))
     lines = [result(answer) for answer in split(done.stdout)]
     if done.returncode:
         raise Unanswered(f"adsd serve ended with {done.returncode} after {len(lines)} of {len(given)} frames")
@@ -101,5 +105,5 @@ def moments(path, copy, given):
     if made.pending:
         program.copy_slots(after, settled)
         made.stores[SETTLED] = settled
-        made.steps = int(program.asked([path, "settle", settled]).split()[1])
+        made.steps = program.answered(adsd_lines.settle, program.asked([path, "settle", settled]))
     return made

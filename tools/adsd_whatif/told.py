@@ -1,8 +1,6 @@
 """What is printed: lines, each a word, a blank and a value, as the program's own; or one document of JSON."""
 
-import json
-
-from adsd_import.report import seen
+from adsd_shown import json_of, shown
 
 from .answers import MOMENTS, changes
 
@@ -28,14 +26,15 @@ def blocks(questions, every):
 
 def head(moments, quiet, left_out, notes):
     """The lines before the blocks."""
+    yield from moments.incomplete
     yield f"# {plural(moments.count, 'frame')}, {len(moments.answered)} refused"
-    yield from (f"# frame {number}: {seen(line)}" for number, line in moments.answered)
+    yield from (f"# frame {number}: {shown(line)}" for number, line in moments.answered)
     if moments.pending:
         yield (f"# after them {moments.pending} pending and {moments.stale} stale; "
                f"settled by {plural(moments.steps, 'step')}")
     else:
         yield "# after them nothing is pending, so it is settled"
-    yield from (f"# {note}" for note in notes)
+    yield from (f"# {shown(note)}" for note in notes)
     if quiet:
         yield f"# in {plural(quiet, 'more question')} nobody gains or loses the right"
     if left_out:
@@ -47,23 +46,24 @@ def lines(moments, questions, left_out, notes, every):
     made, quiet = blocks(questions, every)
     yield from head(moments, quiet, left_out, notes)
     last = None
-    for (shown, was, alike, why, found, keep), rights in made.items():
-        if shown != last:
-            yield from ("", f"object {seen(shown)}")
-            yield from ([f"was {seen(was)}"] if was else [])
+    for (name, was, alike, why, found, keep), rights in made.items():
+        if name != last:
+            yield from ("", f"object {shown(name)}")
+            yield from ([f"was {shown(was)}"] if was else [])
             yield from ([f"alike {alike}"] if alike else [])
-        last = shown
-        yield from (f"right {seen(right)}" for right in rights)
+        last = name
+        yield from (f"right {shown(right)}" for right in rights)
         yield from (f"{word} {reason}" for word, reason in why)
         for one in found:
             had = " ".join(decides or "no" for decides in (one.before, one.after, one.settled))
-            yield f"{one.sign} {had} {one.sid} {seen(one.name)}"
+            yield f"{one.sign} {had} {one.sid} {shown(one.name)}"
         yield f"keep {keep}"
 
 
 def counts_of(moments):
     """What JSON says of the frames and of what was pending after them."""
-    return {"frames": {"count": moments.count, "refused": [{"frame": number, "result": line} for number, line in moments.answered]},
+    first = {"incomplete": moments.incomplete} if moments.incomplete else {}
+    return {**first, "frames": {"count": moments.count, "refused": [{"frame": number, "result": line} for number, line in moments.answered]},
             "after": {"pending": moments.pending, "stale": moments.stale, "stepsToSettle": moments.steps}}
 
 
@@ -80,4 +80,4 @@ def document(moments, questions, left_out, notes, every):
                                   if question.answers[word].why_not},
                      "changes": [vars(one) for one in found], **({"was": question.was} if question.was else {})})
     made = {**counts_of(moments), "questions": told, "withoutChange": quiet, "kindsNotAsked": left_out, "notes": list(notes)}
-    return json.dumps(made, indent=1, ensure_ascii=False)
+    return json_of(made, 1)

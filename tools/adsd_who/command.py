@@ -1,15 +1,17 @@
 """The command: words, what is asked of the program, statuses."""
 
 import argparse
-import subprocess
 import sys
 
+import adsd_incomplete
+import adsd_lines
 from adsd_ask.words import ADSD
-from adsd_import.report import seen
 from adsd_import.sids import sid_of_text, text_of_sid
 from adsd_names.accounts import Accounts
 from adsd_report import store
 from adsd_report.names import WELL_KNOWN
+from adsd_run import run
+from adsd_shown import Words, line_of, shown, text_of
 
 from . import differences, written
 from .entries import Changed, Entries
@@ -38,12 +40,12 @@ class Refused(Exception):
 
 
 def say(line):
-    sys.stderr.write(f"adsd-who: {seen(str(line))}\n")
+    sys.stderr.write(f"adsd-who: {shown(str(line))}\n")
 
 
 def parsed(arguments):
-    form = argparse.ArgumentParser(prog="adsd-who", description=ABOUT, epilog=STATUSES,
-                                   formatter_class=argparse.RawDescriptionHelpFormatter)
+    form = Words(prog="adsd-who", description=ABOUT, epilog=STATUSES,
+                 formatter_class=argparse.RawDescriptionHelpFormatter)
     shape = argparse.ArgumentParser(add_help=False)
     forms = shape.add_mutually_exclusive_group()
     forms.add_argument("--json", dest="form", action="store_const", const="json", help="write JSON")
@@ -61,10 +63,10 @@ def parsed(arguments):
 
 def program(*words):
     """What the program prints; Refused where its status isn't 0."""
-    done = subprocess.run([ADSD, *words], stdin=subprocess.DEVNULL, stdout=subprocess.PIPE, stderr=subprocess.PIPE)
+    done = run([ADSD, *words], tell=False)
     if done.returncode:
-        said = (done.stdout or done.stderr).decode("utf-8", "replace").strip().removeprefix("adsd: ")
-        raise Refused(done.returncode, said or f"adsd {words[0]} ended with {done.returncode}")
+        told = [line_of(text, 4000).removeprefix("adsd: ") for text in (done.stdout, done.stderr)]
+        raise Refused(done.returncode, ": ".join(filter(None, told)) or f"adsd {words[0]} ended with {done.returncode}")
     return done.stdout
 
 
@@ -73,19 +75,22 @@ class Asked:
 
     def __init__(self, path):
         self.path, self.accounts = path, Accounts(path)
-        of = store.names_of(self.accounts.directory, self.accounts.schema.naming)
-        self.names = {number: name.decode("utf-8", "backslashreplace") for number, name in of.items()}
+        self.names = self.accounts.names()
         self.numbers = {name: number for number, name in self.names.items()}
         self.entries = Entries(lambda word, name: program(word, path, name), self.accounts, self.names)
 
-    def lines(self, word, *words):
-        return program(word, self.path, *words).decode("utf-8", "backslashreplace").split("\n")[:-1]
-
     def number(self, name):
         """The object of a name that the program printed."""
-        if name not in self.numbers:
-            raise Changed
-        return self.numbers[name]
+        if shown(name) not in self.numbers:
+            raise Changed(f"no object of it is {name}")
+        return self.numbers[shown(name)]
+
+    def one(self, sid, name):
+        """What is told of somebody whose identifier and name the program printed: they are one object's."""
+        number = self.number(name)
+        if self.accounts.sids.get(number) != sid_of_text(sid):
+            raise Changed(f"{name} hasn't the identifier {sid}")
+        return {"sid": sid, "account": self.accounts.names_of(number)[0], "name": self.names[number]}
 
     def called(self, sid):
         """What an identifier is called: the account, or what it is called everywhere; None where it is neither."""
@@ -103,13 +108,12 @@ class Asked:
         for attribute in ("sAMAccountName", "userPrincipalName"):
             if not found:
                 found = [one for one in self.names for value in self.accounts.values(one, attribute)[:1]
-                         if value.decode("utf-8", "backslashreplace").casefold() == wanted]
+                         if text_of(value).casefold() == wanted]
         return found[0] if found else self.by_list(name)
 
     def by_list(self, name):
         """The object of a distinguished name that is written otherwise than the store has it: `list` says how."""
-        first = program("list", self.path, name).split(b"\n")[0].decode("utf-8", "backslashreplace")
-        return self.number(first.removeprefix("object "))
+        return self.number(adsd_lines.listed(program("list", self.path, name)).name)
 
     def principal(self, number):
         sid = self.accounts.sids.get(number)
@@ -120,36 +124,37 @@ class Asked:
 
     def token(self, name, sids):
         told, groups = {}, []
-        for word, value in (line.split(" ") for line in self.lines("token", name, *sids)):
+        for word, value in adsd_lines.token(program("token", self.path, name, *sids)):
+            if word == "privileges":
+                told[word] = [privilege for bit, privilege in PRIVILEGES.items() if value & bit]
+                continue
+            one = {"sid": text_of_sid(value), "account": self.called(text_of_sid(value))}
             if word == "group":
-                groups.append({"sid": value, "account": self.called(value)})
-            elif word == "privileges":
-                told[word] = [privilege for bit, privilege in PRIVILEGES.items() if int(value) & bit]
+                groups.append(one)
             else:
-                told[word] = {"sid": value, "account": self.called(value)}
+                told[word] = one
         return {"command": "token", "asked": name, "further": list(sids), "groups": groups, **told}
 
     def who(self, right, name):
-        lines = [line.split(" ", 2) for line in self.lines("who", right, name)]
+        found = adsd_lines.who(program("who", self.path, right, name))
         number = self.meant(name)
         return {"command": "who", "right": right, "object": {"name": self.names[number]},
-                "principals": [{"sid": sid, "account": self.accounts.names_of(self.number(dn))[0], "name": dn,
-                                "decides": self.entries.decides(word, number)} for word, sid, dn in lines]}
+                "principals": [{**self.one(one.sid, one.name), "decides": self.entries.decides(one.decides, number)}
+                               for one in found]}
 
     def can(self, name, right, base):
-        lines = [line.split(" ", 1) for line in self.lines("can", name, right, *([] if base is None else [base]))]
+        found = adsd_lines.can(program("can", self.path, name, right, *([] if base is None else [base])))
+        numbers = [(word, self.number(dn)) for word, dn in found]
         return {"command": "can", "right": right, "principal": self.principal(self.meant(name)), "base": base,
-                "objects": [{"name": dn, "decides": self.entries.decides(word, self.number(dn))} for word, dn in lines]}
-
+                "objects": [{"name": self.names[number], "decides": self.entries.decides(word, number)}
+                            for word, number in numbers]}
 
     def diff(self, before):
         """From another store to this one. The account is that of this one, as the identifier and the name are."""
-        text = program("diff", before, self.path).decode("utf-8", "backslashreplace")
-        try:
-            made = differences.read(text)
-        except (differences.Unread, ValueError):
-            raise Changed from None
-        principals = [{**one, "account": self.called(one["sid"])} for one in made["principals"]]
+        made = differences.read(text_of(program("diff", before, self.path)))
+        principals = [{**one, **self.one(one["sid"], one["name"])} for one in made["principals"]]
+        for name in [one["name"] for one in made["objects"]] + made["onlyAfter"]:
+            self.number(name)
         return {"command": "diff", "before": before, "after": self.path, **made, "principals": principals}
 
 
@@ -175,14 +180,16 @@ def main(arguments):
     except store.Broken as why:
         say(f"{asked.store}: {why}")
         return 1
-    except (Changed, StopIteration):
-        say(f"{asked.store}: it changed while it was asked")
+    except (Changed, adsd_lines.Unread) as why:
+        say(f"{asked.store}: {why}")
         return 1
     except OSError as fault:
         say(f"{fault.filename or asked.store}: {fault.strerror}")
         return 1
+    stores = [asked.store, *([asked.store2] if asked.word == "diff" else [])]
+    told = (adsd_incomplete.warn if asked.form else adsd_incomplete.lines)(*stores)
     try:
-        sys.stdout.buffer.write(written.FORMS[asked.form](made).encode("utf-8", "backslashreplace"))
+        sys.stdout.buffer.write(written.FORMS[asked.form](made, told).encode("utf-8", "backslashreplace"))
         sys.stdout.buffer.flush()
     except OSError as fault:
         say(f"output: {fault.strerror}")

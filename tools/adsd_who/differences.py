@@ -1,56 +1,100 @@
-"""The lines of `adsd diff`, read: groups of principals and of objects, and what each group gains and loses. Not proved."""
+"""The lines of `adsd diff`, read by their grammar (docs/profile/diff.md): groups of principals and of objects, and what
+each group gains and loses. Not proved."""
 
 import re
 
+import adsd_lines
+from adsd_lines import Unread
+
 SIGNS = {"+": "gained", "-": "lost"}
 CODES = re.compile(r"[A-Z]{2}")
+OF = ("object", "attribute", "right", "validated", "child")
+# The lines in the order in which they stand.
+PRINCIPAL, OBJECT, BLOCK, BEFORE, AFTER = range(5)
 
 
-class Unread(Exception):
-    """A line that isn't one of `diff`."""
-
-
-def right_of(label):
-    """What stands behind a sign: what the right is of, its name there, and its code."""
-    of, _, rest = label.partition(" ")
+def right_of(line):
+    """What stands behind the sign of a line: what the right is of, its name there, and its code."""
+    of, _, rest = line[2:].partition(" ")
     name, _, code = rest.rpartition(" ")
-    if of not in ("object", "attribute", "right", "validated", "child") or not CODES.fullmatch(code) or (of == "object") != (not name):
-        raise Unread(label)
+    if of not in OF or not CODES.fullmatch(code) or (of == "object") != (not name):
+        raise Unread("diff", line)
     return {"of": of, "name": name or None, "code": code}
 
 
-def number(word):
-    if not word.isdigit():
-        raise Unread(word)
-    return int(word)
+def number(text, line):
+    """The number of a group that has changes."""
+    if not adsd_lines.number(text):
+        raise Unread("diff", line)
+    return int(text)
+
+
+class Reader:
+    """Takes the lines one after the other, and refuses the first that can't stand where it does."""
+
+    def __init__(self):
+        self.made = {"principals": [], "objects": [], "changes": [], "onlyBefore": [], "onlyAfter": []}
+        self.groups, self.names, self.last = {"principals": set(), "objects": set()}, set(), PRINCIPAL
+
+    def stands(self, kind, line, name=""):
+        """Nothing stands before what comes before it, and a name stands once among lines of a kind."""
+        if kind < self.last or not (name or kind == BLOCK) or (name and (kind, name) in self.names):
+            raise Unread("diff", line)
+        self.last = kind
+        self.names.add((kind, name))
+
+    def principal(self, line):
+        fields = line.split(" ", 3)
+        if len(fields) != 4 or adsd_lines.sid(fields[2]) is None:
+            raise Unread("diff", line)
+        self.stands(PRINCIPAL, line, fields[3])
+        self.groups["principals"].add(number(fields[1], line))
+        self.made["principals"].append({"group": int(fields[1]), "sid": fields[2], "name": fields[3]})
+
+    def object(self, line):
+        group, _, name = line[7:].partition(" ")
+        self.stands(OBJECT, line, name)
+        self.groups["objects"].add(number(group, line))
+        self.made["objects"].append({"group": int(group), "name": name})
+
+    def block(self, line):
+        fields = line.split(" ")
+        if len(fields) != 4 or fields[2] != "objects":
+            raise Unread("diff", line)
+        self.stands(BLOCK, line)
+        pair = {"principals": number(fields[1], line), "objects": number(fields[3], line)}
+        if any(pair[kind] not in groups for kind, groups in self.groups.items()):
+            raise Unread("diff", line)
+        self.made["changes"].append({**pair, "gained": [], "lost": []})
+
+    def change(self, line):
+        change = self.made["changes"][-1] if self.last == BLOCK and self.made["changes"] else None
+        if change is None or (line[0] == "+" and change["lost"]):
+            raise Unread("diff", line)
+        change[SIGNS[line[0]]].append(right_of(line))
+
+    def only(self, line):
+        kind, key = (BEFORE, "onlyBefore") if line.startswith("only before ") else (AFTER, "onlyAfter")
+        name = line.split(" ", 2)[2]
+        self.stands(kind, line, name)
+        self.made[key].append(name)
+
+    def take(self, line):
+        kinds = (("principal ", self.principal), ("object ", self.object), ("principals ", self.block),
+                 ("+ ", self.change), ("- ", self.change), ("only before ", self.only), ("only after ", self.only))
+        for begins, of_kind in kinds:
+            if line.startswith(begins):
+                return of_kind(line)
+        raise Unread("diff", line)
 
 
 def read(text):
-    """The lines as groups: `principals` and `objects` with the number of the group that each is in, `changes` of a group of
-    either, and the objects that one store alone has."""
-    made = {"principals": [], "objects": [], "changes": [], "onlyBefore": [], "onlyAfter": []}
-    for line in text.split("\n")[:-1]:
-        word, _, rest = line.partition(" ")
-        if word in SIGNS and made["changes"]:
-            made["changes"][-1][SIGNS[word]].append(right_of(rest))
-        elif word == "principal":
-            group, sid, name = rest.split(" ", 2)
-            made["principals"].append({"group": number(group), "sid": sid, "name": name})
-        elif word == "object":
-            group, _, name = rest.partition(" ")
-            made["objects"].append({"group": number(group), "name": name})
-        elif word == "principals":
-            group, between, objects = rest.partition(" objects ")
-            if not between:
-                raise Unread(line)
-            made["changes"].append({"principals": number(group), "objects": number(objects), "gained": [], "lost": []})
-        elif line.startswith("only before "):
-            made["onlyBefore"].append(line[12:])
-        elif line.startswith("only after "):
-            made["onlyAfter"].append(line[11:])
-        else:
-            raise Unread(line)
-    return made
+    """The lines as groups: `principals` and `objects` with the number of the group that each is in, `changes` of a
+    group of either, and the objects that one store alone has."""
+    reader = Reader()
+    for line in adsd_lines.lines("diff", text.encode("utf-8", "surrogateescape")):
+        reader.take(line)
+    return reader.made
 
 
 def expanded(made):

@@ -1,32 +1,27 @@
 """What decides, spelled out: the owner, a privilege, or the entry of a place of a list, as the text of it."""
 
+import adsd_lines
 from adsd_import.descriptor import KIND_WORDS
 from adsd_import.sids import text_of_guid, text_of_sid
 from adsd_report import store
-
-# How many words a line of `list` has that tells of an entry; the one behind the owner and the group begins the DACL.
-WORDS, DACL, SACL = 7, "dacl ", "sacl "
+from adsd_shown import shown
 
 
 class Changed(Exception):
-    """The store isn't as it was when the first question was answered."""
+    """What the program says isn't so of the rows that were read, with what it is."""
+
+    def __init__(self, what):
+        super().__init__(f"it changed while it was asked, or the program is another one's: {what}")
 
 
-def entry_lines(listing):
-    """The words of each entry of the DACL in the lines of `list`."""
-    lines = listing.decode("utf-8", "backslashreplace").split("\n")
-    begin = next(at for at, line in enumerate(lines) if line.startswith(DACL))
-    end = next(at for at, line in enumerate(lines) if at > begin and line.startswith(SACL))
-    return [line.split(" ") for line in lines[begin + 1 : end]]
-
-
-def sddl(words, entry, schema):
-    """The text of an entry in SDDL, by the words that `list` has of it. Its types are told there by name, so their GUIDs are
-    those of the store's row, if they have these names."""
-    kind, sid, rights, shown, shown_inherited, flags, origin = words
+def sddl(line, entry, schema):
+    """The text of an entry in SDDL, by the line that `list` has of it. Its types are told there by name, so their GUIDs
+    are those of the store's row, if they have these names; a name may have blanks."""
+    kind, sid, rights, *told, flags, origin = line.split(" ")
     types = [schema.type_name(guid) if guid else "-" for guid in (entry.object, entry.inherited)]
-    if [KIND_WORDS[entry.kind], text_of_sid(entry.sid), *types] != [kind, sid, shown, shown_inherited]:
-        raise Changed
+    row = KIND_WORDS[entry.kind], text_of_sid(entry.sid), shown(" ".join(types))
+    if row != (kind, sid, shown(" ".join(told))):
+        raise Changed(f"its row hasn't the entry {line}")
     guids = [text_of_guid(guid) if guid else "" for guid in (entry.object, entry.inherited)]
     letters = ("O" if any(guids) else "") + ("A" if kind == "allow" else "D")
     flags = ("" if flags == "-" else flags) + ("ID" if origin == "inherited" else "")
@@ -44,13 +39,12 @@ class Entries:
         """The owner of an object, and pairs of the line and the text of each entry of its DACL."""
         normal = self.objects[number].normal
         if normal not in self.kept:
-            listing = self.ask("list", self.names[number])
-            told, owner = entry_lines(listing), listing.split(b"\n")[1].decode().removeprefix("owner ")
+            listing = adsd_lines.listed(self.ask("list", self.names[number]))
             entries = store.descriptor_of(normal).dacl.entries
-            if len(told) != len(entries) or any(len(words) != WORDS for words in told):
-                raise Changed
-            texts = [(" ".join(words), sddl(words, entry, self.schema)) for words, entry in zip(told, entries)]
-            self.kept[normal] = owner, texts
+            if shown(listing.name) != self.names[number] or len(listing.entries()) != len(entries):
+                raise Changed(f"{listing.name} has {len(listing.entries())} entries")
+            texts = [(line, sddl(line, entry, self.schema)) for line, entry in zip(listing.entries(), entries)]
+            self.kept[normal] = listing.owner, texts
         return self.kept[normal]
 
     def decides(self, word, number):
@@ -60,6 +54,6 @@ class Entries:
         if not word.isdigit():
             return {"by": word, "owner": owner} if word == "owner" else {"by": word}
         if not 0 < int(word) <= len(texts):
-            raise Changed
+            raise Changed(f"{self.names[number]} has no entry {word}")
         line, text = texts[int(word) - 1]
         return {"by": "entry", "place": int(word), "entry": text, "line": line}

@@ -2,9 +2,8 @@
 
 import csv
 import io
-import json
 
-from adsd_import.report import seen
+from adsd_shown import cell, json_of, shown
 
 from . import differences
 
@@ -34,30 +33,31 @@ def rows(made):
 
 def diff_rows(made):
     """One of each right of each principal on each object, and one of each object that isn't in both stores."""
-    found = [[sign, right["of"], right["name"] or "", right["code"], who["sid"], who["account"] or "", who["name"], one["name"]]
+    found = [[differences.SIGNS[sign], right["of"], right["name"] or "", right["code"], who["sid"], who["account"] or "", who["name"], one["name"]]
              for sign, right, who, one in differences.expanded(made)]
     return found + [[word, "", "", "", "", "", "", name] for word, key in (("only before", "onlyBefore"), ("only after", "onlyAfter"))
                     for name in made[key]]
 
 
-def as_json(made):
-    return json.dumps(made, indent=2) + "\n"
+def as_json(made, told):
+    """The answer; of a store that was made of an incomplete export it says so first."""
+    return json_of({**({"incomplete": told} if told else {}), **made}, 2) + "\n"
 
 
-def as_csv(made):
-    """RFC 4180: a value with a comma, a quote or a line end stands in quotes."""
+def as_csv(made, _):
+    """RFC 4180: a value with a comma or a quote stands in quotes. No value is a formula to a table program."""
     text = io.StringIO()
     writer = csv.writer(text)
     writer.writerow(HEADS[made["command"]])
-    writer.writerows(rows(made))
+    writer.writerows([cell(value) for value in row] for row in rows(made))
     return text.getvalue()
 
 
-def as_table(made):
-    """Columns as wide as what stands in them; a character that isn't seen stands there as its number."""
-    table = [list(HEADS[made["command"]])] + [[seen(str(value)) for value in row] for row in rows(made)]
+def as_table(made, told):
+    """Columns as wide as what stands in them."""
+    table = [list(HEADS[made["command"]])] + [[shown(str(value)) for value in row] for row in rows(made)]
     widths = [max(map(len, column)) for column in zip(*table)]
-    return "".join("  ".join(value.ljust(width) for value, width in zip(row, widths)).rstrip() + "\n" for row in table)
+    return "".join(f"{line}\n" for line in told) + "".join("  ".join(value.ljust(width) for value, width in zip(row, widths)).rstrip() + "\n" for row in table)
 
 
 FORMS = {"json": as_json, "csv": as_csv, None: as_table}

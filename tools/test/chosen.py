@@ -2,6 +2,7 @@
 
 import os
 import subprocess
+import tempfile
 
 TOP = os.path.dirname(os.path.dirname(os.path.dirname(os.path.abspath(__file__))))
 
@@ -14,3 +15,10 @@ def program():
     asked = subprocess.run([os.path.join(TOP, "tools/which-program")], stdin=subprocess.DEVNULL,
                            stdout=subprocess.PIPE, text=True)
     return asked.stdout.rstrip("\n") or os.path.join(TOP, "crates/adsd/out/adsd")
+
+
+def has_library():
+    """Whether there is a library for C: the one that LIBADSD names, what was proved and built here, or the release's."""
+    with tempfile.TemporaryDirectory() as place:
+        return not subprocess.run([os.path.join(TOP, "tools/library"), place], stdin=subprocess.DEVNULL,
+                                  stdout=subprocess.DEVNULL, stderr=subprocess.DEVNULL).returncode

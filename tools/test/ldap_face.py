@@ -132,7 +132,7 @@ def room():
 
 def orders():
     """A sort by text and by number; several values, none, several keys; what can't be sorted by is told."""
-    with Bridge() as bridge:
+    with Bridge("--profile-rules") as bridge:
         admin, ann = bridge.client("admin", "adm1n"), bridge.client("ann", "her secret")
         for name, number in NUMBERS.items():
             given = f" primaryGroupID={number}" if number else ""

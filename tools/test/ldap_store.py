@@ -32,7 +32,9 @@ ATTRIBUTES = {
     "isCriticalSystemObject": ("1.2.840.113556.1.4.868", "2.5.5.8", "systemOnly: TRUE\n"),
     "wellKnownObjects": ("1.2.840.113556.1.4.618", "2.5.5.7", "isSingleValued: FALSE\n"),
     "countryCode": ("1.2.840.113556.1.4.25", "2.5.5.9", "rangeUpper: 65535\nrangeLower: 0\n"),
-    "msExchWhen": ("1.2.840.113556.1.4.7000.1", "2.5.5.11", "isSingleValued: FALSE\n")}
+    "msExchWhen": ("1.2.840.113556.1.4.7000.1", "2.5.5.11", "isSingleValued: FALSE\n"),
+    "sIDHistory": ("1.2.840.113556.1.4.609", "2.5.5.17", "isSingleValued: FALSE\n"),
+    "isDeleted": ("1.2.840.113556.1.2.48", "2.5.5.8", "")}
 WELL_KNOWN = "A9D1CA15768811D1ADED00C04FD8D5CD"
 # Accounts: the class, the number, and further lines.
 ACCOUNTS = {
@@ -69,6 +71,8 @@ def text():
     """The text of the directory."""
     with open(os.path.join(TOP, "examples/base.ldif"), encoding="utf-8") as file:
         made = file.read()
+    number = "lDAPDisplayName: primaryGroupID\n"
+    made = made.replace(number, number + "attributeID: 1.2.840.113556.1.4.98\n", 1)
     new = "".join(attribute_text(at, name) for at, name in enumerate(ATTRIBUTES, 1))
     allowed = "".join(f"mayContain: {name}\n" for name in ATTRIBUTES)
     made = made.replace("# ---- classes:", new + "# ---- classes:", 1)

@@ -114,9 +114,9 @@ def tokens():
 
 
 def reader():
-    """What the reader doesn't read is said, and tokens lack it."""
+    """Of how many objects the reader doesn't read what tokens are made of is said."""
     with Made("--reader", "user=S-1-5-9 groups=AU,WD", names=NAMES + f"'{ANN}' password=pw\n") as bridge:
-        bridge.wait_for(r"warning: the reader doesn't read member of \d+ objects, so tokens lack what it tells")
+        bridge.wait_for(r"warning: the reader doesn't read primaryGroupID of \d+ objects, so tokens lack what it tells")
     with Made(names=NAMES + f"'{ANN}' password=pw\n") as bridge:
         same([line for line in bridge.lines() if "warning" in line], [])
 

@@ -8,39 +8,41 @@ from adsd_replica import appending, entries
 from adsd_replica.etcd import Away
 
 CHANGES, CLIENTS = 400, 8
+START = entries.beginning(b"a log")
 
 
 class Fickle:
     """A log that says now and then nothing of what was asked, and into which others put entries too."""
 
     def __init__(self, draw):
-        self.draw, self.held, self.late, self.tries = draw, [], [], 0
+        self.draw, self.held, self.late, self.tries, self.head = draw, [], [], 0, START
 
     def other(self):
         return self
 
-    def made(self, head, data):
+    def made(self, head, data, then):
         """What etcd does: whether the head is the one that is known."""
-        if len(self.held) != head:
-            behind = entries.id_of(self.held[head]) if head < len(self.held) else None
-            return False, len(self.held), behind
+        if self.head != head:
+            behind = self.held[head.number] if head.number < len(self.held) else None
+            return False, self.head, behind
         self.held += data
-        return True, len(self.held), None
+        self.head = then
+        return True, then, None
 
-    def put(self, head, data):
+    def put(self, head, data, then):
         self.tries += 1
         for one in self.late:
             self.made(*one)
         self.late = []
         if self.draw.random() < 0.2:
-            self.held.append(entries.of_message(b"", b"another one's"))
+            self.made(self.head, *entries.chained(self.head, [entries.of_message(b"", b"another one's")]))
         way = self.draw.choice(("made", "made", "made", "lost", "never", "late"))
         if way == "made":
-            return self.made(head, data)
+            return self.made(head, data, then)
         if way == "lost":
-            self.made(head, data)
+            self.made(head, data, then)
         elif way == "late":
-            self.late.append((head, data))
+            self.late.append((head, data, then))
         raise Away("nothing is said")
 
 
@@ -64,10 +66,10 @@ class Known:
     """The head as far as it is known."""
 
     def __init__(self):
-        self.known = 0
+        self.known = START
 
-    def seen(self, number):
-        self.known = max(self.known, number)
+    def seen(self, head):
+        self.known = max(self.known, head, key=lambda one: one.number)
 
     def missed(self, why):
         pass
@@ -82,7 +84,7 @@ async def run(draw):
     async def client(number):
         for at in range(CHANGES // CLIENTS):
             body = b"%d-%d" % (number, at)
-            behind = known.known if draw.random() < 0.2 else None
+            behind = known.known.number if draw.random() < 0.2 else None
             try:
                 answer = await appender.put(entries.of_message(b"", body), behind)
             except appending.Overtaken:
@@ -99,8 +101,10 @@ async def run(draw):
         own = [one for one in bodies if one.startswith(b"%d-" % number)]
         if own != [b"%d-%d" % (number, at) for at in range(CHANGES // CLIENTS)]:
             wrong.append(f"client {number}: {len(own)} entries, out of order or not each once")
-    ids = [entries.id_of(data) for data in log.held]
-    return wrong + (["an entry stands twice"] if len(set(ids)) < len(ids) else [])
+    requests = [entries.read(1, data).request for data in log.held]
+    wrong += ["an entry stands twice"] if len(set(requests)) < len(requests) else []
+    befores = [START.id, *map(entries.id_of, log.held)]
+    return wrong + (["the chain is broken"] if list(map(entries.before_of, log.held)) != befores[:-1] else [])
 
 
 def tried(seed=46):

@@ -37,9 +37,9 @@ def resting(world):
     """The log's head, once the keeper has put steps for the last change, and nothing is put any more."""
 
     def rests():
-        head = world.log().head()
+        head = world.head()
         time.sleep(2)
-        is_done = head == world.log().head() and all_entries(world)[-1].frames[-1][0] == STEPS
+        is_done = head == world.head() and all_entries(world)[-1].frames[-1][0] == STEPS
         return head if is_done else None
 
     return world.wait("the log rests", rests)
@@ -97,7 +97,7 @@ def clients(world):
     for one in ones:
         one.send_line("unbind")
     time.sleep(1)
-    return wrong + same(world.log().head(), head)
+    return wrong + same(world.head(), head)
 
 
 def away(world):
@@ -146,13 +146,13 @@ def passwords(world):
     a, b = world.by_name["a"], world.by_name["b"]
     wrong, one, new = [], a.client(), base64.b64encode('"second"'.encode("utf-16-le")).decode()
     wrong += same(one.ask(f"modify dn='CN=Ann Lee,{ldap_store.UNIT}' replace:unicodePwd=base64:{new}"), DONE)
-    head = world.log().head()
+    head = world.head()
     far = b.client(None)
     wrong += same(far.bind("ann", "second"), "# bind: 0 success")
     wrong += has(far.bind("ann", "first"), "# bind: 49")
     far.ask(READ)
     time.sleep(1)
-    return wrong + same(world.log().head() - head <= 1, True)
+    return wrong + same(world.head() - head <= 1, True)
 
 
 def another(world):
@@ -184,7 +184,7 @@ def compacted(world):
     world.command("forget", "c", *world.etcd_words())
     world.wait("the log is cut", lambda: world.log().read(0, 0).first > at + 100)
     c.begin()
-    wrong += same(c.running.wait(timeout=30), 6) + has(c.said(), "take a new copy")
+    wrong += same(c.running.wait(timeout=240), 6) + has(c.said(), "take a new copy")
     for end in ("", ".b", ".position"):
         os.remove(c.store + end)
     world.command("copy", b.store, c.store, "--name", "c", *world.etcd_words())

@@ -67,9 +67,9 @@ def differences(world, notes=None):
         found = all_entries(world)
         world.wait("level", world.is_level)
         wrong = compared(world, found, notes)
-        if world.log().head() == len(found):
+        if world.head() == len(found):
             return wrong
-    return [f"the log doesn't come to rest: {len(found)} entries, and {world.log().head()} now"]
+    return [f"the log doesn't come to rest: {len(found)} entries, and {world.head()} now"]
 
 
 def compared(world, found, notes):
@@ -83,9 +83,11 @@ def compared(world, found, notes):
         if count:
             wrong.append(f"replica {one.name} at {one.position()} differs from a plain run of {len(found)} entries in "
                          f"{count} rows")
-    ids = [entry.id for entry in found]
+    ids = [entry.request for entry in found]
     if len(set(ids)) < len(ids):
         wrong.append(f"{len(ids) - len(set(ids))} entries stand twice")
+    if [entry.before for entry in found[1:]] != [entry.id for entry in found[:-1]]:
+        wrong.append("an entry doesn't name the one before it")
     return wrong + (marked(found, answers, notes) if notes else [])
 
 

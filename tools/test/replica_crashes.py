@@ -2,12 +2,13 @@
 made as the crash would leave them."""
 
 import os
-import shutil
 import subprocess
 
 from ldap_client import PROGRAM
 from replica_checks import all_entries, frames_of, same_rows
 from replica_world import MANY, World
+from adsd_replica.entries import beginning, chained, of_run
+from adsd_replica.ordered import line_of, put_of
 from adsd_replica.position import BLOCK, Position, Positions
 from adsd_replica.slots import SLOTS, Slots
 
@@ -47,10 +48,19 @@ class Crashes:
 
     def made(self, n):
         """The bytes of a store after n entries, with its place."""
-        path = os.path.join(self.world.place, "made")
+        held = []
         for slot in SLOTS:
-            shutil.copyfile(self.world.base + slot, path + slot)
-        given = b"".join(map(frames_of, self.entries[:n]))
+            with open(self.world.base + slot, "rb") as file:
+                held.append(file.read())
+        return self.served(held, self.entries[:n])
+
+    def served(self, held, some):
+        """The bytes of a store that took some entries after it was this, with its place."""
+        path = os.path.join(self.world.place, "made")
+        for slot, data in zip(SLOTS, held):
+            with open(path + slot, "wb") as file:
+                file.write(data)
+        given = b"".join(map(frames_of, some))
         subprocess.run([PROGRAM, "serve", path], input=given, stdout=subprocess.DEVNULL, check=True)
         slots = Slots(path)
         place = slots.look()
@@ -62,7 +72,7 @@ class Crashes:
         return tuple(held), place
 
     def position(self, n):
-        place, own = self.places[n][1], self.entries[n - 1].id if n else bytes(16)
+        place, own = self.places[n][1], self.entries[n - 1].id if n else beginning(self.first.own).id
         return Position(self.first.log, self.first.own, self.first.name, n, own, place.generation, place.records)
 
     def put(self, held, *positions):
@@ -160,8 +170,8 @@ class Crashes:
         position = self.position(at)
         self.put(held, Position(position.log, b"0" * 32, *list(vars(position).values())[2:]))
         wrong += self.ends("another log", 6, "etcd has no log")
-        self.put(held, Position(*list(vars(position).values())[:4], bytes(16), position.generation, position.records))
-        wrong += self.ends("another entry", 6, "isn't the one that the replica has taken")
+        self.put(held, Position(*list(vars(position).values())[:4], bytes(32), position.generation, position.records))
+        wrong += self.ends("another entry", 6, "and the replica has taken 0000")
         end = len(all_entries(self.world))
         self.put(held, Position(*list(vars(position).values())[:3], end + 5, *list(vars(position).values())[4:]))
         wrong += self.ends("after the end", 6, "the log ends at")
@@ -176,8 +186,39 @@ class Crashes:
         return wrong
 
 
+    def strange(self):
+        """The change that a store has taken after its position isn't the one of the log: another one wrote it, or the
+        log was set back meanwhile."""
+        at = next(n for n in range(1, self.head - 1) if self.changing(n) and self.changing(n + 1))
+        log, held, wrong = self.world.log(), self.places[at + 1][0], []
+        kept, entry = line_of(log.head()), log.read(at + 1, 1).found[0][1]
+        self.put(self.stranger(at), self.position(at))
+        wrong += self.ends("a stranger's change", 6, f"and it isn't entry {at + 1}")
+        self.put(held, self.position(at))
+        wrong += self.goes_on("the same position, and the log's change")
+        then = self.position(at).head()
+        self.put(held, self.position(at))
+        log.etcd.call("kv/put", put_of(log.key(b"head"), line_of(then))["request_put"])
+        wrong += self.ends("the entry is gone", 6, "and the store has taken one change more")
+        log.put(then, *chained(then, [of_run()]))
+        wrong += self.ends("another entry came", 6, f"and it isn't entry {at + 1}")
+        for key, value in ((log.entry(at + 1), entry), (log.key(b"head"), kept)):
+            log.etcd.call("kv/put", put_of(key, value)["request_put"])
+        left = [one for one in os.listdir(self.replica.folder) if "replay" in one]
+        return wrong + ([f"{left} are left"] if left else [])
+
+    def stranger(self, at):
+        """The store after so many entries, and a change that is in no log."""
+        before, (wanted, _) = self.places[at], self.places[at + 1]
+        for other in self.entries:
+            held, place = self.served(before[0], [other])
+            if place != before[1] and held != wanted:
+                return held
+        raise AssertionError("no entry changes the store otherwise")
+
+
 def tried():
     """What is wrong."""
     with World(members=1, replicas=("a",), words=()) as world:
         crashes = Crashes(world)
-        return crashes.between() + crashes.torn() + crashes.others()
+        return crashes.between() + crashes.torn() + crashes.strange() + crashes.others()

@@ -69,7 +69,7 @@ class Faults:
         """As an operator stops it."""
         one = self.some_replica()
         one.signal(signal.SIGTERM)
-        if one.running.wait(timeout=30) not in (0, 5):
+        if one.running.wait(timeout=240) not in (0, 5):
             raise AssertionError(f"{one.name} ended with {one.running.returncode}: {one.said()[-500:]}")
         self.world.serves(one)
 
@@ -195,13 +195,13 @@ def rounds(world, count, writers, names=None, seed=None, every=20, say=print, pa
             if at % every == 0:
                 answered = sum(code is not None for code in notes.answers.values())
                 say(f"round {at}: {len(notes.answers)} changes, {answered} answered, {notes.reads} linear reads, "
-                    f"log at {world.log().head()}, {time.monotonic() - begun_at:.0f} s")
+                    f"log at {world.head()}, {time.monotonic() - begun_at:.0f} s")
     finally:
         ended(workers)
     wrong = rest(world, notes)
     told = ", ".join(f"{name} {n}" for name, n in sorted(counts.items()))
     say(f"{sum(counts.values())} faults (seed {seed}): {told}")
     answered = sum(code is not None for code in notes.answers.values())
-    say(f"{len(notes.answers)} changes, {answered} answered, {notes.reads} linear reads, {world.log().head()} entries, "
+    say(f"{len(notes.answers)} changes, {answered} answered, {notes.reads} linear reads, {world.head()} entries, "
         f"{time.monotonic() - begun_at:.0f} s")
     return wrong

@@ -65,10 +65,10 @@ class Host:
     def __init__(self, world, at, name):
         self.world, self.at, self.name, self.running, self.link = world, at, name, None, None
         self.address = f"10.77.0.{at}" if is_apart() else "127.0.0.1"
-        self.log, self.is_stopped = os.path.join(world.place, f"{name}.log"), False
+        self.log, self.is_stopped, self.adsd = os.path.join(world.place, f"{name}.log"), False, PROGRAM
 
     def start(self, words):
-        own = {**os.environ, "ADSD": PROGRAM}
+        own = {**os.environ, "ADSD": self.adsd}
         with open(self.log, "ab") as log:
             if is_apart():
                 waits = ["unshare", "-n", "sh", "-c", 'read go; exec "$@"', "sh", *words]
@@ -287,9 +287,9 @@ class World:
     def etcd_words(self):
         return ["--etcd", ",".join(one.client for one in self.members), "--etcd-clear"]
 
-    def command(self, *words, good=True):
+    def command(self, *words, good=True, adsd=PROGRAM):
         done = subprocess.run([COMMAND, *words], stdout=subprocess.PIPE, stderr=subprocess.STDOUT,
-                              env={**os.environ, "ADSD": PROGRAM}, text=True)
+                              env={**os.environ, "ADSD": adsd}, text=True)
         if good and done.returncode:
             raise AssertionError(f"adsd-replica {' '.join(words)} ended with {done.returncode}: {done.stdout}")
         return done.stdout if good else (done.returncode, done.stdout)
@@ -365,10 +365,14 @@ class World:
         made.own = made.find()
         return made
 
+    def head(self):
+        """The number of the log's last entry."""
+        return self.log().head().number
+
     def is_level(self):
         """Whether each replica stands where the log ends."""
         try:
-            head = self.log().head()
+            head = self.head()
             return all(one.position() == head for one in self.replicas)
         except Exception:
             return False

@@ -242,7 +242,7 @@ def escapes(tries, base):
     for part in ("result", "front", "objects"):
         said = page.texts.get(part, "") if part == "objects" else page.text("main").partition(
             {"result": "What is dangerous", "front": "moments"}[part])[2]
-        missing = [piece for piece in ("alert(1)", "\\x202egnp", "\\x1b", "\u00e9" * 9) if piece not in said]
+        missing = [piece for piece in ("alert(1)", "\\E2\\80\\AEgnp", "\\1B", "\u00e9" * 9) if piece not in said]
         tries.check(not missing, f"names in {part}: {missing}")
     tries.check("\u00e9" * 512 in page.text("objects"), "a long name isn't whole in the tree")
     odd, _ = tries.page("evil", "--user", "S-1-5-21-1-2-3-1100", "--base", STAFF)

@@ -115,5 +115,5 @@ def run(check):
     others(check)
     check(answers_to(Token(OWN), OWN) != answers_to(Token(OWN), BA), "an own identifier counts for nothing")
     check(answers_to(Token(OWN), SY) == answers_to(Token(OWN), None), "an identifier that nobody holds counts")
-    check(text("<b>\u202e&\x07") == "&lt;b&gt;\\x202e&amp;\\x07", f"text: {text('<b>')}")
+    check(text("<b>\u202e&\x07") == "&lt;b&gt;\\E2\\80\\AE&amp;\\07", f"text: {text('<b>')}")
     check(tag("p", "x", title='"<') == '<p title="&quot;&lt;">x</p>', "a mark isn't escaped")

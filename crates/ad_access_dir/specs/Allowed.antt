@@ -1,9 +1,14 @@
--- The attributes that objects of a class may have.
-use Rattle.std.specs.Prelude.{ℕ, zero, suc, if◌then◌else◌, List, [], ◌∷◌, ◌++◌, length}
+-- What a class allows: the attributes of its objects, the rights on them, and the classes of objects below them.
+use Rattle.std.specs.Prelude.{ℕ, zero, suc, Bool, not, ◌==◌, ◌&&◌, if◌then◌else◌, List, [], ◌∷◌, ◌++◌, length}
+use Rattle.std.specs.List.{list_any}
+use Rattle.ad_ids.specs.declared.guid.Guid.{Guid}
 use Rattle.ad_schema.specs.declared.line.SchemaRecord.{SchemaRecord}
 use Rattle.ad_schema.specs.declared.info.AttrId.{AttrId}
+use Rattle.ad_schema.specs.declared.info.ClassInfo.{ClassInfo}
 use Rattle.ad_schema.specs.Attributes.{attrs_of}
-use Rattle.ad_schema.specs.Classes.{is_allowed}
+use Rattle.ad_schema.specs.Classes.{is_allowed, is_under, is_a}
+
+-- ---- attributes
 
 -- those of the first n attributes that objects of the class may have
 unfoldable pub allowed_below : List SchemaRecord → ℕ → ℕ → List AttrId
@@ -14,3 +19,16 @@ allowed_below schema class (suc n) = allowed_below schema class n
 -- all of them, in schema order
 abbrev pub allowed_attrs : List SchemaRecord → ℕ → List AttrId
 allowed_attrs schema class = allowed_below schema class (length (attrs_of schema))
+
+-- ---- rights
+
+-- the right applies to the class or one above it
+abbrev pub applies : List SchemaRecord → ℕ → List Guid → Bool
+applies schema class guids = list_any (is_a schema class) guids
+
+-- ---- children
+
+-- a structural class, whose objects may stand below: it is neither abstract (2) nor auxiliary (3)
+abbrev pub is_child_class : List SchemaRecord → ℕ → ℕ → ClassInfo → Bool
+is_child_class schema class place info = not (info.category == 2) && not (info.category == 3)
+    && is_under schema place class

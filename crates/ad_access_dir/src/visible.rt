@@ -6,11 +6,8 @@ ghost use Rattle.ad_dir_model.specs.Settings.{list_object_mode};
 ghost use Rattle.ad_access_dir.specs.Sight.{is_visible};
 
 use ad_access::sees;
-use ad_dir::{Dir, live_sd, parent_of};
+use ad_dir::{Dir, ROOT, live_sd, parent_of};
 use ad_ids::Token;
-
-/// The number of the root.
-const ROOT: u32 = 1;
 
 /// Whether the token sees an object that is live. `list_mode` is the directory's, which is asked for once a
 /// request. It takes no memory.

@@ -39,10 +39,9 @@ use ad_change_values::{
     Held, Stop, are_too_many, code_of, has_no_empty_password, is_lacking, one_is_repeated,
     read_values, stored_values,
 };
-use ad_dir::{Dir, Object, Stored, live_object};
+use ad_dir::{Dir, MAX_DEPTH, Object, Stored, live_object};
 use ad_ids::{Token, a_sid_has_8_bytes_and_4_for_each, a_sid_is_read_as_spelled};
 use ad_ldap::result_code;
-use ad_needs_rules::MAX_DEPTH;
 use ad_schema::{AttrId, ClassId, Schema, attr_count};
 use ad_sd::SdParts;
 use ad_value::what_is_shown_reads_back;

@@ -10,8 +10,7 @@ ghost use Rattle.ad_dir_model.specs.Soundness.{IsSound};
 ghost use Rattle.ad_change.specs.Tree.{depth_of, is_shallow_with};
 ghost use Rattle.ad_change.specs.Depths.{parent_then};
 
-use ad_dir::Dir;
-use ad_needs_rules::{MAX_DEPTH, ROOT, parent_number};
+use ad_dir::{Dir, MAX_DEPTH, ROOT, parent_number};
 use std::alloc::{AllocError, Global};
 
 // The number of the parent of an object, where one that is moved has this one.

@@ -10,8 +10,7 @@ ghost use Rattle.ad_change.specs.Tree.{depth_of};
 
 use crate::depth::depth;
 use crate::subtree::goes_with;
-use ad_dir::Dir;
-use ad_needs_rules::MAX_DEPTH;
+use ad_dir::{Dir, MAX_DEPTH};
 use std::alloc::{AllocError, Global};
 
 // Puts an object with its depth at the end, if it goes.

@@ -27,10 +27,9 @@ ghost use Rattle.ad_dir.specs.Conditions.{AreEdits};
 
 use ad_bytes::{Bytes, Few, List};
 use ad_change_values::{Held, put_stored, take_stored};
-use ad_dir::{Dir, Edit, Meta, Object, Stored, guid_of, live_sd};
+use ad_dir::{Dir, Edit, Meta, Object, ROOT, Stored, guid_of, live_sd};
 use ad_ids::{Sid, Token};
 use ad_inherit::create;
-use ad_needs_rules::ROOT;
 use ad_schema::{AttrId, ClassId, RuleAttr};
 use ad_schema_defaults::default_parts;
 use ad_sd::{SdParts, normal};

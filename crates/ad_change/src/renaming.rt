@@ -21,9 +21,8 @@ use crate::outcome::Plan;
 use crate::writing::{put_edits, write_edits};
 use ad_bytes::{Bytes, List};
 use ad_change_values::{Stop, code_of};
-use ad_dir::{Dir, Edit, Object, live_object, live_sd};
+use ad_dir::{Dir, Edit, Object, live_object, live_sd, parent_number};
 use ad_ldap::result_code;
-use ad_needs_rules::parent_number;
 use std::alloc::{AllocError, Global};
 
 // ---- checks

@@ -4,8 +4,7 @@ ghost use Rattle.std.specs.Prelude.{◌≡◌};
 ghost use Rattle.ad_dir_model.specs.Changes.{goes_with};
 ghost use Rattle.ad_change.specs.Removing.{IsLeaving};
 
-use ad_dir::Dir;
-use ad_needs_rules::is_below;
+use ad_dir::{Dir, is_below};
 
 /// Whether an object goes with the one that is deleted, of which it is said whether it stands alone.
 #[tactic(auto, unfolding(ad_dir_model::specs::Changes::goes_with))]

@@ -15,10 +15,9 @@ ghost use Rattle.ad_dir.specs.Conditions.{AreEdits};
 
 use crate::same::same_object;
 use ad_bytes::List;
-use ad_dir::{Dir, Edit, Object, guid_of, live_object, live_sd};
+use ad_dir::{Dir, Edit, Object, ROOT, guid_of, live_object, live_sd};
 use ad_dir_write::{copied, is_another, mark_if};
 use ad_inherit::{explicit, whole};
-use ad_needs_rules::ROOT;
 use ad_sd::{SdView, normal};
 use std::alloc::{AllocError, Global};
 

@@ -25,8 +25,7 @@ use Rattle.ad_dir_model.specs.Objects.{is_live, object_at}
 use Rattle.ad_dir_model.specs.Directory.{Directory}
 use Rattle.ad_access_dir.specs.Sight.{is_granted}
 use Rattle.ad_types.specs.TypesOf.{path_of}
-use Rattle.ad_needs_rules.specs.Requests.{is_password}
-use Rattle.ad_needs.specs.Modifying.{force_change}
+use Rattle.ad_access_dir.specs.Passwords.{is_password, force_change}
 use Rattle.ad_access_dir.specs.Allowed.{allowed_below, allowed_attrs}
 use Rattle.ad_access_dir.specs.Masks.{IsMask}
 use Rattle.ad_access_dir.proofs.AllowedLaws.{allowed_at}

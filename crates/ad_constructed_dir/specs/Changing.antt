@@ -14,8 +14,7 @@ use Rattle.ad_constructed.specs.Listed.{attributes, children}
 use Rattle.ad_dir_model.specs.Objects.{object_at}
 use Rattle.ad_dir_model.specs.Directory.{Directory}
 use Rattle.ad_access_dir.specs.Sight.{is_granted}
-use Rattle.ad_needs_rules.specs.Requests.{is_password}
-use Rattle.ad_needs.specs.Modifying.{force_change}
+use Rattle.ad_access_dir.specs.Passwords.{is_password, force_change}
 
 -- ---- rights
 

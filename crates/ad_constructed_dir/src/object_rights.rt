@@ -9,21 +9,18 @@ ghost use Rattle.ad_schema.specs.Classes.{classes_of};
 ghost use Rattle.ad_constructed.specs.Rights.{if_may, parts_of};
 ghost use Rattle.ad_dir_model.specs.Objects.{is_live, object_at};
 ghost use Rattle.ad_access_dir.specs.Sight.{is_granted};
-ghost use Rattle.ad_needs_rules.specs.Requests.{is_password};
-ghost use Rattle.ad_needs.specs.Modifying.{force_change};
+ghost use Rattle.ad_access_dir.specs.Passwords.{is_password, force_change};
 ghost use Rattle.ad_access_dir.specs.Allowed.{allowed_attrs};
 ghost use Rattle.ad_constructed_dir.specs.Changing.{may_write, may_create, rights_at};
 ghost use Rattle.ad_constructed_dir.specs.Writes.{writes_below, writes_of, AreWriteMasks, IsPlaced, rights_by};
 
-use ad_access_dir::{allowed_attrs, attr_count, attr_masks, grants};
+use ad_access_dir::{allowed_attrs, attr_count, attr_masks, grants, is_password, password_right};
 use ad_acl::{
     ACCESS_SYSTEM_SECURITY, CONTROL_ACCESS, CREATE_CHILD, WRITE_DAC, WRITE_OWNER, WRITE_PROPERTY,
 };
 use ad_constructed::Rights;
 use ad_dir::Dir;
 use ad_ids::Token;
-use ad_needs::password_right;
-use ad_needs_rules::is_password;
 use ad_schema::{AttrId, AttrInfo, ClassId};
 use ad_types::Path;
 use std::alloc::{AllocError, Global};

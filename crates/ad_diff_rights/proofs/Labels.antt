@@ -11,7 +11,8 @@ use Rattle.ad_schema.specs.declared.info.ClassInfo.{ClassInfo}
 use Rattle.ad_schema.specs.Attributes.{attrs_of}
 use Rattle.ad_schema.specs.Classes.{classes_of}
 use Rattle.ad_access_dir.specs.Masks.{IsMask}
-use Rattle.ad_dsacls.specs.Effective.{label_of, is_child_class}
+use Rattle.ad_access_dir.specs.Labels.{label_of}
+use Rattle.ad_access_dir.specs.Allowed.{is_child_class}
 use Rattle.ad_acl.specs.declared.codes.Code.{Code}
 use Rattle.ad_diff_rights.specs.Rights.{labels, object_codes, attribute_codes, child_codes, object_labels, child_labels}
 use Rattle.ad_diff_rights.specs.Steps.{AreWanted, masked_attribute}

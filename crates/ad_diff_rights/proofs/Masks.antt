@@ -15,7 +15,7 @@ use Rattle.ad_schema.specs.Attributes.{attrs_of}
 use Rattle.ad_types.specs.TypesOf.{path_of}
 use Rattle.ad_schema.specs.declared.line.SchemaRecord.{SchemaRecord}
 use Rattle.ad_access_dir.specs.Masks.{IsMask}
-use Rattle.ad_dsacls.specs.Effective.{label_of}
+use Rattle.ad_access_dir.specs.Labels.{label_of}
 use Rattle.ad_acl.specs.declared.codes.Code.{Code}
 use Rattle.ad_diff_rights.specs.Rights.{label_if, labels, object_codes, attribute_codes, extended_codes}
 use Rattle.ad_diff_rights.specs.Rights.{validated_codes}

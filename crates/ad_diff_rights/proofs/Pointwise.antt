@@ -14,8 +14,8 @@ use Rattle.ad_schema.specs.declared.info.RightInfo.{RightInfo}
 use Rattle.ad_schema.specs.Attributes.{attrs_of, rights_of}
 use Rattle.ad_schema.specs.Classes.{classes_of}
 use Rattle.ad_types.specs.TypesOf.{path_of}
-use Rattle.ad_access_dir.specs.Allowed.{allowed_attrs}
-use Rattle.ad_dsacls.specs.Effective.{label_of, applies, is_child_class}
+use Rattle.ad_access_dir.specs.Allowed.{allowed_attrs, applies, is_child_class}
+use Rattle.ad_access_dir.specs.Labels.{label_of}
 use Rattle.ad_acl.specs.declared.codes.Code.{Code}
 use Rattle.ad_diff_rights.specs.Rights.{object_codes, attribute_codes, extended_codes, validated_codes, child_codes}
 use Rattle.ad_diff_rights.specs.Rights.{label_if}

@@ -26,8 +26,8 @@ use Rattle.ad_dir_model.specs.Directory.{Directory}
 use Rattle.ad_dir_model.specs.Objects.{object_at, sd_at}
 use Rattle.ad_dir_model.specs.Identity.{self_sid}
 use Rattle.ad_access.specs.Grant.{granted}
-use Rattle.ad_access_dir.specs.Allowed.{allowed_attrs}
-use Rattle.ad_dsacls.specs.Effective.{label_of, applies, is_child_class}
+use Rattle.ad_access_dir.specs.Allowed.{allowed_attrs, applies, is_child_class}
+use Rattle.ad_access_dir.specs.Labels.{label_of}
 
 -- ---- codes
 

@@ -11,7 +11,7 @@ use Rattle.ad_schema.specs.declared.line.SchemaRecord.{SchemaRecord}
 use Rattle.ad_schema.specs.declared.info.AttrId.{AttrId}
 use Rattle.ad_schema.specs.declared.info.AttrInfo.{AttrInfo}
 use Rattle.ad_schema.specs.Attributes.{attrs_of}
-use Rattle.ad_dsacls.specs.Effective.{label_of}
+use Rattle.ad_access_dir.specs.Labels.{label_of}
 use Rattle.ad_diff_rights.specs.Rights.{labels, attribute_codes}
 use Rattle.ad_diff_rights.specs.Changes.{has_label}
 

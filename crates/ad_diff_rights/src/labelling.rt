@@ -2,7 +2,7 @@
 
 ghost use Rattle.std.specs.Prelude.{◌≡◌, ◌++◌, ◌<◌, All, IfOk, OnOk};
 ghost use Rattle.ad_acl.specs.Mask.{has_bit};
-ghost use Rattle.ad_dsacls.specs.Effective.{label_of};
+ghost use Rattle.ad_access_dir.specs.Labels.{label_of};
 ghost use Rattle.ad_diff_rights.specs.Rights.{label_if, labels};
 ghost use Rattle.ad_diff_rights.specs.Steps.{texts};
 

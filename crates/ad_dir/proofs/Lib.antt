@@ -1,6 +1,7 @@
 pub mod Edits
 pub mod Replacing
 pub mod StandingLaws
+pub mod StepsUp
 pub mod SchemaNames
 pub mod NameLaws
 pub mod ShownLaws

@@ -35,6 +35,7 @@ mod live;
 mod names;
 mod settings;
 mod shown;
+mod standing;
 mod values;
 mod weight;
 
@@ -45,4 +46,6 @@ pub use ad_dir_objects::{
 pub use ad_dir_table::NameKey;
 pub use dir::Dir;
 pub use live::{class_of, live_object, live_sd, naming_of, parent_of};
+pub use names::ROOT;
 pub use shown::is_naming;
+pub use standing::{MAX_DEPTH, goes_with, is_below, parent_number};

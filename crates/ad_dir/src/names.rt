@@ -20,7 +20,7 @@ use ad_schema::{ClassId, Schema};
 use std::alloc::{AllocError, Global};
 
 /// The number of the root.
-pub(crate) const ROOT: u32 = 1;
+pub const ROOT: u32 = 1;
 
 // As many parts as a name may have before the suffix: those of an object and of 64 above it.
 const PARTS: u32 = 65;

@@ -1,8 +1,8 @@
 pub mod AsciiFolds
 pub mod Utf8
-pub mod Written
 pub mod Told
 pub mod Follow
+pub mod InDigits
 pub mod Runs
 pub mod NameRuns
 pub mod Gives
@@ -12,6 +12,7 @@ pub mod Ends
 pub mod Spelled
 pub mod SameNames
 pub mod TextUtf8
+pub mod OneLine
 pub mod KeyLaws
 pub mod BareKeys
 pub mod ReadOff

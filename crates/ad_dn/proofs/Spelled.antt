@@ -1,21 +1,28 @@
 -- What a text encodes is a name, and what is written of a name is one of its texts.
-use Rattle.std.proofs.Common.{Bool, eqb, ◌≡◌, ◌⊎◌, inl, inr, ℕ, ◌-◌, ◌<◌, ◌≤◌, true, false, if◌then◌else◌, List, []}
+use Rattle.std.proofs.Common.{Bool, eqb, ◌≡◌, ◌⊎◌, inl, inr, ℕ, zero, suc, ◌+◌, ◌-◌, ◌*◌, ◌/◌, ◌%◌, ◌<◌, ◌≤◌, true}
+use Rattle.std.proofs.Common.{false, if◌then◌else◌, List, []}
 use Rattle.std.proofs.Common.{◌∷◌, ◌++◌, map, refl, sym, ap, subst, ◌∙◌, append_assoc, arith, lt-ltb, le-ltb}
-use Rattle.std.specs.Prelude.{◌&&◌, ◌||◌, not}
+use Rattle.std.specs.Prelude.{◌&&◌, ◌||◌, not, slice_index}
 use Rattle.std.specs.List.{AllByRecursion, list_all}
 use Rattle.std.specs.Char.{to_ascii_uppercase}
-use Rattle.std.specs.Str.{str_to_ascii_uppercase}
+use Rattle.std.specs.Str.{IsUtf8, str_to_ascii_uppercase}
 use Rattle.std.proofs.lemmas.Bool.{cases_Bool, cases_lt, and_parts, or_parts, eqb-true}
 use Rattle.std.proofs.lemmas.Bool.Decides.{nat_tests}
 use Rattle.std.proofs.lemmas.List.{append-nil}
 use Rattle.ad_dn.specs.declared.rdn.Rdn.{Rdn}
 use Rattle.ad_dn.specs.AttributeType.{is_letter, is_type_byte, is_type, IsType}
 use Rattle.ad_dn.specs.Value.{IsAttributeType, IsValue, IsRdn, AreRdns}
-use Rattle.ad_dn.specs.Grammar.{is_reserved, is_special, Piece, plain, marked, pair, piece_byte, IsPiece}
-use Rattle.ad_dn.specs.Grammar.{may_be_first, may_be_last, EndsWell, SpellsValue, SpellsAttributeType, SpellsRdn}
+use Rattle.uuid.specs.Text.{hex_digit, upper, is_hex_digit, value_of}
+use Rattle.ad_dn.specs.Grammar.{is_reserved, is_special, Piece, plain, marked, piece_byte, IsPiece}
+use Rattle.ad_dn.specs.Grammar.{may_be_first, may_be_last, BeginsWell, EndsWell, SpellsValue, SpellsAttributeType}
+use Rattle.ad_dn.specs.Grammar.{SpellsRdn}
 use Rattle.ad_dn.specs.Grammar.{SpellsOthers, SpellsRdns}
-use Rattle.ad_dn.specs.Text.{piece_of, first_piece, last_piece, later_pieces, pieces_of, value_text, rdn_text}
+use Rattle.ad_dn.specs.Utf8State.{nothing_due}
+use Rattle.ad_dn.specs.Text.{digits_of, piece_of, piece_at, in_digits, pieces_after, pieces_of, value_text, rdn_text}
 use Rattle.ad_dn.specs.Text.{others_text, rdns_text}
+use Rattle.ad_dn.proofs.Utf8.{utf8_fills}
+use Rattle.ad_dn.proofs.Follow.{nothing_is_due}
+use Rattle.ad_dn.proofs.InDigits.{upper_digit, IsSmall, small_bytes, no_nul}
 
 -- ---- what is encoded is a name
 
@@ -115,17 +122,29 @@ special_piece b e = record { is = e; byte = refl; first = λ x y. refl; last = �
 reserved_special : (b : ℕ) → is_reserved b ≡ true → is_special b ≡ true
 reserved_special b e = ap (λ (t : Bool). t || eqb b 32 || eqb b 35 || eqb b 61) e
 
-piece_of_is : (b : ℕ) → Piecewise b (piece_of b)
-piece_of_is b = if_piece b (eqb b 0) (pair 48 48) (if is_reserved b then marked b else plain b)
-    (λ zero_byte. record { is = refl; byte = eqb-true b 0 zero_byte; first = λ x y. refl; last = λ x. refl })
-    (λ some. if_piece b (is_reserved b) (marked b) (plain b)
+digits_is : (b : ℕ) → b < 256 → Piecewise b (digits_of b)
+digits_is b small =
+    let high = upper_digit (b / 16) (omega (arith, small)) in
+    let low = upper_digit (b % 16) (omega arith) in
+    record {
+      is = both (is_hex_digit (hex_digit upper (b / 16))) (is_hex_digit (hex_digit upper (b % 16))) high.digit low.digit;
+      byte = whole (value_of (hex_digit upper (b / 16))) (value_of (hex_digit upper (b % 16))) high.value low.value;
+      first = λ x y. refl;
+      last = λ x. refl;
+    }
+  where
+    whole : (x y : ℕ) → x ≡ b / 16 → y ≡ b % 16 → b ≡ 16 * x + y
+    whole x y e f = omega (arith, e, f)
+
+piece_of_is : (b : ℕ) → eqb b 0 ≡ false → Piecewise b (piece_of b)
+piece_of_is b some = if_piece b (is_reserved b) (marked b) (plain b)
     (λ reserved. special_piece b (reserved_special b reserved))
     (λ other. record {
       is = both (not (is_reserved b)) (not (eqb b 0)) (ap not other) (ap not some);
       byte = refl;
       first = λ x y. both (not (eqb b 32)) (not (eqb b 35)) (ap not x) (ap not y);
       last = λ x. ap not x;
-    }))
+    })
 
 blank_special : (b : ℕ) → b ≡ 32 → is_special b ≡ true
 blank_special b e = ap is_special e
@@ -133,83 +152,138 @@ blank_special b e = ap is_special e
 hash_special : (b : ℕ) → b ≡ 35 → is_special b ≡ true
 hash_special b e = ap is_special e
 
--- the first, which may also be the last
-record IsFirst (b : ℕ) (p : Piece) : Type 0 where
-  is : IsPiece p
-  byte : b ≡ piece_byte p
-  first : may_be_first p ≡ true
-  last : may_be_last p ≡ true
-
-if_first : (b : ℕ) (t : Bool) (p q : Piece) → (t ≡ true → IsFirst b p) → (t ≡ false → IsFirst b q)
-    → IsFirst b (if t then p else q)
-if_first b true p q f g = f refl
-if_first b false p q f g = g refl
-
 first_special : (b : ℕ) → (eqb b 32 || eqb b 35) ≡ true → is_special b ≡ true
 first_special b e = elim (cases_Bool (eqb b 32)) [
   | inl blank ↦ blank_special b (eqb-true b 32 blank)
   | inr other ↦ hash_special b (eqb-true b 35 (sym (ap (λ (t : Bool). t || eqb b 35) other) ∙ e))
 ]
 
-first_is : (b : ℕ) → IsFirst b (first_piece b)
-first_is b = if_first b (eqb b 32 || eqb b 35) (marked b) (piece_of b)
-    (λ e. record { is = first_special b e; byte = refl; first = refl; last = refl })
-    (λ e.
+-- a piece of a byte that may also be the first
+pub record IsPieceOf (b : ℕ) (p : Piece) : Type 0 where
+  pub is : IsPiece p
+  pub byte : b ≡ piece_byte p
+  pub first : eqb b 32 ≡ false → eqb b 35 ≡ false → may_be_first p ≡ true
+
+if_piece_of : (b : ℕ) (t : Bool) (p q : Piece) → (t ≡ true → IsPieceOf b p) → (t ≡ false → IsPieceOf b q)
+    → IsPieceOf b (if t then p else q)
+if_piece_of b true p q f g = f refl
+if_piece_of b false p q f g = g refl
+
+of_piece : (b : ℕ) (p : Piece) → Piecewise b p → IsPieceOf b p
+of_piece b p h = record { is = h.is; byte = h.byte; first = h.first }
+
+-- the piece of a byte before these, which isn't NUL where it isn't written in digits
+pub at_is : (n b : ℕ) (bytes : List ℕ) → b < 256 → (n ≡ 0 → eqb b 0 ≡ false) → IsPieceOf b (piece_at n b bytes)
+at_is (suc n) b bytes small some = of_piece b (digits_of b) (digits_is b small)
+at_is zero b [] small some = if_piece_of b (eqb b 32) (marked b) (piece_of b)
+    (λ e. record { is = blank_special b (eqb-true b 32 e); byte = refl; first = λ x y. refl })
+    (λ e. of_piece b (piece_of b) (piece_of_is b (some refl)))
+at_is zero b (c ∷ bytes) small some = of_piece b (piece_of b) (piece_of_is b (some refl))
+
+-- where nothing is written in digits from here on, no NUL stands here
+pub no_nul_at : (n b : ℕ) (bytes : List ℕ) → in_digits n (b ∷ bytes) ≡ 0 → eqb b 0 ≡ false
+no_nul_at zero b bytes e = no_nul b (slice_index bytes 0) (slice_index bytes 1) e
+no_nul_at (suc n) b bytes e = absurd (omega (arith, e))
+
+pub after_is : (n b : ℕ) (bytes : List ℕ) → b < 256
+    → IsPieceOf b (piece_at (in_digits n (b ∷ bytes)) b bytes)
+after_is n b bytes small = at_is (in_digits n (b ∷ bytes)) b bytes small (no_nul_at n b bytes)
+
+after_are : (n : ℕ) (bytes : List ℕ) → AllByRecursion IsSmall bytes → AllByRecursion IsPiece (pieces_after n bytes)
+after_are n [] small = tt
+after_are n (b ∷ bytes) small =
+    ((after_is n b bytes small.0).is, after_are (in_digits n (b ∷ bytes) - 1) bytes small.1)
+
+after_bytes : (n : ℕ) (bytes : List ℕ) → AllByRecursion IsSmall bytes
+    → bytes ≡ map piece_byte (pieces_after n bytes)
+after_bytes n [] small = refl
+after_bytes n (b ∷ bytes) small =
+    let m = in_digits n (b ∷ bytes) in
+    ap (λ (x : ℕ). x ∷ bytes) (after_is n b bytes small.0).byte
+    ∙ ap (λ (l : List ℕ). piece_byte (piece_at m b bytes) ∷ l) (after_bytes (m - 1) bytes small.1)
+
+last_ends : (b : ℕ) (t : Bool) → eqb b 32 ≡ t → may_be_last (if t then marked b else piece_of b) ≡ true
+last_ends b true e = refl
+last_ends b false e = by (is_reserved b)
+  where
+    by : (r : Bool) → may_be_last (if r then marked b else plain b) ≡ true
+    by true = refl
+    by false = ap not e
+
+at_ends : (n b : ℕ) → may_be_last (piece_at n b []) ≡ true
+at_ends (suc n) b = refl
+at_ends zero b = last_ends b (eqb b 32) refl
+
+after_end : (p : Piece) (n b : ℕ) (bytes : List ℕ) → EndsWell (p ∷ pieces_after n (b ∷ bytes))
+after_end p n b [] = at_ends (in_digits n (b ∷ [])) b
+after_end p n b (c ∷ bytes) =
+    let m = in_digits n (b ∷ c ∷ bytes) in
+    after_end (piece_at m b (c ∷ bytes)) (m - 1) c bytes
+
+-- what the pieces of a value are
+record AreWell (value : List ℕ) (pieces : List Piece) : Type 0 where
+  are : AllByRecursion IsPiece pieces
+  begins : BeginsWell pieces
+  ends : EndsWell pieces
+  bytes : value ≡ map piece_byte pieces
+
+marked_well : (b : ℕ) (bytes : List ℕ) → AllByRecursion IsSmall (b ∷ bytes) → (eqb b 32 || eqb b 35) ≡ true
+    → AreWell (b ∷ bytes) (marked b ∷ pieces_after 0 bytes)
+marked_well b bytes small e = record {
+  are = (first_special b e, after_are 0 bytes small.1);
+  begins = refl;
+  ends = end bytes;
+  bytes = ap (λ (l : List ℕ). b ∷ l) (after_bytes 0 bytes small.1);
+}
+  where
+    end : (l : List ℕ) → EndsWell (marked b ∷ pieces_after 0 l)
+    end [] = refl
+    end (c ∷ l) = after_end (marked b) 0 c l
+
+others_well : (b : ℕ) (bytes : List ℕ) → AllByRecursion IsSmall (b ∷ bytes) → (eqb b 32 || eqb b 35) ≡ false
+    → AreWell (b ∷ bytes) (pieces_after 0 (b ∷ bytes))
+others_well b bytes small e =
     let q = or_parts (eqb b 32) (eqb b 35) e in
-    let p = piece_of_is b in
-    record { is = p.is; byte = p.byte; first = p.first q.0 q.1; last = p.last q.0 })
+    record {
+      are = after_are 0 (b ∷ bytes) small;
+      begins = (after_is 0 b bytes small.0).first q.0 q.1;
+      ends = end bytes;
+      bytes = after_bytes 0 (b ∷ bytes) small;
+    }
+  where
+    end : (l : List ℕ) → EndsWell (pieces_after 0 (b ∷ l))
+    end [] = at_ends (in_digits 0 (b ∷ [])) b
+    end (c ∷ l) =
+        let m = in_digits 0 (b ∷ c ∷ l) in
+        after_end (piece_at m b (c ∷ l)) (m - 1) c l
 
-record IsLast (b : ℕ) (p : Piece) : Type 0 where
-  is : IsPiece p
-  byte : b ≡ piece_byte p
-  last : may_be_last p ≡ true
+all_well : (b : ℕ) (bytes : List ℕ) → AllByRecursion IsSmall (b ∷ bytes)
+    → AreWell (b ∷ bytes) (pieces_of (b ∷ bytes))
+all_well b bytes small = by (eqb b 32 || eqb b 35) refl
+  where
+    by : (t : Bool) → (eqb b 32 || eqb b 35) ≡ t
+        → AreWell (b ∷ bytes) (if t then marked b ∷ pieces_after 0 bytes else pieces_after 0 (b ∷ bytes))
+    by true e = marked_well b bytes small e
+    by false e = others_well b bytes small e
 
-if_last : (b : ℕ) (t : Bool) (p q : Piece) → (t ≡ true → IsLast b p) → (t ≡ false → IsLast b q)
-    → IsLast b (if t then p else q)
-if_last b true p q f g = f refl
-if_last b false p q f g = g refl
-
-last_is : (b : ℕ) → IsLast b (last_piece b)
-last_is b = if_last b (eqb b 32) (marked b) (piece_of b)
-    (λ e. record { is = blank_special b (eqb-true b 32 e); byte = refl; last = refl })
-    (λ e. let p = piece_of_is b in record { is = p.is; byte = p.byte; last = p.last e })
-
-later_are : (bytes : List ℕ) → AllByRecursion IsPiece (later_pieces bytes)
-later_are [] = tt
-later_are (b ∷ []) = ((last_is b).is, tt)
-later_are (b ∷ c ∷ bytes) = ((piece_of_is b).is, later_are (c ∷ bytes))
-
-later_bytes : (bytes : List ℕ) → bytes ≡ map piece_byte (later_pieces bytes)
-later_bytes [] = refl
-later_bytes (b ∷ []) = ap (λ (x : ℕ). x ∷ []) (last_is b).byte
-later_bytes (b ∷ c ∷ bytes) = ap (λ (x : ℕ). x ∷ c ∷ bytes) (piece_of_is b).byte
-    ∙ ap (λ (l : List ℕ). piece_byte (piece_of b) ∷ l) (later_bytes (c ∷ bytes))
-
-pub value_pieces : (value : List ℕ) → value ≡ map piece_byte (pieces_of value)
-value_pieces [] = refl
-value_pieces (b ∷ bytes) = ap (λ (x : ℕ). x ∷ bytes) (first_is b).byte
-    ∙ ap (λ (l : List ℕ). piece_byte (first_piece b) ∷ l) (later_bytes bytes)
-
-later_end : (p : Piece) (b : ℕ) (bytes : List ℕ) → EndsWell (p ∷ later_pieces (b ∷ bytes))
-later_end p b [] = (last_is b).last
-later_end p b (c ∷ bytes) = later_end (piece_of b) c bytes
-
-all_end : (b : ℕ) (bytes : List ℕ) → EndsWell (first_piece b ∷ later_pieces bytes)
-all_end b [] = (first_is b).last
-all_end b (c ∷ bytes) = later_end (first_piece b) c bytes
+-- UTF-8 is bytes
+pub value_small : (value : List ℕ) → IsUtf8 value → AllByRecursion IsSmall value
+value_small value u = small_bytes nothing_due value nothing_is_due (utf8_fills nothing_due value refl u)
 
 value_spelled : (value : List ℕ) → IsValue value → SpellsValue value (value_text value)
 unfolding value_text
 value_spelled [] v = absurd (omega (arith, v.at_least_one))
-value_spelled (b ∷ bytes) v = record {
-  is_value = v;
-  pieces = pieces_of (b ∷ bytes);
-  are_pieces = ((first_is b).is, later_are bytes);
-  begins = (first_is b).first;
-  ends = all_end b bytes;
-  bytes = value_pieces (b ∷ bytes);
-  parts = refl;
-}
+value_spelled (b ∷ bytes) v =
+    let w = all_well b bytes (value_small (b ∷ bytes) v.utf8) in
+    record {
+      is_value = v;
+      pieces = pieces_of (b ∷ bytes);
+      are_pieces = w.are;
+      begins = w.begins;
+      ends = w.ends;
+      bytes = w.bytes;
+      parts = refl;
+    }
 
 rdn_spelled : (rdn : Rdn) → IsRdn rdn → SpellsRdn rdn (rdn_text rdn)
 rdn_spelled rdn r = record {

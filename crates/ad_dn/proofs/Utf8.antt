@@ -40,7 +40,7 @@ size_4 b l h = rw (
 size_none : (b : ℕ) → 128 ≤ b → b < 194 → size b ≡ 0
 size_none b l h = rw (le-ltb b 128 l, lt-ltb b 194 h) refl
 
-size_over : (b : ℕ) → 245 ≤ b → size b ≡ 0
+pub size_over : (b : ℕ) → 245 ≤ b → size b ≡ 0
 size_over b l = rw (
   le-ltb b 128 (omega arith),
   le-ltb b 194 (omega arith),

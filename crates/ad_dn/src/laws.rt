@@ -1,9 +1,9 @@
 //! Laws of names. Each is the contract of a function that does nothing.
 
-ghost use Rattle.std.specs.Prelude.{◌≡◌, ◌↔◌, List, ℕ, Some};
+ghost use Rattle.std.specs.Prelude.{◌≡◌, ◌↔◌, List, ℕ, Some, true};
 ghost use Rattle.ad_dn.specs.declared.rdn.Dn.{Dn as Name};
 ghost use Rattle.ad_dn.specs.Value.{AreRdns};
-ghost use Rattle.ad_dn.specs.Text.{dn_text};
+ghost use Rattle.ad_dn.specs.Text.{dn_text, has_no_control};
 ghost use Rattle.ad_dn.specs.Grammar.{SpellsDn};
 ghost use Rattle.ad_dn.specs.Fold.{IsSameDn};
 ghost use Rattle.ad_dn.specs.NameKey.{name_key};
@@ -12,6 +12,11 @@ ghost use Rattle.ad_dn.specs.Reading.{dn_of};
 /// The text that is written of a name is one of its texts, so it reads back as the same name.
 pub fn a_name_is_spelled_by_its_text()
     ensures { (dn : Name) → AreRdns dn.rdns → SpellsDn dn (dn_text dn) }
+{}
+
+/// The text that is written of a name is one line: no control of ASCII stands in it.
+pub fn a_written_name_is_one_line()
+    ensures { (dn : Name) → AreRdns dn.rdns → has_no_control (dn_text dn) ≡ true }
 {}
 
 /// A text is one name's at most.

@@ -35,11 +35,12 @@ use Rattle.ad_dir_model.specs.Objects.{sd_at}
 use Rattle.ad_dir_model.specs.Identity.{self_sid}
 use Rattle.ad_access_dir.specs.Sight.{is_granted}
 use Rattle.ad_bytes.specs.Puts.{Puts}
-use Rattle.ad_access_dir.specs.Allowed.{allowed_attrs}
+use Rattle.ad_access_dir.specs.Allowed.{allowed_attrs, is_child_class}
 use Rattle.ad_access_dir.specs.Masks.{IsMask}
 use Rattle.ad_access_dir.proofs.AllowedLaws.{allowed_within}
-use Rattle.ad_dsacls.specs.Effective.{line_of, label_of, attribute_line, is_of_set, set_attrs, set_path, set_grants}
-use Rattle.ad_dsacls.specs.Effective.{set_line, extended_line, validated_line, object_line, is_child_class}
+use Rattle.ad_dsacls.specs.Effective.{line_of, attribute_line, is_of_set, set_attrs, set_path, set_grants}
+use Rattle.ad_access_dir.specs.Labels.{label_of}
+use Rattle.ad_dsacls.specs.Effective.{set_line, extended_line, validated_line, object_line}
 use Rattle.ad_dsacls.specs.Effective.{child_line, child_lines}
 use Rattle.ad_dsacls.specs.Masks.{masked_line}
 use Rattle.ad_dsacls.proofs.CodeLaws.{object_codes, attribute_codes, set_codes, extended_codes, validated_codes}

@@ -1,7 +1,7 @@
 -- What a token may do at an object, line by line. A code stands in a line exactly where its right is granted.
-use Rattle.std.specs.Prelude.{ℕ, zero, suc, ◌^◌, Bool, false, not, ◌&&◌, ◌==◌, if◌then◌else◌, List, [], ◌∷◌, ◌++◌}
+use Rattle.std.specs.Prelude.{ℕ, zero, suc, ◌^◌, Bool, false, ◌==◌, if◌then◌else◌, List, [], ◌∷◌, ◌++◌}
 use Rattle.std.specs.Prelude.{codes, length, filter, slice_get}
-use Rattle.std.specs.List.{flat_map, list_any}
+use Rattle.std.specs.List.{flat_map}
 use Rattle.std.specs.Option.{option_map_or}
 use Rattle.ad_ids.specs.declared.guid.Guid.{Guid}
 use Rattle.ad_ids.specs.Guid.{same_guid}
@@ -18,16 +18,16 @@ use Rattle.ad_schema.specs.declared.info.ClassId.{ClassId}
 use Rattle.ad_schema.specs.declared.info.ClassInfo.{ClassInfo}
 use Rattle.ad_schema.specs.declared.info.RightInfo.{RightInfo}
 use Rattle.ad_schema.specs.Attributes.{attrs_of, rights_of}
-use Rattle.ad_schema.specs.Classes.{classes_of, is_under, is_a}
+use Rattle.ad_schema.specs.Classes.{classes_of}
 use Rattle.ad_types.specs.TypesOf.{path_of, tree_of}
 use Rattle.ad_access.specs.Tree.{node_granted}
 use Rattle.ad_dir_model.specs.Directory.{Directory}
 use Rattle.ad_dir_model.specs.Objects.{object_at, sd_at}
 use Rattle.ad_dir_model.specs.Identity.{self_sid}
 use Rattle.ad_access_dir.specs.Sight.{is_granted}
-use Rattle.ad_access_dir.specs.Allowed.{allowed_attrs}
+use Rattle.ad_access_dir.specs.Allowed.{allowed_attrs, applies, is_child_class}
+use Rattle.ad_access_dir.specs.Labels.{label_of}
 use Rattle.ad_dsacls.specs.Words.{labelled}
-use Rattle.ad_bytes.specs.Puts.{spaced}
 
 -- ---- codes
 
@@ -61,10 +61,6 @@ child_rights = create_child ∷ delete_child ∷ []
 abbrev pub line_of : List ℕ → List ℕ → List ℕ
 line_of label [] = []
 line_of label (b ∷ bytes) = labelled label (b ∷ bytes)
-
--- of something of a kind that has a name
-abbrev pub label_of : List ℕ → List ℕ → List ℕ
-label_of kind name = kind ++ spaced name
 
 -- the object as a whole
 unfoldable pub object_line : Directory → Token → ℕ → List ℕ
@@ -126,20 +122,11 @@ kind_line dir token number class r =
     else (if r.accesses == 8 then validated_line dir token number r
     else []))
 
--- the right applies to the class or one above it
-abbrev pub applies : List SchemaRecord → ℕ → List Guid → Bool
-applies schema class guids = list_any (is_a schema class) guids
-
 unfoldable pub right_line : Directory → Token → ℕ → ClassId → RightInfo → List ℕ
 right_line dir token number class r = if applies dir.schema class.0 r.applies then kind_line dir token number class r
     else []
 
 -- ---- children
-
--- a structural class is neither abstract (2) nor auxiliary (3)
-abbrev pub is_child_class : List SchemaRecord → ℕ → ℕ → ClassInfo → Bool
-is_child_class schema class place info = not (info.category == 2) && not (info.category == 3)
-    && is_under schema place class
 
 -- a structural class whose objects may stand below, on the path of that class
 unfoldable pub child_line : Directory → Token → ℕ → ClassId → ℕ → List ℕ

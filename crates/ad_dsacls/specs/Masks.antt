@@ -7,7 +7,8 @@ use Rattle.ad_schema.specs.declared.line.SchemaRecord.{SchemaRecord}
 use Rattle.ad_schema.specs.declared.info.AttrId.{AttrId}
 use Rattle.ad_schema.specs.declared.info.AttrInfo.{AttrInfo}
 use Rattle.ad_schema.specs.Attributes.{attrs_of}
-use Rattle.ad_dsacls.specs.Effective.{line_of, label_of}
+use Rattle.ad_dsacls.specs.Effective.{line_of}
+use Rattle.ad_access_dir.specs.Labels.{label_of}
 
 -- the line of an attribute whose rights the mask has
 unfoldable pub masked_line : List SchemaRecord → AttrId → ℕ → List ℕ

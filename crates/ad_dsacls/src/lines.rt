@@ -4,7 +4,8 @@ ghost use Rattle.std.specs.Prelude.{OnOk};
 ghost use Rattle.ad_acl.specs.Codes.{right_codes};
 ghost use Rattle.ad_sddl.specs.Canonical.{codes_text};
 ghost use Rattle.ad_bytes.specs.Puts.{Puts};
-ghost use Rattle.ad_dsacls.specs.Effective.{line_of, label_of};
+ghost use Rattle.ad_dsacls.specs.Effective.{line_of};
+ghost use Rattle.ad_access_dir.specs.Labels.{label_of};
 
 use crate::pieces::{put, put_labelled, put_spaced};
 use crate::words::codes_of;

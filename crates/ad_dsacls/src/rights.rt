@@ -5,11 +5,10 @@ ghost use Rattle.std.specs.List.{flat_map, list_any};
 ghost use Rattle.ad_schema.specs.Attributes.{attrs_of, rights_of};
 ghost use Rattle.ad_schema.specs.Classes.{classes_of, is_a};
 ghost use Rattle.ad_dir_model.specs.Objects.{is_live};
-ghost use Rattle.ad_access_dir.specs.Allowed.{allowed_attrs};
+ghost use Rattle.ad_access_dir.specs.Allowed.{allowed_attrs, applies, is_child_class};
 ghost use Rattle.ad_bytes.specs.Puts.{Puts};
 ghost use Rattle.ad_dsacls.specs.Effective.{object_line, attribute_line, set_line, extended_line, validated_line};
-ghost use Rattle.ad_dsacls.specs.Effective.{kind_line};
-ghost use Rattle.ad_dsacls.specs.Effective.{applies, right_line, is_child_class, child_line, child_lines};
+ghost use Rattle.ad_dsacls.specs.Effective.{kind_line, right_line, child_line, child_lines};
 ghost use Rattle.ad_dsacls.specs.Effective.{effective_of, effective_text};
 ghost use Rattle.ad_dsacls.specs.Masks.{masked_line};
 

@@ -31,3 +31,5 @@ pub mod Counters
 pub mod Defaults
 pub mod Limits
 pub mod Loaded
+pub mod SampleBytes
+pub mod SoundSample

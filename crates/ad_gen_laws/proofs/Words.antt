@@ -1,6 +1,8 @@
 -- Words of letters, digits and hyphens: as values of names, and as texts of lines.
-use Rattle.std.proofs.Common.{◌≡◌, ◌∙◌, ℕ, zero, suc, ◌^◌, ◌<◌, ◌==◌, ◌||◌, Bool, true, false, eqb, nat_lt, List, []}
-use Rattle.std.proofs.Common.{◌∷◌, ◌++◌, refl, subst, arith}
+use Rattle.std.proofs.Common.{◌≡◌, ◌∙◌, ℕ, zero, suc, ◌-◌, ◌^◌, ◌<◌, ◌==◌, ◌||◌, Bool, true, false, eqb, nat_lt, List}
+use Rattle.std.proofs.Common.{[], ◌∷◌, ◌++◌, if◌then◌else◌, refl, ap, subst, arith}
+use Rattle.std.specs.Prelude.{slice_index}
+use Rattle.std.proofs.lemmas.Bool.Decides.{nat_tests}
 use Rattle.std.proofs.Common.{inl, inr, decimal}
 use Rattle.std.specs.List.{list_all, list_any, flat_map}
 use Rattle.std.specs.Str.{IsAscii}
@@ -11,8 +13,8 @@ use Rattle.std.proofs.lemmas.Str.Parse.{digit_from_value}
 use Rattle.std.proofs.lemmas.Fmt.{decimal_is_IsNumeral}
 use Rattle.std.proofs.lemmas.List.Folds.{list_all-append}
 use Rattle.ad_dn.specs.AttributeType.{is_type_byte, is_letter, is_digit}
-use Rattle.ad_dn.specs.Grammar.{plain, piece_text, is_reserved}
-use Rattle.ad_dn.specs.Text.{piece_of, later_pieces, value_text}
+use Rattle.ad_dn.specs.Grammar.{Piece, plain, marked, piece_text, is_reserved}
+use Rattle.ad_dn.specs.Text.{hidden_by, piece_of, piece_at, pieces_after, value_text}
 use Rattle.ad_ldif.specs.Fields.{is_nul}
 use Rattle.ad_gen_laws.proofs.Blocks.{is_inner}
 
@@ -78,16 +80,37 @@ reserved_no b word =
     ) refl
 
 piece_plain : (b : ℕ) → is_type_byte b ≡ true → piece_of b ≡ plain b
-piece_plain b word = rw (not_that b 0 word refl, reserved_no b word) refl
+piece_plain b word = ap (λ (t : Bool). if t then marked b else plain b) (reserved_no b word)
 
-later_plain : (bytes : List ℕ) → is_word bytes ≡ true → flat_map piece_text (later_pieces bytes) ≡ bytes
-later_plain [] word = refl
-later_plain (b ∷ []) word =
-    let p = word_first b [] word in
-    rw (not_that b 32 p.0 refl, piece_plain b p.0) refl
-later_plain (b ∷ c ∷ bytes) word =
-    let p = word_first b (c ∷ bytes) word in
-    rw (piece_plain b p.0, later_plain (c ∷ bytes) p.1) refl
+zero_plain : (b : ℕ) (bytes : List ℕ) → is_type_byte b ≡ true → piece_at 0 b bytes ≡ plain b
+zero_plain b [] word = ap (λ (t : Bool). if t then marked b else piece_of b) (not_that b 32 word refl)
+    ∙ piece_plain b word
+zero_plain b (c ∷ bytes) word = piece_plain b word
+
+-- no byte of a word is of a character that is written in digits
+shown : (b x y : ℕ) → is_type_byte b ≡ true → hidden_by b x y ≡ 0
+shown b x y word =
+    let printed : nat_lt b 32 ≡ false = grind (arith, nat_tests) in
+    rw (
+      printed,
+      not_that b 127 word refl,
+      not_that b 194 word refl,
+      not_that b 216 word refl,
+      not_that b 226 word refl,
+      not_that b 239 word refl,
+    ) refl
+
+abbrev written : List ℕ → List ℕ
+written bytes = flat_map piece_text (pieces_after 0 bytes)
+
+after_plain : (bytes : List ℕ) → is_word bytes ≡ true → written bytes ≡ bytes
+after_plain [] word = refl
+after_plain (b ∷ bytes) word =
+    let p = word_first b bytes word in
+    let none = shown b (slice_index bytes 0) (slice_index bytes 1) p.0 in
+    ap (λ (m : ℕ). piece_text (piece_at m b bytes) ++ flat_map piece_text (pieces_after (m - 1) bytes)) none
+    ∙ ap (λ (q : Piece). piece_text q ++ written bytes) (zero_plain b bytes p.0)
+    ∙ ap (λ (l : List ℕ). b ∷ l) (after_plain bytes p.1)
 
 -- a word is written as it is
 pub word_text : (bytes : List ℕ) → is_word bytes ≡ true → value_text bytes ≡ bytes
@@ -95,7 +118,12 @@ unfolding value_text
 word_text [] word = refl
 word_text (b ∷ bytes) word =
     let p = word_first b bytes word in
-    rw (not_that b 32 p.0 refl, not_that b 35 p.0 refl, piece_plain b p.0, later_plain bytes p.1) refl
+    let blank = not_that b 32 p.0 refl in
+    let hash = not_that b 35 p.0 refl in
+    ap (λ (t : Bool). flat_map piece_text (if t || (b == 35) then marked b ∷ pieces_after 0 bytes
+    else pieces_after 0 (b ∷ bytes))) blank
+    ∙ ap (λ (t : Bool). flat_map piece_text (if t then marked b ∷ pieces_after 0 bytes else pieces_after 0 (b ∷ bytes)))
+    hash ∙ after_plain (b ∷ bytes) word
 
 small : (b : ℕ) → is_type_byte b ≡ true → b < 128
 small b word = elim (cases_Bool (nat_lt b 128)) [

@@ -5,3 +5,4 @@ pub mod Sent
 pub mod Drafts
 pub mod Made
 pub mod Before
+pub mod Sound

@@ -19,10 +19,10 @@ use crate::kept::{Kept, change_list, kept_list};
 use crate::lines::{PartsIn, Verb, parts_of};
 use crate::messages::message_of;
 use crate::texts::change_of;
-use ad_dir::Dir;
+use ad_dir::{Dir, ROOT};
 use ad_ids::Sid;
 use ad_ldap::Message;
-use ad_needs_rules::{ROOT, number_of_name};
+use ad_needs_rules::number_of_name;
 use std::alloc::Global;
 
 // The identifier of the domain: that of the root.

@@ -9,8 +9,7 @@ ghost use Rattle.ad_load.specs.Settling.{AreInOrder, HasPlaceAbove, settled_of, 
 ghost use Rattle.ad_load.specs.Settling.{all_settled};
 
 use ad_dir::{Meta, Object, guid_of};
-use ad_inherit::explicit;
-use ad_inherit_kept::{WholeSd, whole_again};
+use ad_inherit::{WholeSd, explicit, whole_again};
 use ad_schema::Schema;
 use ad_sd::NormalSd;
 use std::alloc::{AllocError, Global};

@@ -32,7 +32,8 @@ use Rattle.ad_needs_rules.specs.declared.outcome.Verdict.TheVariants.{Missing}
 use Rattle.ad_needs_rules.specs.Needs.{Alternative, needs, want_of, need_of, is_met}
 use Rattle.ad_needs_rules.specs.Checks.{Refusal, code, hidden, missing, Check, or_code, or_missing, all_met}
 use Rattle.ad_needs_rules.specs.Checks.{first_failing, by_checks}
-use Rattle.ad_needs_rules.specs.Requests.{number_named, object_named, or_hidden, is_descriptor, is_password, class_at}
+use Rattle.ad_needs_rules.specs.Requests.{number_named, object_named, or_hidden, is_descriptor, class_at}
+use Rattle.ad_access_dir.specs.Passwords.{is_password}
 use Rattle.ad_needs_rules.specs.Requests.{class_path}
 use Rattle.ad_needs_rules.specs.Descriptors.{has_owner_or_group}
 use Rattle.ad_needs.specs.Adding.{all_naming_checks, own_checks, all_ordinary, parent_named, parent_number}

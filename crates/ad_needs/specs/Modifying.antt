@@ -21,7 +21,8 @@ use Rattle.ad_dir_model.specs.Attributes.{attr_place, object_sid}
 use Rattle.ad_dir_model.specs.Directory.{Directory}
 use Rattle.ad_needs_rules.specs.Needs.{Alternative, needs}
 use Rattle.ad_needs_rules.specs.Checks.{Check, or_code, all_met}
-use Rattle.ad_needs_rules.specs.Requests.{is_name, number_named, or_hidden, is_descriptor, is_password, has_place}
+use Rattle.ad_needs_rules.specs.Requests.{is_name, number_named, or_hidden, is_descriptor, has_place}
+use Rattle.ad_access_dir.specs.Passwords.{is_password, force_change, change}
 use Rattle.ad_needs_rules.specs.Requests.{class_at, attr_path}
 use Rattle.ad_needs_rules.specs.Descriptors.{sd_in_one, asked_parts, has_owner_or_group, has_asked_part}
 use Rattle.ad_needs_rules.specs.Validated.{validated_write}
@@ -49,20 +50,6 @@ is_forced _ = false
 unfoldable pub is_changed : List Item → Bool
 is_changed (old ∷ new ∷ []) = (old.op == delete_values && has_one old) && (new.op == add_values && has_one new)
 is_changed _ = false
-
--- User-Force-Change-Password, 00299570-246d-11d0-a768-00aa006e0529
-abbrev pub force_change : Guid
-force_change = record {
-  bytes = 0x70 ∷ 0x95 ∷ 0x29 ∷ 0x00 ∷ 0x6d ∷ 0x24 ∷ 0xd0 ∷ 0x11 ∷ 0xa7 ∷ 0x68 ∷ 0x00 ∷ 0xaa
-      ∷ 0x00 ∷ 0x6e ∷ 0x05 ∷ 0x29 ∷ [];
-}
-
--- User-Change-Password, ab721a53-1e2f-11d0-9819-00aa0040529b
-abbrev pub change : Guid
-change = record {
-  bytes = 0x53 ∷ 0x1a ∷ 0x72 ∷ 0xab ∷ 0x2f ∷ 0x1e ∷ 0xd0 ∷ 0x11 ∷ 0x98 ∷ 0x19 ∷ 0x00 ∷ 0xaa ∷ 0x00
-      ∷ 0x40 ∷ 0x52 ∷ 0x9b ∷ [];
-}
 
 -- ---- checks of one item
 

@@ -23,13 +23,13 @@ ghost use Rattle.ad_needs.specs.Verdicts.{verdict_of};
 use crate::renaming::is_typed;
 use crate::sent::{new_values, sent, unless_all_lawful, unless_named_once};
 use ad_bytes::Bytes;
-use ad_dir::{Act, Dir};
+use ad_dir::{Act, Dir, ROOT};
 use ad_dn::{Dn, Rdn};
 use ad_ids::Token;
 use ad_ldap::{Add, Settings, result_code};
 use ad_needs_rules::{
-    ROOT, Right, Verdict, asked_in, asked_of, matched, on_children, on_object, read_name,
-    sd_in_one, unless_granted, visible,
+    Right, Verdict, asked_in, asked_of, matched, on_children, on_object, read_name, sd_in_one,
+    unless_granted, visible,
 };
 use ad_schema::ClassId;
 use ad_schema_defaults::{class_by_names, is_schema_class};

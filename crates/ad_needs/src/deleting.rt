@@ -9,12 +9,12 @@ ghost use Rattle.ad_needs.specs.Deleting.{to_leave, delete_needs};
 ghost use Rattle.ad_needs_rules.specs.Judged.{refusal_of};
 ghost use Rattle.ad_needs.specs.Verdicts.{verdict_of};
 
-use ad_dir::{Act, Dir, class_of, parent_of};
+use ad_dir::{Act, Dir, ROOT, class_of, parent_of};
 use ad_ids::Token;
 use ad_ldap::{Settings, result_code};
 use ad_needs_rules::{
-    ROOT, Right, Verdict, matched, on_children, on_object, read_name, unless_either,
-    unless_granted, visible,
+    Right, Verdict, matched, on_children, on_object, read_name, unless_either, unless_granted,
+    visible,
 };
 use std::alloc::{AllocError, Global};
 

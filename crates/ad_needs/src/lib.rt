@@ -47,4 +47,4 @@ pub use first_named::{is_first, none_named};
 pub use items::items_of;
 pub use judging::verdict;
 pub use laws::a_missing_need_names_live_objects;
-pub use modify_needs::{password_right, to_set_password, written_sd};
+pub use modify_needs::{to_set_password, written_sd};

@@ -1,45 +1,29 @@
 //! Modify: what it needs.
 
-ghost use Rattle.std.specs.Prelude.{◌≡◌, ◌<◌, ◌∷◌, [], if◌then◌else◌, true, map, length, IfOk};
+ghost use Rattle.std.specs.Prelude.{◌≡◌, ◌<◌, ◌∷◌, [], true, map, length, IfOk};
 ghost use Rattle.ad_schema.specs.Attributes.{attrs_of};
 ghost use Rattle.ad_dir_model.specs.Objects.{is_live};
 ghost use Rattle.ad_dir_model.specs.Attributes.{attr_place};
 ghost use Rattle.ad_needs_rules.specs.Checks.{all_met};
 ghost use Rattle.ad_needs.specs.Modifying.{written_sd, need_if, parts_needs, descriptor_needs, password_needs};
-ghost use Rattle.ad_needs.specs.Modifying.{attr_needs, ordinary_needs};
-ghost use Rattle.ad_needs.specs.Modifying.{items_of, modify_needs, force_change, change};
+ghost use Rattle.ad_needs.specs.Modifying.{attr_needs, ordinary_needs, items_of, modify_needs};
 ghost use Rattle.ad_needs_rules.specs.Judged.{bit_of, asked, refusal_of};
 ghost use Rattle.ad_needs.specs.ItemWords.{needs_if, named_needs};
 
 use crate::first_named::{is_first, none_named};
 use crate::items::{is_forced, items_of};
+use ad_access_dir::{is_password, password_right};
 use ad_dir::Dir;
-use ad_ids::{Guid, Token};
+use ad_ids::Token;
 use ad_ldap::Item;
 use ad_needs_rules::{
-    Ask, Right, Verdict, asked_in, has_owner_or_group, is_descriptor, is_granted, is_password,
-    on_object, to_do, to_write, unless_either, unless_granted, validated_write,
+    Ask, Right, Verdict, asked_in, has_owner_or_group, is_descriptor, is_granted, on_object, to_do,
+    to_write, unless_either, unless_granted, validated_write,
 };
 use ad_schema::AttrId;
 use ad_sd::SdParts;
 use ad_types::Path;
 use std::alloc::{AllocError, Global};
-
-/// The right User-Force-Change-Password, in packet order.
-const FORCE_CHANGE: Guid = Guid {
-    bytes: [
-        0x70, 0x95, 0x29, 0x00, 0x6d, 0x24, 0xd0, 0x11, 0xa7, 0x68, 0x00, 0xaa, 0x00, 0x6e, 0x05,
-        0x29,
-    ],
-};
-
-/// The right User-Change-Password, in packet order.
-const CHANGE: Guid = Guid {
-    bytes: [
-        0x53, 0x1a, 0x72, 0xab, 0x2f, 0x1e, 0xd0, 0x11, 0x98, 0x19, 0x00, 0xaa, 0x00, 0x40, 0x52,
-        0x9b,
-    ],
-};
 
 // ---- the descriptor
 
@@ -123,13 +107,6 @@ fn descriptor_refusal(
 }
 
 // ---- passwords
-
-/// The right for the form that the items of a password have.
-pub fn password_right(is_forced: bool) -> Guid
-    ensures { result ≡ (if is_forced then force_change else change) }
-{
-    if is_forced { FORCE_CHANGE } else { CHANGE }
-}
 
 /// The right to write a password by the items of its name.
 ///

@@ -19,13 +19,12 @@ ghost use Rattle.ad_needs_rules.specs.Judged.{refusal_of};
 ghost use Rattle.ad_needs.specs.Verdicts.{verdict_of};
 
 use crate::deleting::unless_leaves;
-use ad_dir::{Act, Dir, class_of, live_object, naming_name, naming_of, parent_of};
+use ad_dir::{Act, Dir, ROOT, class_of, goes_with, live_object, naming_name, naming_of, parent_of};
 use ad_dn::{Dn, Rdn};
 use ad_ids::Token;
 use ad_ldap::{Rename, result_code};
 use ad_needs_rules::{
-    ROOT, Right, Verdict, goes_with, matched, on_children, read_name, to_write, unless_granted,
-    visible,
+    Right, Verdict, matched, on_children, read_name, to_write, unless_granted, visible,
 };
 use ad_schema::{AttrId, ClassId, Schema};
 use ad_schema_classes::same_name;

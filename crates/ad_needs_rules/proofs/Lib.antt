@@ -7,4 +7,3 @@ pub mod SightLaws
 pub mod AboveLaws
 pub mod DescriptorLaws
 pub mod ValidatedLaws
-pub mod StandingLaws

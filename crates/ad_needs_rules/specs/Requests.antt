@@ -58,9 +58,6 @@ or_hidden dir token text = record {
 abbrev pub is_descriptor : List ℕ → Bool
 is_descriptor name = same_name name (codes "nTSecurityDescriptor")
 
-abbrev pub is_password : List ℕ → Bool
-is_password name = same_name name (codes "unicodePwd")
-
 -- the attribute of the name is one of the schema that passes the test
 abbrev pub has_place : List SchemaRecord → (ℕ → Bool) → List ℕ → Bool
 has_place schema test name = option_map_or test (attr_place schema name) false

@@ -15,9 +15,8 @@ ghost use Rattle.ad_needs_rules.specs.Validated.{domain_name};
 ghost use Rattle.ad_needs_rules.specs.OwnWrites.{shown_in, dotted_part, dotted};
 ghost use Rattle.ad_needs_rules.specs.Validated.{slash, dot};
 
-use crate::naming::ROOT;
 use ad_bytes::{Bytes, Few};
-use ad_dir::{Dir, Stored, live_object, stored_of};
+use ad_dir::{Dir, ROOT, Stored, live_object, stored_of};
 use ad_dn::{Rdn, same_value};
 use ad_schema::{AttrId, Schema};
 use std::alloc::{AllocError, Global};

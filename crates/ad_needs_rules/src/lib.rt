@@ -32,16 +32,14 @@ mod missing;
 mod naming;
 mod need;
 mod outcome;
-mod standing;
 mod telling;
 mod validated;
 
 pub use asking::{Ask, Right, is_granted, mask_of, on_children, on_object, to_do, to_write};
 pub use descriptor::{asked_in, asked_of, has_asked_part, has_owner_or_group, sd_in_one};
 pub use missing::{unless_either, unless_granted};
-pub use naming::{ROOT, is_descriptor, is_password, matched, number_of_name, read_name, visible};
+pub use naming::{is_descriptor, matched, number_of_name, read_name, visible};
 pub use need::{Need, Want};
 pub use outcome::Verdict;
-pub use standing::{MAX_DEPTH, goes_with, is_below, parent_number};
 pub use telling::text;
 pub use validated::validated_write;

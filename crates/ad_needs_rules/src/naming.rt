@@ -8,7 +8,6 @@ ghost use Rattle.ad_schema.specs.Classes.{classes_of};
 ghost use Rattle.ad_dir_model.specs.Objects.{is_live};
 ghost use Rattle.ad_access_dir.specs.Sight.{if_visible, visible_of, matched};
 ghost use Rattle.ad_needs_rules.specs.Requests.{number_of_name, class_path, attr_path, is_descriptor};
-ghost use Rattle.ad_needs_rules.specs.Requests.{is_password};
 
 use ad_access_dir::is_visible;
 use ad_dir::{Dir, guid_of};
@@ -18,9 +17,6 @@ use ad_schema::{AttrId, ClassId, Schema};
 use ad_schema_classes::same_name;
 use ad_types::{Path, path};
 use std::alloc::{AllocError, Global};
-
-/// The number of the root.
-pub const ROOT: u32 = 1;
 
 // ---- names of objects
 
@@ -139,13 +135,6 @@ pub fn is_descriptor(name: &[u8]) -> bool
     ensures { result ≡ is_descriptor name.now }
 {
     same_name(name, b"nTSecurityDescriptor")
-}
-
-/// Whether the attribute of a name is unicodePwd.
-pub fn is_password(name: &[u8]) -> bool
-    ensures { result ≡ is_password name.now }
-{
-    same_name(name, b"unicodePwd")
 }
 
 // ---- paths

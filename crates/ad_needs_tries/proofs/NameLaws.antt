@@ -15,7 +15,7 @@ use Rattle.ad_ldap.specs.MessageValue.{ModifyOf, AddOf, DeleteOf, RenameOf}
 use Rattle.ad_types.specs.declared.tried.Tried.{Tried}
 use Rattle.ad_dir_model.specs.Directory.{Directory}
 use Rattle.ad_access_dir.specs.Sight.{visible_of}
-use Rattle.ad_tried.specs.Tried.{tried_values}
+use Rattle.ad_types.specs.Tried.{tried_values}
 use Rattle.ad_needs_rules.specs.Requests.{is_name, object_named, number_named}
 use Rattle.ad_needs_rules.proofs.NameChecks.{object_read, parts_read}
 use Rattle.ad_needs.specs.Adding.{has_parts, parent_named, parent_number, new_class, class_number, new_sd, add_needs}

@@ -7,7 +7,7 @@ use Rattle.ad_ids.specs.declared.token.Token.{Token}
 use Rattle.ad_types.specs.declared.tried.Tried.{Tried}
 use Rattle.ad_dir_model.specs.Directory.{Directory}
 use Rattle.ad_access_dir.specs.Sight.{is_granted}
-use Rattle.ad_tried.specs.Tried.{TriedValue, tried_value, tried_values, failure_on}
+use Rattle.ad_types.specs.Tried.{TriedValue, tried_value, tried_values, failure_on}
 use Rattle.ad_needs_rules.specs.Needs.{Alternative}
 use Rattle.ad_needs_tries.specs.Tries.{first_granted, success_of, failure_of, tries}
 use Rattle.ad_needs_tries.specs.Steps.{goes_on, Steps}

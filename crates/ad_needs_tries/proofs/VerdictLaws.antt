@@ -13,7 +13,7 @@ use Rattle.ad_ldap.specs.MessageValue.{CompareOf, Abandon, Extended}
 use Rattle.ad_dir_objects.specs.declared.act.Act.{Act}
 use Rattle.ad_dir_model.specs.Directory.{Directory}
 use Rattle.ad_access_dir.specs.Sight.{is_granted}
-use Rattle.ad_tried.specs.Tried.{TriedValue}
+use Rattle.ad_types.specs.Tried.{TriedValue}
 use Rattle.ad_needs_rules.specs.declared.need.Need.{Need}
 use Rattle.ad_needs_rules.specs.declared.outcome.Verdict.TheVariants.{Granted, Missing}
 use Rattle.ad_needs_rules.specs.Needs.{Alternative, is_met, need_of, want_of}

@@ -3,7 +3,7 @@ use Rattle.std.specs.Prelude.{◌≡◌, Bool, true, false, List, ◌++◌}
 use Rattle.ad_ids.specs.declared.token.Token.{Token}
 use Rattle.ad_types.specs.declared.tried.Tried.{Tried}
 use Rattle.ad_dir_model.specs.Directory.{Directory}
-use Rattle.ad_tried.specs.Tried.{TriedValue, tried_values}
+use Rattle.ad_types.specs.Tried.{TriedValue, tried_values}
 use Rattle.ad_needs_rules.specs.Needs.{Alternative}
 use Rattle.ad_needs_tries.specs.Tries.{tries}
 

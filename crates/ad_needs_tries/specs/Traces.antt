@@ -5,7 +5,7 @@ use Rattle.ad_ids.specs.declared.token.Token.{Token}
 use Rattle.ad_ldap.specs.declared.controls.Settings.{Settings}
 use Rattle.ad_ldap.specs.MessageValue.{OpValue, ModifyOf, AddOf, DeleteOf, RenameOf}
 use Rattle.ad_dir_model.specs.Directory.{Directory}
-use Rattle.ad_tried.specs.Tried.{TriedValue}
+use Rattle.ad_types.specs.Tried.{TriedValue}
 use Rattle.ad_needs_rules.specs.declared.need.Want.{Want}
 use Rattle.ad_needs_rules.specs.declared.need.Need.{Need}
 use Rattle.ad_needs_rules.specs.declared.outcome.Verdict.{Verdict}

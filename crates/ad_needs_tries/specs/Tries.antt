@@ -4,7 +4,7 @@ use Rattle.std.specs.Option.{option_map_or}
 use Rattle.ad_ids.specs.declared.token.Token.{Token}
 use Rattle.ad_dir_model.specs.Directory.{Directory}
 use Rattle.ad_access_dir.specs.Sight.{is_granted}
-use Rattle.ad_tried.specs.Tried.{TriedValue, success_on, failure_on}
+use Rattle.ad_types.specs.Tried.{TriedValue, success_on, failure_on}
 use Rattle.ad_needs_rules.specs.Needs.{Alternative}
 
 -- the first of the alternatives that is granted

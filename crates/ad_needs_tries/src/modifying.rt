@@ -13,12 +13,13 @@ ghost use Rattle.ad_needs.specs.ItemWords.{needs_if, named_needs};
 ghost use Rattle.ad_needs_tries.specs.Steps.{Steps};
 
 use crate::trying::{success, try_either, try_one};
+use ad_access_dir::is_password;
 use ad_dir::Dir;
 use ad_ids::Token;
 use ad_ldap::Item;
 use ad_needs::{is_first, items_of, none_named, to_set_password, written_sd};
 use ad_needs_rules::{
-    Right, has_owner_or_group, is_descriptor, is_granted, is_password, on_object, to_do, to_write,
+    Right, has_owner_or_group, is_descriptor, is_granted, on_object, to_do, to_write,
     validated_write,
 };
 use ad_schema::AttrId;

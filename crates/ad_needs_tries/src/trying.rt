@@ -2,7 +2,7 @@
 
 ghost use Rattle.std.specs.Prelude.{◌≡◌, ◌^◌, ◌∷◌, [], true, IfOk};
 ghost use Rattle.ad_dir_model.specs.Objects.{is_live};
-ghost use Rattle.ad_tried.specs.Tried.{tried_value, failure_on};
+ghost use Rattle.ad_types.specs.Tried.{tried_value, failure_on};
 ghost use Rattle.ad_needs_rules.specs.Judged.{asked};
 ghost use Rattle.ad_needs_tries.specs.Tries.{success_of};
 ghost use Rattle.ad_needs_tries.specs.Steps.{Steps};
@@ -10,8 +10,7 @@ ghost use Rattle.ad_needs_tries.specs.Steps.{Steps};
 use ad_dir::Dir;
 use ad_ids::Token;
 use ad_needs_rules::{Ask, is_granted, mask_of};
-use ad_tried::{failed, succeeded};
-use ad_types::Tried;
+use ad_types::{Tried, failed, succeeded};
 use std::alloc::AllocError;
 
 /// What is told of a right that is granted.

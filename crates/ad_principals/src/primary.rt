@@ -6,13 +6,10 @@ ghost use Rattle.ad_dir_model.specs.Identity.{domain_child};
 ghost use Rattle.ad_principals.specs.Groups.{rid_in, primary_rid, primary_of};
 
 use crate::values::first_value;
-use ad_dir::Dir;
+use ad_dir::{Dir, ROOT};
 use ad_ids::Sid;
 use ad_schema::RuleAttr;
 use ad_value::Value;
-
-// The number of the root.
-const ROOT: u32 = 1;
 
 // The number of 32 bits that a value is.
 fn rid_in(value: Option<&Value>) -> Option<u32>

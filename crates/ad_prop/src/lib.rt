@@ -28,6 +28,6 @@ mod child;
 mod stepping;
 mod turning;
 
-pub use ad_inherit_kept::WholeSd;
+pub use ad_inherit::WholeSd;
 pub use stepping::{step, step_beside};
 pub use turning::{Turn, turn_beside};

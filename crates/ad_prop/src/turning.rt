@@ -12,7 +12,7 @@ ghost use Rattle.ad_prop.specs.Turn.{IsTurn, IsGiven};
 
 use ad_dir::{Dir, guid_of, live_object, live_sd};
 use ad_dir_write::{is_another, mark_if};
-use ad_inherit_kept::{WholeSd, whole_again};
+use ad_inherit::{WholeSd, whole_again};
 use ad_sd::NormalSd;
 use prop_queue::{Pending, Queue};
 use std::alloc::{AllocError, Global};

@@ -9,11 +9,8 @@ ghost use Rattle.ad_dir_model.specs.Protection.{is_builtin, is_of_domain, begins
 ghost use Rattle.ad_protect.specs.Spreading.{is_below, is_number};
 
 use crate::group;
-use ad_dir::Dir;
+use ad_dir::{Dir, ROOT};
 use ad_ids::Sid;
-
-// The number of the root.
-const ROOT: u32 = 1;
 
 // Whether an identifier is the other one with this number after it.
 fn is_below(above: &Sid, sid: &Sid, number: u32) -> bool

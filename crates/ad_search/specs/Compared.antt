@@ -12,7 +12,7 @@ use Rattle.ad_ldap.specs.declared.requests.Compare.{Compare}
 use Rattle.ad_dir_model.specs.Objects.{object_at}
 use Rattle.ad_dir_model.specs.Directory.{Directory}
 use Rattle.ad_access_dir.specs.Sight.{visible_of}
-use Rattle.ad_tried.specs.Tried.{TriedValue}
+use Rattle.ad_types.specs.Tried.{TriedValue}
 use Rattle.ad_entries.specs.Seen.{is_readable}
 
 -- the object that is visible and has the name

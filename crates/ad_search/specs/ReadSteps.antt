@@ -10,7 +10,7 @@ use Rattle.ad_types.specs.declared.tried.Tried.{Tried}
 use Rattle.ad_ldap.specs.MessageValue.{SearchValue}
 use Rattle.ad_dir_model.specs.Shown.{shown}
 use Rattle.ad_dir_model.specs.Directory.{Directory}
-use Rattle.ad_tried.specs.Tried.{TriedValue, tried_values}
+use Rattle.ad_types.specs.Tried.{TriedValue, tried_values}
 use Rattle.ad_search.specs.declared.tried_reads.Count.{Count}
 use Rattle.ad_search.specs.Search.{stop_code}
 use Rattle.ad_search.specs.Reads.{read_on, entry_reads, found_among, given_from}

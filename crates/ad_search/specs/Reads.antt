@@ -16,7 +16,7 @@ use Rattle.ad_dir_model.specs.Objects.{numbers, object_at}
 use Rattle.ad_dir_model.specs.Shown.{shown}
 use Rattle.ad_dir_model.specs.Directory.{Directory}
 use Rattle.ad_access_dir.specs.Sight.{is_visible}
-use Rattle.ad_tried.specs.Tried.{TriedValue, success_on}
+use Rattle.ad_types.specs.Tried.{TriedValue, success_on}
 use Rattle.ad_entries.specs.Seen.{seen_of, is_readable, parts_read, view}
 use Rattle.ad_search.specs.Scope.{is_there}
 use Rattle.ad_entries.specs.Entry.{is_asked, descriptor_given, is_left_out, entry_of}

@@ -14,8 +14,7 @@ ghost use Rattle.ad_search.specs.Needed.{Shows, IsMet, HasMet, AreMet, IsNeededB
 
 use crate::indexed::{lesser, next_shown};
 use crate::needed::{Leaf, Need, may_meet, need_of};
-use crate::subtree::ROOT;
-use ad_dir::Dir;
+use ad_dir::{Dir, ROOT};
 use ad_ldap::Search;
 use std::alloc::{AllocError, Global};
 

@@ -4,12 +4,9 @@ ghost use Rattle.std.specs.Prelude.{◌≡◌, ◌∷◌, ◌++◌, [], true, fi
 ghost use Rattle.ad_dir_model.specs.Objects.{is_live};
 ghost use Rattle.ad_search.specs.Subtree.{is_other, below_each, levels_from, subtree};
 
-use ad_dir::Dir;
+use ad_dir::{Dir, ROOT};
 use ad_entries::rise;
 use std::alloc::{AllocError, Global};
-
-/// The number of the root.
-pub(crate) const ROOT: u32 = 1;
 
 // An object and the levels below it, of which there may be 64.
 const LEVELS: u32 = 65;

@@ -3,7 +3,7 @@
 ghost use Rattle.std.specs.Prelude.{◌≡◌, ◌<◌, true, length, IfOk, IfSome};
 ghost use Rattle.ad_schema.specs.Attributes.{attrs_of};
 ghost use Rattle.ad_dir_model.specs.Objects.{is_live};
-ghost use Rattle.ad_tried.specs.Tried.{tried_value, tried_values};
+ghost use Rattle.ad_types.specs.Tried.{tried_value, tried_values};
 ghost use Rattle.ad_search.specs.Compared.{number_compared, may_read, compared_on, compared_of};
 
 use ad_acl::READ_PROPERTY;

@@ -7,7 +7,7 @@ ghost use Rattle.ad_schema.specs.Attributes.{attrs_of};
 ghost use Rattle.ad_ldap.specs.MessageValue.{search_seen};
 ghost use Rattle.ad_dir_model.specs.Objects.{is_live};
 ghost use Rattle.ad_dir_model.specs.Shown.{shown};
-ghost use Rattle.ad_tried.specs.Tried.{tried_value, tried_values};
+ghost use Rattle.ad_types.specs.Tried.{tried_value, tried_values};
 ghost use Rattle.ad_entries.specs.Judged.{AreKinds};
 ghost use Rattle.ad_entries.specs.Places.{HasPlaces};
 ghost use Rattle.ad_search.specs.Parents.{IsKept};
@@ -29,8 +29,7 @@ use ad_ids::Token;
 use ad_ldap::{DACL_PART, GROUP_PART, OWNER_PART, SACL_PART, Search};
 use ad_needs_rules::read_name;
 use ad_schema::AttrId;
-use ad_tried::succeeded;
-use ad_types::{Path, Tried, path};
+use ad_types::{Path, Tried, path, succeeded};
 use std::alloc::{AllocError, Global};
 
 // ---- one entry

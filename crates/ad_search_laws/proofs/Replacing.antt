@@ -29,9 +29,11 @@ use Rattle.ad_needs_rules.specs.declared.outcome.Verdict.TheVariants.{Granted}
 use Rattle.ad_needs_rules.specs.Checks.{Check, Refusal, first_failing, by_checks, or_code}
 use Rattle.ad_needs_rules.specs.Checks.{all_met}
 use Rattle.ad_needs_rules.specs.Needs.{Alternative, needs, is_met}
-use Rattle.ad_needs_rules.specs.Requests.{is_password, has_place, class_at, attr_path}
+use Rattle.ad_needs_rules.specs.Requests.{has_place, class_at, attr_path}
+use Rattle.ad_access_dir.specs.Passwords.{is_password}
 use Rattle.ad_needs_rules.specs.Validated.{validated_write}
-use Rattle.ad_needs.specs.Modifying.{items_of, is_forced, is_changed, force_change, change, is_unwritable}
+use Rattle.ad_needs.specs.Modifying.{items_of, is_forced, is_changed, is_unwritable}
+use Rattle.ad_access_dir.specs.Passwords.{force_change, change}
 use Rattle.ad_needs.specs.Modifying.{descriptor_checks, ordinary_checks, item_checks, written_sd, descriptor_needs}
 use Rattle.ad_needs.specs.Modifying.{password_needs, or_validated, ordinary_needs, needs_behind, modify_needs}
 use Rattle.ad_needs.specs.Modifying.{modify_checks, modify_act}

@@ -21,7 +21,8 @@ use Rattle.ad_access_dir.specs.Sight.{is_granted}
 use Rattle.ad_needs_rules.specs.declared.outcome.Verdict.TheVariants.{Granted}
 use Rattle.ad_needs_rules.specs.Checks.{Check, Refusal, first_failing, by_checks, or_code, or_missing, all_met}
 use Rattle.ad_needs_rules.specs.Needs.{Alternative, needs}
-use Rattle.ad_needs_rules.specs.Requests.{is_descriptor, is_password}
+use Rattle.ad_needs_rules.specs.Requests.{is_descriptor}
+use Rattle.ad_access_dir.specs.Passwords.{is_password}
 use Rattle.ad_needs_rules.specs.Descriptors.{sd_in_one, asked_parts, has_owner_or_group, has_part, has_asked_part}
 use Rattle.ad_needs_rules.proofs.FirstFailing.{head_holds, head_passes}
 use Rattle.ad_needs.specs.Modifying.{items_of, descriptor_checks, ordinary_checks, item_checks, written_sd, need_if}

@@ -1,3 +1,4 @@
 pub mod Path
 pub mod Tree
 pub mod TypesOf
+pub mod Tried

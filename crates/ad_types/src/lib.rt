@@ -1,12 +1,14 @@
-//! What an access check is about: paths of GUIDs, and trees of them ([MS-DTYP] 2.5.3.2).
+//! What an access check is about: paths of GUIDs, and trees of them ([MS-DTYP] 2.5.3.2); and what an access tried, as a
+//! value: a right of an object, on a path, and whether it was granted. Audit entries are judged by these.
 //!
-//! The rules are written in `docs/profile/access.md`.
+//! The rules are written in `docs/profile/access.md` and `docs/profile/tries.md`.
 //!
 //! # Example
 //!
 //! ```text
 //! let path = ad_types::path(&schema, class, attr);
 //! let tree = TypeTree::build(alloc, &schema, class, &attrs)?;
+//! let tried = ad_types::succeeded(number, READ_PROPERTY, path);
 //! ```
 //!
 //! # Proved
@@ -34,6 +36,6 @@ mod type_tree;
 
 pub use laws::{attributes_are_leaves, nodes_are_placed};
 pub use path_of::path;
-pub use tried::Tried;
+pub use tried::{Tried, failed, succeeded};
 pub use type_path::{Path, last_of};
 pub use type_tree::{Node, TypeTree};

@@ -1,5 +1,5 @@
 -- No question is both answered and refused.
-use Rattle.std.proofs.Common.{◌≡◌, ◌∙◌, inl, inr, ℕ, false, List, [], ◌∷◌, Result, Ok, sym, subst}
+use Rattle.std.proofs.Common.{◌≡◌, ◌∙◌, inl, inr, ℕ, false, List, [], ◌∷◌, Option, Result, Ok, sym, subst}
 use Rattle.std.proofs.lemmas.Option.{none-some, same_Some}
 use Rattle.ad_ids.specs.SidValue.{SidValue}
 use Rattle.ad_ids.specs.declared.guid.Guid.{Guid}
@@ -87,9 +87,8 @@ who_either dir right name text fault is (inr (a, is_asked, inl none)) told = nam
 who_either dir right name text fault is (inr (a, is_asked, inr (number, is_named, none))) told =
     lines_refused dir is.number _ is.asked.bit (principals dir) text fault is.lines none told
 
-pub can_either : (dir : Directory) (name right base text : List ℕ) (fault : AskFault) → IsCanText dir name right base
-    text
-    → IsCanRefusal dir name right base fault → is_memory fault ≡ false → ⊥
+pub can_either : (dir : Directory) (name right : List ℕ) (base : Option (List ℕ)) (text : List ℕ) (fault : AskFault)
+    → IsCanText dir name right base text → IsCanRefusal dir name right base fault → is_memory fault ≡ false → ⊥
 can_either dir name right base text fault is (inl none) told = name_clash (named dir name) is.number fault is.is_named
     none told
 can_either dir name right base text fault is (inr (number, is_named, inl none)) told

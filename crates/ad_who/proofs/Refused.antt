@@ -1,5 +1,5 @@
 -- What is told: the line of a fault, and lines for a token.
-use Rattle.std.proofs.Common.{◌≡◌, ℕ, Bool, false, List, [], Some, Ok, sym, subst}
+use Rattle.std.proofs.Common.{◌≡◌, ℕ, Bool, false, List, [], Option, Some, Ok, sym, subst}
 use Rattle.ad_dir_model.specs.Directory.{Directory}
 use Rattle.ad_who.specs.declared.fault.AskFault.{AskFault}
 use Rattle.ad_ids.specs.declared.token.Token.{Token}
@@ -19,7 +19,8 @@ pub told_refused : (dir : Directory) (IsText : List ℕ → Type 0) (IsRefusal :
 told_refused dir IsText IsRefusal fault told refused said =
     subst (λ (b : Bool). IsTold dir IsText IsRefusal b told.text.items) (sym said.0) (fault, refused, said.1, said.2)
 
-pub can_told : (dir : Directory) (name right base : List ℕ) (number from : ℕ) (a : Asked) (text : List ℕ)
+pub can_told : (dir : Directory) (name right : List ℕ) (base : Option (List ℕ)) (number from : ℕ) (a : Asked)
+    (text : List ℕ)
     → named dir name ≡ Ok number
     → asked_of dir.schema right ≡ Some a → base_named dir base ≡ Ok from
     → (token : Token) × IsTokenOf dir number [] token × (text ≡ can_text dir token a from) → IsCanText dir name right

@@ -62,13 +62,13 @@ IsWhoRefusal dir right name fault =
 
 -- ---- can
 
--- the object of a name, and the root where it is empty
-abbrev pub base_named : Directory → List ℕ → Result ℕ NameFault
-base_named dir [] = Ok root
-base_named dir (b ∷ bytes) = named dir (b ∷ bytes)
+-- the object of a name, and the root where none is given: an empty one is a name that nothing has
+abbrev pub base_named : Directory → Option (List ℕ) → Result ℕ NameFault
+base_named dir None = Ok root
+base_named dir (Some name) = named dir name
 
 -- the lines of the objects at and below a base, for the token of the object of a name
-pub record IsCanText (dir : Directory) (name right base : List ℕ) (text : List ℕ) : Type 0 where
+pub record IsCanText (dir : Directory) (name right : List ℕ) (base : Option (List ℕ)) (text : List ℕ) : Type 0 where
   pub number : ℕ
   pub is_named : named dir name ≡ Ok number
   pub asked : Asked
@@ -80,7 +80,7 @@ pub record IsCanText (dir : Directory) (name right base : List ℕ) (text : List
   pub lines : text ≡ can_text dir token asked from
 
 -- the fault of the name, of the right, of the base, or of the token
-abbrev pub IsCanRefusal : Directory → List ℕ → List ℕ → List ℕ → AskFault → Type 0
+abbrev pub IsCanRefusal : Directory → List ℕ → List ℕ → Option (List ℕ) → AskFault → Type 0
 IsCanRefusal dir name right base fault =
     IsNameFault (named dir name) fault
     ⊎ ((number : ℕ) × (named dir name ≡ Ok number)
@@ -107,5 +107,5 @@ TokenTold dir name texts = IsTold dir (IsTokenText dir name texts) (IsTokenRefus
 abbrev pub WhoTold : Directory → List ℕ → List ℕ → Bool → List ℕ → Type 0
 WhoTold dir right name = IsTold dir (IsWhoText dir right name) (IsWhoRefusal dir right name)
 
-abbrev pub CanTold : Directory → List ℕ → List ℕ → List ℕ → Bool → List ℕ → Type 0
+abbrev pub CanTold : Directory → List ℕ → List ℕ → Option (List ℕ) → Bool → List ℕ → Type 0
 CanTold dir name right base = IsTold dir (IsCanText dir name right base) (IsCanRefusal dir name right base)

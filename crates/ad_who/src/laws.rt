@@ -24,6 +24,6 @@ pub fn no_question_is_both_answered_and_refused()
         → TokenTold dir name sids true answer → TokenTold dir name sids false line → ⊥ }
     ensures who { (dir : Directory) (right name answer line : List ℕ)
         → WhoTold dir right name true answer → WhoTold dir right name false line → ⊥ }
-    ensures can { (dir : Directory) (name right base answer line : List ℕ)
+    ensures can { (dir : Directory) (name right : List ℕ) (base : Option (List ℕ)) (answer line : List ℕ)
         → CanTold dir name right base true answer → CanTold dir name right base false line → ⊥ }
 {}

@@ -2,6 +2,7 @@
 
 ghost use Rattle.std.specs.Prelude.{◌≡◌, ◌++◌, ◌∷◌, [], Ok, true, All, filter, if◌then◌else◌, IfOk, IfErr, OnOk};
 ghost use Rattle.std.specs.List.{flat_map};
+ghost use Rattle.std.specs.Option.{option_map};
 ghost use Rattle.ad_dir_model.specs.Changes.{goes_with};
 ghost use Rattle.ad_dir_model.specs.Objects.{is_live};
 ghost use Rattle.ad_ids.specs.declared.token.Token.{Token as TokenValue};
@@ -16,9 +17,8 @@ use crate::decider::decider_on;
 use crate::fault::AskFault;
 use crate::pieces::put_decider;
 use crate::tokens::{object_named, token_for};
-use ad_dir::Dir;
+use ad_dir::{Dir, ROOT, goes_with};
 use ad_ids::Token;
-use ad_needs_rules::{ROOT, goes_with};
 use ad_principals::put_name;
 use std::alloc::{AllocError, Global};
 
@@ -119,14 +119,16 @@ fn can_text(
     Ok(text)
 }
 
-// The object of a name, and the root where it is empty.
-fn base_named(alloc: Global, dir: &Dir, base: &[u8]) -> Result<u32, AskFault>
-    ensures number { IfOk result (λ number. base_named dir.now base.now ≡ Ok number) }
-    ensures fault { IfErr result (IsNameFault (base_named dir.now base.now)) }
+// The object of a name, and the root where none is given.
+fn base_named(alloc: Global, dir: &Dir, base: Option<&str>) -> Result<u32, AskFault>
+    ensures number { IfOk result (λ number. base_named dir.now
+        (option_map (λ text. text.now) base.entry) ≡ Ok number) }
+    ensures fault { IfErr result
+        (IsNameFault (base_named dir.now (option_map (λ text. text.now) base.entry))) }
 {
     match base {
-        [] => Ok(ROOT),
-        base => object_named(alloc, dir, base),
+        Some(base) => object_named(alloc, dir, base.as_bytes()),
+        None => Ok(ROOT),
     }
 }
 
@@ -149,7 +151,7 @@ fn can_from(
 }
 
 /// A line for each object at and below a base on which a right is granted to the token of the object of a name, by
-/// rising numbers: what decides, and the object's name. An empty base is the root.
+/// rising numbers: what decides, and the object's name. Where no base is given it is the root.
 ///
 /// # Errors
 ///
@@ -160,10 +162,12 @@ pub(crate) fn can_lines(
     dir: &Dir,
     name: &[u8],
     right: &[u8],
-    base: &[u8],
+    base: Option<&str>,
 ) -> Result<Vec<u8>, AskFault>
-    ensures text { IfOk result (λ text. IsCanText dir.now name.now right.now base.now text.items) }
-    ensures refusal { IfErr result (IsCanRefusal dir.now name.now right.now base.now) }
+    ensures text { IfOk result (λ text. IsCanText dir.now name.now right.now
+        (option_map (λ text. text.now) base.entry) text.items) }
+    ensures refusal { IfErr result (IsCanRefusal dir.now name.now right.now
+        (option_map (λ text. text.now) base.entry)) }
     ensures live { IfErr result (IsOfLive dir.now) }
 {
     let number = object_named(alloc, dir, name)?;

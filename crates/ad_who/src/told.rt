@@ -1,6 +1,7 @@
 //! What is told: an answer, or the line that says why there is none.
 
 ghost use Rattle.std.specs.Prelude.{◌≡◌, true, false, map, IfOk};
+ghost use Rattle.std.specs.Option.{option_map};
 ghost use Rattle.std.specs.String.{string_bytes};
 ghost use Rattle.ad_who.specs.Faults.{fault_line, is_memory, IsOfLive};
 ghost use Rattle.ad_who.specs.Answers.{TokenTold, WhoTold, CanTold};
@@ -80,7 +81,7 @@ pub fn who(alloc: Global, dir: &Dir, right: &str, name: &str) -> Result<Told, Al
 
 /// On which objects the token of the object of a name has a right: a line for each at or below the base on which it
 /// is granted, by rising numbers, with what decides and its name; or the line that says which word is wrong, from the
-/// left, or why there is no token. An empty base is the root.
+/// left, or why there is no token. Where no base is given it is the root.
 ///
 /// # Errors
 ///
@@ -90,18 +91,12 @@ pub fn can(
     dir: &Dir,
     name: &str,
     right: &str,
-    base: &str,
+    base: Option<&str>,
 ) -> Result<Told, AllocError>
-    ensures { IfOk result (λ told. CanTold dir.now name.now right.now base.now told.answered
-        told.text.items) }
+    ensures { IfOk result (λ told. CanTold dir.now name.now right.now
+        (option_map (λ text. text.now) base.entry) told.answered told.text.items) }
 {
-    match can_lines(
-        alloc,
-        dir,
-        name.as_bytes(),
-        right.as_bytes(),
-        base.as_bytes(),
-    ) {
+    match can_lines(alloc, dir, name.as_bytes(), right.as_bytes(), base) {
         Ok(text) => Ok(answer(text)),
         Err(fault) => refusal(alloc, dir, fault),
     }

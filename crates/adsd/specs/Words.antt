@@ -220,12 +220,13 @@ more_given (word ∷ []) = []
 more_given (word ∷ store ∷ []) = []
 more_given (word ∷ store ∷ name ∷ more) = more
 
--- the first of these and the second, which are empty where there are none
+-- the first of these, which is empty where there is none
 abbrev pub first_more : List (List ℕ) → List ℕ
 first_more [] = []
 first_more (first ∷ others) = first
 
-abbrev pub second_more : List (List ℕ) → List ℕ
-second_more [] = []
-second_more (first ∷ []) = []
-second_more (first ∷ second ∷ others) = second
+-- the second one, if there is one: an empty word is one
+abbrev pub second_more : List (List ℕ) → Option (List ℕ)
+second_more [] = None
+second_more (first ∷ []) = None
+second_more (first ∷ second ∷ others) = Some second

@@ -22,17 +22,24 @@
 #![tactic(auto)]
 
 mod beside;
+mod looks;
+mod nearest;
+mod noted;
 mod reason;
 mod run;
 mod streams;
 mod words;
 
+use noted::Noted;
 use site_io::{FileSite, OutSite, SiteFault, StdSource};
 use std::alloc::{AllocError, Global};
 use std::io;
 use std::io::Stdout;
 use std::process::ExitCode;
 use streams::Streams;
+
+/// The status where the input isn't of the command's form.
+const NOT_OF_FORM: u8 = 1;
 
 /// The status where the words aren't one of the forms: no text that isn't Unicode is in one.
 const NO_FORM: u8 = 2;
@@ -45,6 +52,9 @@ const NO_INPUT: u8 = 4;
 
 /// The status where the output or a slot failed.
 const SITE_FAILED: u8 = 5;
+
+/// So many of the first bytes of an input are noted, to say what it looks like.
+const FIRST_BYTES: usize = 4096;
 
 /// The status where there is no memory for the words.
 const NO_MEMORY: u8 = 6;
@@ -80,13 +90,29 @@ fn is_cut_short(status: u8, fault: Option<SiteFault>) -> bool {
     }
 }
 
+// Tells why a store is refused, or which word names nothing in it: it is opened once more for that, to be read.
+fn tell_refused(
+    rt: &HostRuntime,
+    words: &[String],
+    store: &str,
+    makes_store: bool,
+    site: &FileSite<HostRuntime, Stdout>,
+) {
+    reason::tell_refusal(rt, store, makes_store, site);
+    if !makes_store {
+        if let Ok(mut again) = site_of(rt, store, true) {
+            nearest::tell_unknown(rt, words, &mut again);
+        }
+    }
+}
+
 // Runs over the files of the store that the words name.
 fn run_over(rt: &HostRuntime, streams: &Streams, words: &[String], store: &str) -> u8 {
     let Ok(mut site) = site_of(rt, store, streams.lacks_output || run::only_looks(words)) else {
         reason::tell_no_memory(rt);
         return NO_MEMORY;
     };
-    let mut source = StdSource::new(rt.stdin());
+    let mut source = Noted::new(rt.alloc(), StdSource::new(rt.stdin()), FIRST_BYTES);
     let mut none = OutSite::new(rt.stdout());
     let status = beside::run_beside(rt.alloc(), words, &mut source, &mut site, &mut none);
     let makes_store = run::makes_store(words);
@@ -94,8 +120,9 @@ fn run_over(rt: &HostRuntime, streams: &Streams, words: &[String], store: &str) 
         let _ = site.remove_made();
     }
     match status {
-        REFUSED => reason::tell_refusal(rt, store, makes_store, &site),
-        NO_INPUT => reason::tell_input(rt, streams, source.cause()),
+        NOT_OF_FORM if makes_store => looks::tell_look(rt, source.first()),
+        REFUSED => tell_refused(rt, words, store, makes_store, &site),
+        NO_INPUT => reason::tell_input(rt, streams, source.source().cause()),
         SITE_FAILED => reason::tell_site(rt, streams, store, site.fault()),
         NO_MEMORY => reason::tell_no_memory(rt),
         _ => {}

@@ -3,6 +3,7 @@
 ghost use Rattle.std.specs.Prelude.{◌<◌, IfSome};
 
 use crate::streams::Streams;
+use ad_nearest::Shown;
 use site_io::{FileSite, SiteFault, Slot};
 use std::alloc::Global;
 use std::io::{ErrorKind, Stdout};
@@ -31,21 +32,6 @@ static FORMS: [(&str, &str); 16] = [
 
 /// A command's name is no longer than this in bytes, with one letter more.
 const LONGEST: usize = 10;
-
-/// A text of the caller's, which stays on its line whatever stands in it.
-#[derive(Drop)]
-struct Shown<'a> {
-    text: &'a str,
-}
-
-impl fmt::Display for Shown<'_> {
-    fn fmt<W: fmt::Write>(&self, f: &mut fmt::Formatter<W>) -> fmt::Result {
-        for c in self.text.chars() {
-            f.write_char(if c.is_control() { '?' } else { c })?;
-        }
-        Ok(())
-    }
-}
 
 /// The file of a slot of a store.
 #[derive(Drop)]

@@ -308,13 +308,14 @@ fn first_more(words: &[String]) -> &str
     }
 }
 
-// The second one.
-fn second_more(words: &[String]) -> &str
-    ensures { result.now ≡ second_more (more_given (map string_bytes words.now)) }
+// The second one, if there is one.
+fn second_more(words: &[String]) -> Option<&str>
+    ensures { option_map (λ text. text.now) result ≡ second_more
+        (more_given (map string_bytes words.now)) }
 {
     match words {
-        [_, _, _, _, second, ..] => second.as_str(),
-        _ => "",
+        [_, _, _, _, second, ..] => Some(second.as_str()),
+        _ => None,
     }
 }
 
@@ -358,8 +359,8 @@ fn second_more(words: &[String]) -> &str
 /// - `who STORE RIGHT NAME`: what is emitted is a line for each principal to whose token the right is granted on the
 ///   object of this name, with what decides. All else is as by `token`.
 /// - `can STORE NAME RIGHT BASE`: what is emitted is a line for each object at or below BASE on which the right is
-///   granted to the token of the object of this name, with what decides. BASE may be left out, and is the root then.
-///   All else is as by `token`.
+///   granted to the token of the object of this name, with what decides. BASE may be left out, and is the root then;
+///   an empty one is a name that nothing has. All else is as by `token`.
 /// - `sample STORE N`: the sample of size N is loaded into two empty slots and its frames are served there, and what
 ///   is emitted are eight numbers of what came of it. N is a decimal number from 1 to 1,000 without leading zero. The
 ///   input isn't read.

@@ -14,7 +14,7 @@ use Rattle.ad_dir_model.specs.Object.{Object, no_object}
 use Rattle.ad_dir_model.specs.Objects.{object_of, object_at, sd_at}
 use Rattle.ad_frames.specs.declared.frame.FrameBody.{FrameBody}
 use Rattle.ad_frames.specs.declared.frame.FrameBody.TheVariants as body
-use Rattle.ad_tried.specs.Tried.{TriedValue}
+use Rattle.ad_types.specs.Tried.{TriedValue}
 use Rattle.ad_sd.specs.declared.parts.Sd.{Sd}
 use Rattle.ad_audit.specs.Audited.{is_audit, audited}
 use Rattle.ad_engine.specs.Tokens.{token_of}

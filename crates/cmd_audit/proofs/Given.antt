@@ -2,7 +2,7 @@
 use Rattle.std.proofs.Common.{◌≡◌, ◌∙◌, List, [], Result, Ok, Err, ap}
 use Rattle.std.specs.Prelude.{IfOk}
 use Rattle.ad_types.specs.declared.tried.Tried.{Tried}
-use Rattle.ad_tried.specs.Tried.{TriedValue, tried_values}
+use Rattle.ad_types.specs.Tried.{TriedValue, tried_values}
 use Rattle.std.specs.Global.{Vec}
 
 pub tried_as : {E : Type 0} (r : Result (Vec Tried) E) (given wanted : List TriedValue) → given ≡ wanted

@@ -4,7 +4,7 @@ use Rattle.std.proofs.Common.{◌++◌, get_or, length, drop, drop-cons, append_
 use Rattle.std.specs.List.{flat_map}
 use Rattle.std.proofs.lemmas.List.{append-nil, drop_all}
 use Rattle.ad_types.specs.declared.tried.Tried.{Tried}
-use Rattle.ad_tried.specs.Tried.{TriedValue, tried_value, tried_values}
+use Rattle.ad_types.specs.Tried.{TriedValue, tried_value, tried_values}
 use Rattle.std.specs.Prelude.{option_map, is_some}
 use Rattle.std.specs.Option.{option_map_or}
 use Rattle.std.proofs.lemmas.Option.{none-some, same_Some}

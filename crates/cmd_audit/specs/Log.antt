@@ -15,7 +15,7 @@ use Rattle.ad_engine.specs.Tokens.{token_of}
 use Rattle.ad_engine.specs.Answer.{answer}
 use Rattle.ad_engine.specs.Runs.{no_tokens}
 use Rattle.ad_types.specs.Path.{last_guid}
-use Rattle.ad_tried.specs.Tried.{TriedValue}
+use Rattle.ad_types.specs.Tried.{TriedValue}
 use Rattle.ad_audit.specs.declared.event.Event.{Event}
 use Rattle.ad_audit.specs.Audited.{audited}
 use Rattle.ad_audit.specs.Line.{event_line}

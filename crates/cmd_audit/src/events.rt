@@ -4,7 +4,7 @@ ghost use Rattle.std.specs.Prelude.{◌≡◌, ◌++◌, true, if◌then◌else�
 ghost use Rattle.ad_dir_model.specs.Objects.{is_live};
 ghost use Rattle.ad_dir_model.specs.Names.{name_text};
 ghost use Rattle.ad_audit.specs.Line.{event_line};
-ghost use Rattle.ad_tried.specs.Tried.{tried_value, tried_values};
+ghost use Rattle.ad_types.specs.Tried.{tried_value, tried_values};
 ghost use Rattle.cmd_audit.specs.Log.{is_audited, event_of, lines_of_one, lines_of};
 
 use ad_audit::{Event, audited, line};

@@ -5,7 +5,7 @@ ghost use Rattle.ad_ldap.specs.MessageValue.{op_seen, search_seen, message_seen}
 ghost use Rattle.ad_ldap.specs.Settings.{settings_of};
 ghost use Rattle.ad_search.specs.Reads.{reads_of};
 ghost use Rattle.ad_search.specs.Compared.{compared_of};
-ghost use Rattle.ad_tried.specs.Tried.{tried_values};
+ghost use Rattle.ad_types.specs.Tried.{tried_values};
 ghost use Rattle.cmd_audit.specs.Tries.{with_settings, change_tries, op_tries, message_tries, looks, message_looks};
 
 use ad_dir::Dir;

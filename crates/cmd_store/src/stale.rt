@@ -10,18 +10,12 @@ ghost use Rattle.ad_dir_model.specs.Soundness.{IsSound};
 ghost use Rattle.ad_dir_model.specs.Tree.{IsAtDepth};
 ghost use Rattle.cmd_store.specs.Stale.{stale, is_stale};
 
-use ad_dir::{Dir, guid_of, live_object, live_sd};
+use ad_dir::{Dir, MAX_DEPTH, ROOT, guid_of, live_object, live_sd};
 use ad_dir_write::is_another;
 use ad_inherit::{explicit, whole};
 use ad_schema::ClassId;
 use ad_sd::NormalSd;
 use std::alloc::{AllocError, Global};
-
-/// The number of the root.
-const ROOT: u32 = 1;
-
-/// The largest number of parents above an object.
-const MAX_DEPTH: u32 = 64;
 
 // The explicit part of the root's descriptor.
 fn root_part(alloc: Global, dir: &Dir) -> Result<NormalSd, AllocError>

@@ -1,5 +1,5 @@
 -- What `adsd token`, `adsd who` and `adsd can` do: each asks the directory of a store, and tells what it is answered.
-use Rattle.std.specs.Prelude.{◌≡◌, ◌⊎◌, ℕ, Bool, true, false, List, IfSome}
+use Rattle.std.specs.Prelude.{◌≡◌, ◌⊎◌, ℕ, Bool, true, false, List, Option, IfSome}
 use Rattle.site_io.specs.Disk.{Images}
 use Rattle.site_io.specs.Told.{StaysTold}
 use Rattle.site_io.specs.declared.site.Site.{Ghosts as SiteGhosts}
@@ -72,5 +72,5 @@ module _ {S : Type 0} (site : SiteGhosts S) where
   abbrev pub WhoDoes : List ℕ → List ℕ → S → S → Outcome → Type 0
   WhoDoes right name old new outcome = AsksDoes (λ dir. WhoTold dir right name) old new outcome
 
-  abbrev pub CanDoes : List ℕ → List ℕ → List ℕ → S → S → Outcome → Type 0
+  abbrev pub CanDoes : List ℕ → List ℕ → Option (List ℕ) → S → S → Outcome → Type 0
   CanDoes name right base old new outcome = AsksDoes (λ dir. CanTold dir name right base) old new outcome

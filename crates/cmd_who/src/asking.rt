@@ -1,6 +1,7 @@
 //! The whole commands.
 
 ghost use Rattle.std.specs.Prelude.{◌≡◌, map};
+ghost use Rattle.std.specs.Option.{option_map};
 ghost use Rattle.std.specs.String.{string_bytes};
 ghost use Rattle.ad_dir_model.specs.Directory.{Directory};
 ghost use Rattle.ad_who.specs.Answers.{TokenTold, WhoTold, CanTold};
@@ -76,10 +77,10 @@ fn tell_can<S: Site>(
     dir: &Dir,
     name: &str,
     right: &str,
-    base: &str,
+    base: Option<&str>,
 ) -> Outcome
-    ensures { TellsIn S.Site (λ (dir : Directory). CanTold dir name.now right.now base.now) dir.now
-        site.old site.new result }
+    ensures { TellsIn S.Site (λ (dir : Directory). CanTold dir name.now right.now
+        (option_map (λ text. text.now) base.entry)) dir.now site.old site.new result }
 {
     match ad_who::can(alloc, dir, name, right, base) {
         Ok(told) => say(site, &told.text, outcome_of(told.answered)),
@@ -88,11 +89,18 @@ fn tell_can<S: Site>(
 }
 
 /// Opens the store and emits on which objects the token of the object of a name has a right: a line for each at or
-/// below a base on which it is granted, by rising numbers, with what decides and its name. An empty base is the root.
-/// Where that can't be told, a line says why, and where the slots represent no directory the line that says why is
-/// emitted. No slot is written.
-pub fn can<S: Site>(alloc: Global, site: &mut S, name: &str, right: &str, base: &str) -> Outcome
-    ensures does { CanDoes S.Site name.now right.now base.now site.old site.new result }
+/// below a base on which it is granted, by rising numbers, with what decides and its name. Where no base is given it is
+/// the root. Where that can't be told, a line says why, and where the slots represent no directory the line that says
+/// why is emitted. No slot is written.
+pub fn can<S: Site>(
+    alloc: Global,
+    site: &mut S,
+    name: &str,
+    right: &str,
+    base: Option<&str>,
+) -> Outcome
+    ensures does { CanDoes S.Site name.now right.now (option_map (λ text. text.now) base.entry)
+        site.old site.new result }
     ensures site_failed { result ≡ SiteFailed → HasFailed S.Site site.old site.new }
 {
     match Engine::resume(alloc, site) {

@@ -1,7 +1,7 @@
 //! For each record of an LDIF text on standard input, what authenticated users may do by the list in its `sddl`
 //! line.
 //!
-//! A program over the libraries as another repository would call them (`docs/use-a-library.md`).
+//! A program over the libraries as another repository would call them (`docs/embedding.md`).
 //!
 //! # Example
 //!

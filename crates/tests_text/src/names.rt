@@ -18,11 +18,29 @@ fn is_shown(rt: &(impl Abort + AllocGlobal), dn: &Dn, text: &[u8]) {
 
 #[test]
 fn a_name_is_read_and_shown(rt: HostRuntime) {
-    let rows: [(&[u8], &[u8]); 4] = [
+    let rows: [(&[u8], &[u8]); 9] = [
         (b"cn=a , dc=x", b"CN=a,DC=x"),
         (b"cn=\\20\\20a\\20\\20", b"CN=\\  a \\ "),
         (b"cn=\\23\\00", b"CN=\\#\\00"),
         (b"cn=\\C3\xa9", b"CN=\xc3\xa9"),
+        (b"cn=bob\nACNF:1\x1b[2J\x7f", b"CN=bob\\0AACNF:1\\1B[2J\\7F"),
+        (
+            b"cn=\xc2\x80\xc2\x9f\xd8\x9c",
+            b"CN=\\C2\\80\\C2\\9F\\D8\\9C",
+        ),
+        (
+            b"cn=\xe2\x80\x8e\xe2\x80\xa8a\xe2\x80\xae",
+            b"CN=\\E2\\80\\8E\\E2\\80\\A8a\\E2\\80\\AE",
+        ),
+        (
+            b"cn=\xe2\x81\xa6\xe2\x81\xa9\xef\xbb\xbf ,dc=x",
+            b"CN=\\E2\\81\\A6\\E2\\81\\A9\\EF\\BB\\BF,DC=x",
+        ),
+        // the characters beside these stand as they are
+        (
+            b"cn=\xc2\xa0\xd8\x9b\xe2\x80\x8d\xe2\x80\x90\xe2\x80\xa7\xe2\x80\xaf\xe2\x81\xa5\xe2\x81\xaa\xef\xbb\xbe",
+            b"CN=\xc2\xa0\xd8\x9b\xe2\x80\x8d\xe2\x80\x90\xe2\x80\xa7\xe2\x80\xaf\xe2\x81\xa5\xe2\x81\xaa\xef\xbb\xbe",
+        ),
     ];
     for (text, shown) in rows {
         is_shown(&rt, &name(&rt, text), shown);

@@ -1,4 +1,7 @@
-// Elements by hand: every text of a directory becomes a text node, and none is ever read as markup.
+// Elements by hand: every text of a directory becomes a text node, and none is ever read as markup. What isn't seen in a
+// text or a mark is spelled.
+
+import {shown} from "./shown.js";
 
 export function el(tag, marks, ...inside) {
   const made = document.createElement(tag);
@@ -7,7 +10,7 @@ export function el(tag, marks, ...inside) {
     if (name.startsWith("on"))
       made.addEventListener(name.slice(2), value);
     else
-      made.setAttribute(name, value === true ? "" : value);
+      made.setAttribute(name, value === true ? "" : shown(String(value)));
   }
   put(made, inside);
   return made;
@@ -16,7 +19,7 @@ export function el(tag, marks, ...inside) {
 export function put(one, inside) {
   for (const piece of inside.flat(Infinity)) {
     if (piece === undefined || piece === null || piece === false || piece === "") continue;
-    one.append(piece instanceof Node ? piece : document.createTextNode(String(piece)));
+    one.append(piece instanceof Node ? piece : document.createTextNode(shown(String(piece))));
   }
   return one;
 }
@@ -27,6 +30,11 @@ export function name(text) { return el("bdi", {}, text); }
 export function number(count) { return count.toLocaleString("en-US"); }
 
 export function plural(count, one, many) { return number(count) + " " + (count === 1 ? one : many || one + "s"); }
+
+// Texts on lines of their own.
+export function onLines(many) {
+  return many.flatMap((one, at) => (at ? [ document.createTextNode("\n"), one ] : [ one ]));
+}
 
 // Pieces with something between them.
 export function joined(pieces, between) {
@@ -66,7 +74,7 @@ export function file(what, words) {
 }
 
 // Says something to who doesn't see what changed on the page.
-export function say(text) { document.getElementById("status").textContent = text; }
+export function say(text) { document.getElementById("status").textContent = shown(text); }
 
 let counted = 0;
 

@@ -2,6 +2,7 @@
 
 import {ask, el, number, plural, say} from "./dom.js";
 import {objectPicker} from "./picker.js";
+import {shown} from "./shown.js";
 import * as tree from "./tree.js";
 import {error} from "./words.js";
 import {overview} from "./overview.js";
@@ -20,13 +21,13 @@ const VIEWS = {
   who: whoView,
   try: tryView
 };
-let shown = 0, first = true;
+let turn = 0, first = true;
 
 async function route() {
   const hash = location.hash;
   if (hash === "#main") return main.focus();
   if (hash && !hash.startsWith("#/")) return;
-  const [word, ...words] = hash.slice(2).split("/").map(decodeURIComponent), own = (shown += 1);
+  const [word, ...words] = hash.slice(2).split("/").map(decodeURIComponent), own = (turn += 1);
   const view = VIEWS[word] || overview;
   let made;
   try {
@@ -34,8 +35,8 @@ async function route() {
   } catch (why) {
     made = { title: "That can't be told", inside: [ el("h1", {}, "That can't be told"), error(why) ] };
   }
-  if (own !== shown) return;
-  document.title = made.title + " \u2013 adsd-explore";
+  if (own !== turn) return;
+  document.title = shown(made.title) + " \u2013 adsd-explore";
   main.replaceChildren(...[made.inside].flat(Infinity).filter((one) => one instanceof Node));
   for (const link of document.querySelectorAll("header nav a")) {
     const here = link.getAttribute("href") === "#/" + ([ "who", "try" ].includes(word) ? word : "");
@@ -60,6 +61,9 @@ function planned() {
 
 async function begin() {
   const told = await ask("start");
+  const banner = document.getElementById("incomplete");
+  banner.textContent = told.incomplete || "";
+  banner.hidden = !told.incomplete;
   document.getElementById("store").textContent = told.store;
   const form = document.getElementById("search");
   form.append(objectPicker("Find an object", (one) => {

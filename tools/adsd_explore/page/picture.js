@@ -2,13 +2,14 @@
 // it.
 
 import {el, number, plural} from "./dom.js";
+import {shown} from "./shown.js";
 
 const SPACE = "http://www.w3.org/2000/svg", WIDE = 720, STEP = 22, LINE = 26;
 
 function draw(tag, marks, text) {
   const made = document.createElementNS(SPACE, tag);
   for (const [key, value] of Object.entries(marks)) made.setAttribute(key, value);
-  if (text !== undefined) made.textContent = text;
+  if (text !== undefined) made.textContent = shown(String(text));
   return made;
 }
 

@@ -1,6 +1,6 @@
 // What if: changes of lists, made on a copy; who gains and who loses; the steps that pass them down; and the frames.
 
-import {ask, el, file, fresh, joined, number, plural, say, tell} from "./dom.js";
+import {ask, el, file, fresh, joined, number, onLines, plural, say, tell} from "./dom.js";
 import {entryForm, listForm} from "./form.js";
 import {objectPicker, principalPicker} from "./picker.js";
 import {inWords, legend, picture} from "./picture.js";
@@ -252,11 +252,11 @@ function frames(told) {
     const some = told.grants.filter((line) => line);
     return el("section", { "aria-labelledby": "frames" }, el("h2", { id: "frames" }, "The frames that make it so"),
     el("p", {}, "For ", el("code", {}, "tools/adsd-ask frames FILE | adsd serve STORE"), ", or as frames already:"),
-    el("pre", { tabindex: "0", "aria-label": "lines for adsd-ask" }, told.lines.join("\n")),
+    el("pre", { tabindex: "0", "aria-label": "lines for adsd-ask" }, onLines(told.lines)),
     some.length ? [el("p", {},
       some.length === told.grants.length ? "The same as lines for " : "Some of it as lines for ",
       el("code", {}, "adsd grants STORE"), ":"),
-      el("pre", { tabindex: "0", "aria-label": "lines for adsd grants" }, some.join("\n"))] : "",
+      el("pre", { tabindex: "0", "aria-label": "lines for adsd grants" }, onLines(some))] : "",
     el("p", { class: "buttons" }, saving(told, "text", "adsd.txt", "Save the lines"),
       saving(told, "bytes", "adsd.frames", "Save the frames")));
 }

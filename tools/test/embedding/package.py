@@ -1,4 +1,5 @@
-"""Tries the Python package: its examples, its codes beside those of adsd.h, and a store, where there is a program: package.py TOP"""
+"""Tries the Python package: its examples, its codes beside those of adsd.h, its arguments, and a store, where there is a program:
+package.py TOP"""
 
 import doctest
 import importlib
@@ -9,6 +10,7 @@ import sys
 import tempfile
 
 import adsd
+import package_arguments
 from adsd import Descriptor, Store, Token, check, explain
 from adsd._library import CODES
 
@@ -68,7 +70,7 @@ def store(top):
 
 def main(top):
     assert check(Descriptor.from_sddl("O:BAG:BAD:(A;;GA;;;AU)"), ANN, adsd.map_rights(0x10000000)) == 0xF01FF
-    faults = examples() + codes(top) + reasons() + store(top)
+    faults = examples() + codes(top) + reasons() + store(top) + package_arguments.faults()
     for fault in faults:
         print(f"DIFFERS package: {fault}")
     return 1 if faults else 0

@@ -17,18 +17,20 @@ USER, GROUP = "bf967aba-0de6-11d0-a285-00aa003049e2", "c0000000-0000-4000-8000-0
 MEMBER, SECRET = "a0000000-0000-4000-8000-000000000008", "a0000000-0000-4000-8000-000000000013"
 PERSONAL = "50000000-0000-4000-8000-000000000001"
 HELPDESK, LEADS, SUPPORT, CONTRACTORS, SERVER_ADMINS = (f"{DOMAIN}-{number}" for number in (2001, 2002, 2003, 2004, 2005))
-ERIN = f"{DOMAIN}-1105"
+ERIN, GUID_OF_RIGHT = f"{DOMAIN}-1105", "d0000000-0000-4000-8000-00000000000"
 OWN = "O:BAG:BAD:"
 GUARDED = f"{OWN}P(A;;GA;;;BA)(A;;GA;;;SY)(A;;LCRPLORC;;;AU)"
 # Further attributes and kinds, and the classes that have them.
 MORE = [("sAMAccountName", 12, 32, "user group"), ("scriptPath", 12, 33, "user"), ("groupType", 9, 34, "group")]
 HOSTILE = ["<script>alert(1)</script>", "\"'><img src=x onerror=alert(1)>", "\x01\x07\x1b[2J\r\n\t",
            "\u202egnp.\u2066x\u200f\u2028\ufeff",
-           "\u00e9" * 512, "<b>" * 341 + "x", "javascript:alert(1)", "{{7*7}}${7*7}", "\u05d0\u05d1\u05d2 \u0661\u0662"]
+           "\u00e9" * 512, "<b>" * 341 + "x", "javascript:alert(1)", "{{7*7}}${7*7}", "\u05d0\u05d1\u05d2 \u0661\u0662", "\x7f\x85\x9b31m\u061c\u200e\u2029\u2069"]
+# An extended right of users that is called so, and one whose name looks so where it is told.
+HOSTILE_RIGHTS = {"re\u202eset\x1b[8m\x85\n": 1, "twin\u2066": 2, "twin\\E2\\81\\A6": 3}
 
 
-def schema():
-    """The schema's records, with those of MORE."""
+def schema(rights=False):
+    """The schema's records, with those of MORE, and rights with hostile names, if they are wanted."""
     with open(os.path.join(TOP, "examples", "base.ldif"), encoding="utf-8") as opened:
         text = opened.read().partition("# ---- objects")[0]
     for name, syntax, number, classes in MORE:
@@ -37,6 +39,9 @@ def schema():
                  f"schemaIDGUID:: {guid}\nisSingleValued: TRUE\n\n")
         for one in classes.split():
             text = text.replace(f"lDAPDisplayName: {one}\n", f"lDAPDisplayName: {one}\nmayContain: {name}\n", 1)
+    for name, number in HOSTILE_RIGHTS.items() if rights else ():
+        text += (f"\ndn: CN=right{number}\nobjectClass: controlAccessRight\ncn:: {base64.b64encode(name.encode()).decode()}\n"
+                 f"rightsGuid: {GUID_OF_RIGHT}{number}\nvalidAccesses: 256\nappliesTo: {USER}\n\n")
     return text
 
 
@@ -96,8 +101,8 @@ def people(made):
     made.put(f"CN=everybody,{STAFF}", "group", f"{DOMAIN}-2006", groupType=2, **members(*of.values()))
 
 
-def ldif(hostile=False):
-    """The directory as LDIF."""
+def ldif(hostile=False, rights=False):
+    """The directory as LDIF; hostile objects, and rights with hostile names, where they are wanted."""
     made = Text()
     made.put(ROOT, "domainDNS", DOMAIN, f"{OWN}(A;CI;GA;;;BA)(A;CI;GA;;;SY)(A;CI;LCRPLORC;;;AU)(OA;CIIO;RPWP;{PERSONAL};{USER};PS)")
     made.put(f"CN=System,{ROOT}", "container")
@@ -113,12 +118,12 @@ def ldif(hostile=False):
     for number in range(1, 5):
         made.put(f"CN=pc{number},{SERVERS}", "computer", f"{DOMAIN}-{1200 + number}", sAMAccountName=f"pc{number}$")
     if hostile:
-        made.put(f"OU=odd,{ROOT}", "organizationalUnit", sddl=f"{OWN}(A;CI;WD;;;{DOMAIN}-1300)")
+        made.put(f"OU=odd,{ROOT}", "organizationalUnit", sddl=f"{OWN}(A;CI;WD;;;{DOMAIN}-1300)(OA;CI;CR;{GUID_OF_RIGHT}1;;{DOMAIN}-1301)")
         for at, name in enumerate(HOSTILE):
             made.put(f"CN={escaped(name)},OU=odd,{ROOT}", "user", f"{DOMAIN}-{1300 + at}")
-    return schema() + "\n" + "\n\n".join(made.records) + "\n"
+    return schema(rights) + "\n" + "\n\n".join(made.records) + "\n"
 
 
-def load(path, hostile=False):
+def load(path, hostile=False, rights=False):
     """Makes a store of it."""
-    subprocess.run([os.environ["ADSD"], "load", path], input=ldif(hostile).encode(), stdout=subprocess.DEVNULL, check=True)
+    subprocess.run([os.environ["ADSD"], "load", path], input=ldif(hostile, rights).encode(), stdout=subprocess.DEVNULL, check=True)

@@ -109,7 +109,7 @@ def counted(opened, plan, step):
 
 def gains(tries, opened, plan, key, name):
     for step in sorted({0, 1, plan.total // 2, plan.total}):
-        made, _ = opened.api.sides({"plan": key, "step": str(step)})
+        made, _ = opened.api.sides({"plan": key, "step": step})
         accounts = opened.world.accounts
         found = {place: counts for mask, counts in made.totals() for place in accounts.places_of(mask)}
         tries.check(found == counted(opened, plan, step), f"{name}: who gains at step {step}: {found}")

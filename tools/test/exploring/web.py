@@ -18,6 +18,7 @@ COMMAND = os.path.join(corp.TOP, "tools", "adsd-explore")
 WANTED = {"Content-Security-Policy": "default-src 'none'; script-src 'self'; style-src 'self';", "X-Content-Type-Options": "nosniff",
           "Referrer-Policy": "no-referrer", "Cache-Control": "no-store", "X-Frame-Options": "DENY",
           "Cross-Origin-Resource-Policy": "same-origin"}
+SECONDS = 300
 OUTSIDE = re.compile(r"https?://(?!www\.w3\.org/2000/svg)|innerHTML|outerHTML|insertAdjacentHTML|document\.write|"
                      r"\beval\b|new Function|style=|<script>")
 
@@ -25,15 +26,20 @@ OUTSIDE = re.compile(r"https?://(?!www\.w3\.org/2000/svg)|innerHTML|outerHTML|in
 class Served:
     """An explorer as its command runs it."""
 
-    def __init__(self, store, *words):
-        self.child = subprocess.Popen([COMMAND, store, *words], stdout=subprocess.PIPE, stderr=subprocess.PIPE, text=True)
-        self.address = self.child.stdout.readline().strip()
+    def __init__(self, store, *words, command=None, env=None):
+        self.child = subprocess.Popen(command or [COMMAND, store, *words], stdout=subprocess.PIPE, stderr=subprocess.PIPE,
+                                      text=True, env=env)
+        self.address = self.told()
         parts = urlsplit(self.address)
         self.host, self.port, self.path = parts.hostname, parts.port, parts.path
 
+    def told(self):
+        """The address, once it is told."""
+        return self.child.stdout.readline().strip()
+
     def ask(self, path, method="GET", body=None, headers=None, host=None):
         """The status, the headers and the body of an answer."""
-        connection = http.client.HTTPConnection(self.host, self.port, timeout=60)
+        connection = http.client.HTTPConnection(self.host, self.port, timeout=SECONDS)
         try:
             connection.putrequest(method, path, skip_host=True)
             for name, value in {"Host": host or f"{self.host}:{self.port}", **(headers or {})}.items():
@@ -59,10 +65,17 @@ class Served:
     def end(self):
         """Ends it; its status and what it said."""
         self.child.terminate()
-        said = self.child.stderr.read()
-        self.child.stdout.close()
-        self.child.stderr.close()
-        return self.child.wait(), said
+        return self.ended()
+
+    def ended(self):
+        """Its status and what it said, once it has ended; None and why, where it doesn't end."""
+        try:
+            _, said = self.child.communicate(timeout=SECONDS)
+        except subprocess.TimeoutExpired:
+            self.child.kill()
+            self.child.communicate()
+            return None, f"it didn't end in {SECONDS} seconds"
+        return self.child.returncode, said
 
 
 def lets_in(tries, served):
@@ -79,12 +92,12 @@ def lets_in(tries, served):
              (start, {"headers": {"Sec-Fetch-Site": "same-site"}}, 403), (start, {"headers": {"Sec-Fetch-Site": "none"}}, 200),
              (start, {"method": "HEAD"}, 200), (start, {"method": "PUT"}, 501), (start, {"method": "OPTIONS"}, 501),
              (served.path + "../web.py", {}, 404), (served.path + "%2e%2e/web.py", {}, 404), (served.path + "api/nothing", {}, 404),
-             (served.path + "api/object?n=99999", {}, 404), (served.path + "api/object?n=-1", {}, 404),
-             (served.path + "api/principal?sid=nobody", {}, 404), (served.path + "api/children?n=1&after=" + "9" * 400, {}, 200)]
+             (served.path + "api/object?n=99999", {}, 404), (served.path + "api/object?n=-1", {}, 400),
+             (served.path + "api/principal?sid=nobody", {}, 400), (served.path + "api/children?n=1&after=" + "9" * 400, {}, 400)]
     for path, words, status in cases:
         found, _, body = served.ask(path, **words)
         tries.check(found == status, f"{path} {words}: {found}, expected {status}")
-        tries.check(status == 200 or path.startswith(served.path + "api") and found == 404 or not body, f"{path}: {body[:80]}")
+        tries.check(status == 200 or path.startswith(served.path + "api") and found in (400, 404) or not body, f"{path}: {body[:80]}")
     for name in ("", "main.js", "style.css", "api/start"):
         _, headers, _ = served.ask(served.path + name)
         missing = [key for key, value in WANTED.items() if not headers.get(key, "").startswith(value)]
@@ -219,7 +232,7 @@ def words(tries):
     for given, status, said in (([tries.path("missing")], 1, "there is no such file"), ([junk], 1, "store empty"), ([], 2, "required"),
                                 ([tries.path("corp"), "--port", "x"], 2, "is no port"),
                                 ([tries.path("corp"), "--port", str(taken.getsockname()[1])], 5, "Address already in use")):
-        done = subprocess.run([COMMAND, *given], capture_output=True, text=True, timeout=60)
+        done = subprocess.run([COMMAND, *given], capture_output=True, text=True, timeout=SECONDS)
         tries.check(done.returncode == status and said in done.stderr and not done.stdout, f"{given}: {done}")
     taken.close()
     done = subprocess.run([sys.executable, COMMAND, "--help"], capture_output=True, text=True)

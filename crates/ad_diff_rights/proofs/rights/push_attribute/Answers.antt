@@ -1,7 +1,7 @@
 use Rattle.std.proofs.Common.{◌∙◌, ◌<◌, sym, ap, subst, codes}
 use Rattle.std.specs.Prelude.{All}
 use Rattle.ad_acl.specs.Mask.{has_bit}
-use Rattle.ad_dsacls.specs.Effective.{label_of}
+use Rattle.ad_access_dir.specs.Labels.{label_of}
 use Rattle.ad_acl.specs.declared.codes.Code.{Code}
 use Rattle.ad_diff_rights.specs.Rights.{labels, attribute_codes}
 use Rattle.ad_diff_rights.specs.Steps.{texts, masked_attribute}

@@ -3,7 +3,7 @@ use Rattle.std.specs.Prelude.{All}
 use Rattle.std.proofs.lemmas.List.{append-nil}
 use Rattle.ad_acl.specs.Mask.{has_bit}
 use Rattle.ad_types.specs.Path.{guids_of}
-use Rattle.ad_dsacls.specs.Effective.{label_of}
+use Rattle.ad_access_dir.specs.Labels.{label_of}
 use Rattle.ad_acl.specs.declared.codes.Code.{Code}
 use Rattle.ad_diff_rights.specs.Rights.{labels, child_codes, child_labels}
 use Rattle.ad_diff_rights.specs.Asked.{grants_of}

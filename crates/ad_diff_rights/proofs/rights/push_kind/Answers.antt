@@ -1,7 +1,7 @@
 use Rattle.std.proofs.Common.{◌∙◌, [], ◌∷◌, ap}
 use Rattle.ad_acl.specs.Mask.{has_bit}
 use Rattle.ad_types.specs.Path.{guids_of}
-use Rattle.ad_dsacls.specs.Effective.{label_of}
+use Rattle.ad_access_dir.specs.Labels.{label_of}
 use Rattle.ad_diff_rights.specs.Rights.{labels}
 use Rattle.ad_diff_rights.specs.Asked.{grants_of}
 use Rattle.ad_diff_rights.specs.Steps.{texts}

@@ -1,5 +1,5 @@
 use Rattle.std.proofs.Common.{◌≡◌, drop}
-use Rattle.ad_dsacls.specs.Effective.{applies}
+use Rattle.ad_access_dir.specs.Allowed.{applies}
 use Rattle.ad_dsacls.proofs.rights.applies.Given as goal
 
 -- none so far is that of the class or one above it

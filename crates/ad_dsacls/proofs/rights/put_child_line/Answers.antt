@@ -2,7 +2,8 @@ use Rattle.std.proofs.Common.{List, ℕ, codes, ap, sym, ◌∙◌}
 use Rattle.ad_acl.specs.Codes.{right_codes}
 use Rattle.ad_sddl.specs.Canonical.{codes_text}
 use Rattle.ad_types.specs.Path.{guids_of}
-use Rattle.ad_dsacls.specs.Effective.{line_of, label_of, child_line}
+use Rattle.ad_dsacls.specs.Effective.{line_of, child_line}
+use Rattle.ad_access_dir.specs.Labels.{label_of}
 use Rattle.ad_bytes.proofs.Appended.{called, nothing}
 use Rattle.ad_dsacls.proofs.EffectiveLaws.{put_as, child_is, child_none}
 use Rattle.ad_dsacls.proofs.rights.put_child_line.Goals as goal

@@ -2,7 +2,8 @@ use Rattle.std.proofs.Common.{List, ℕ, codes, ap, ◌∙◌}
 use Rattle.ad_acl.specs.Codes.{right_codes}
 use Rattle.ad_sddl.specs.Canonical.{codes_text}
 use Rattle.ad_types.specs.Path.{guids_of}
-use Rattle.ad_dsacls.specs.Effective.{line_of, label_of, extended_line}
+use Rattle.ad_dsacls.specs.Effective.{line_of, extended_line}
+use Rattle.ad_access_dir.specs.Labels.{label_of}
 use Rattle.ad_dsacls.proofs.EffectiveLaws.{put_as, extended_is}
 use Rattle.ad_dsacls.proofs.rights.put_extended_line.Goals as goal
 

@@ -2,7 +2,8 @@ use Rattle.std.proofs.Common.{List, ℕ, codes, ap, ◌∙◌}
 use Rattle.std.specs.Prelude.{filter}
 use Rattle.ad_acl.specs.Codes.{right_codes}
 use Rattle.ad_sddl.specs.Canonical.{codes_text}
-use Rattle.ad_dsacls.specs.Effective.{line_of, label_of, is_of_set, set_line}
+use Rattle.ad_dsacls.specs.Effective.{line_of, is_of_set, set_line}
+use Rattle.ad_access_dir.specs.Labels.{label_of}
 use Rattle.ad_access_dir.proofs.AllowedLaws.{allowed_all}
 use Rattle.ad_dsacls.proofs.EffectiveLaws.{put_as, set_all, set_is}
 use Rattle.ad_dsacls.proofs.rights.put_set_line.Goals as goal

@@ -2,7 +2,7 @@ use Rattle.std.proofs.Common.{◌≡◌, true, sym, subst}
 use Rattle.std.specs.Prelude.{IfOk}
 use Rattle.ad_ldap.specs.declared.requests.Op.{Op}
 use Rattle.ad_ldap.specs.MessageValue.{op_seen}
-use Rattle.ad_tried.specs.Tried.{tried_values}
+use Rattle.ad_types.specs.Tried.{tried_values}
 use Rattle.ad_needs.specs.Verdicts.{verdict_of}
 use Rattle.ad_needs_tries.specs.Tries.{tries}
 use Rattle.ad_needs_tries.specs.Traces.{requirements, reaches}

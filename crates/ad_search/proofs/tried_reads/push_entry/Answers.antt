@@ -1,5 +1,5 @@
 use Rattle.ad_ldap.specs.MessageValue.{search_seen}
-use Rattle.ad_tried.specs.Tried.{tried_values}
+use Rattle.ad_types.specs.Tried.{tried_values}
 use Rattle.ad_search.proofs.ReadsLaws.{entry_ok}
 use Rattle.ad_search.proofs.tried_reads.push_entry.Goals as goal
 

@@ -1,4 +1,4 @@
-use Rattle.ad_tried.specs.Tried.{tried_value, tried_values}
+use Rattle.ad_types.specs.Tried.{tried_value, tried_values}
 use Rattle.ad_search.proofs.ReadsLaws.{none_read, read_ok}
 use Rattle.ad_search.proofs.tried_reads.push_read.Goals as goal
 

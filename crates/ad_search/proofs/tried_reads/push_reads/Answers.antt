@@ -1,5 +1,5 @@
 use Rattle.std.proofs.Common.{arith}
-use Rattle.ad_tried.specs.Tried.{tried_values}
+use Rattle.ad_types.specs.Tried.{tried_values}
 use Rattle.ad_search.proofs.ReadsLaws.{reads_more, reads_end}
 use Rattle.ad_search.proofs.tried_reads.push_reads.Goals as goal
 

@@ -1,5 +1,5 @@
 use Rattle.std.proofs.Common.{◌≡◌, ◌++◌, drop}
-use Rattle.ad_tried.specs.Tried.{tried_values}
+use Rattle.ad_types.specs.Tried.{tried_values}
 use Rattle.ad_search.specs.ReadSteps.{reads_at_each}
 use Rattle.ad_search.proofs.tried_reads.push_reads.Given as goal
 

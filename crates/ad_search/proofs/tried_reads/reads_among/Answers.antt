@@ -1,7 +1,7 @@
 use Rattle.std.proofs.Common.{List, ◌++◌, ap, arith}
 use Rattle.ad_ldap.specs.MessageValue.{search_seen}
 use Rattle.ad_types.specs.declared.tried.Tried.{Tried}
-use Rattle.ad_tried.specs.Tried.{tried_values}
+use Rattle.ad_types.specs.Tried.{tried_values}
 use Rattle.ad_search.specs.Reads.{found_among}
 use Rattle.ad_search.specs.ReadSteps.{reads_behind}
 use Rattle.ad_search.proofs.ReadsLaws.{None', goes_to, ends_at, comes_to_end}

@@ -1,6 +1,6 @@
 use Rattle.std.proofs.Common.{◌≡◌, ℕ, List, IfOk, subst, ap, ◌∙◌}
 use Rattle.ad_ldap.specs.MessageValue.{search_seen}
-use Rattle.ad_tried.specs.Tried.{TriedValue, tried_values}
+use Rattle.ad_types.specs.Tried.{TriedValue, tried_values}
 use Rattle.ad_search.specs.Reads.{found_among}
 use Rattle.ad_search.specs.ReadSteps.{reads_behind}
 use Rattle.ad_search.proofs.ReadsLaws.{None'}

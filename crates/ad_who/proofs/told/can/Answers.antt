@@ -1,4 +1,5 @@
 use Rattle.std.proofs.Common.{List, ℕ, subst}
+use Rattle.std.specs.Option.{option_map}
 use Rattle.ad_dir.proofs.NameLaws.{if_ok}
 use Rattle.ad_who.specs.Answers.{IsCanText, IsCanRefusal}
 use Rattle.ad_who.proofs.Refused.{told_refused}
@@ -9,13 +10,11 @@ returns-in-Err c =
     let dir = c.args.dir.now in
     let name = c.args.name.now in
     let right = c.args.right.now in
-    let base = c.args.base.now in
+    let base = option_map (λ text. text.now) c.args.base in
     let fault = c.in-Err.fault in
-    let on_name = subst (λ (text : List ℕ). IsCanRefusal dir text c.as_bytes-2.result.now c.as_bytes-3.result.now
-    fault) c.as_bytes.ensures.value c.in-Err.ensures.refusal in
-    let on_right = subst (λ (text : List ℕ). IsCanRefusal dir name text c.as_bytes-3.result.now fault)
-    c.as_bytes-2.ensures.value on_name in
-    let refused = subst (λ (text : List ℕ). IsCanRefusal dir name right text fault) c.as_bytes-3.ensures.value
-    on_right in
+    let on_name = subst (λ (text : List ℕ). IsCanRefusal dir text c.as_bytes-2.result.now base fault)
+    c.as_bytes.ensures.value c.in-Err.ensures.refusal in
+    let refused = subst (λ (text : List ℕ). IsCanRefusal dir name text base fault) c.as_bytes-2.ensures.value
+    on_name in
     if_ok c.refusal.result (λ told said. told_refused dir (IsCanText dir name right base)
     (IsCanRefusal dir name right base) fault told refused said) c.refusal.ensures

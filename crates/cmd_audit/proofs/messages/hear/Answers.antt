@@ -1,6 +1,6 @@
 use Rattle.std.proofs.Common.{◌≡◌, Bool, List, sym, ap, subst}
 use Rattle.std.specs.Prelude.{IfOk}
-use Rattle.ad_tried.specs.Tried.{TriedValue, tried_values}
+use Rattle.ad_types.specs.Tried.{TriedValue, tried_values}
 use Rattle.cmd_audit.specs.Tries.{reading_tries, message_tries, reading_looks, message_looks}
 use Rattle.cmd_audit.proofs.messages.hear.Goals as goal
 

@@ -1,7 +1,7 @@
 use Rattle.std.proofs.Common.{List, sym, ap, ◌∙◌}
 use Rattle.ad_ldap.specs.declared.controls.Settings.{Settings}
 use Rattle.ad_ldap.specs.MessageValue.{search_seen}
-use Rattle.ad_tried.specs.Tried.{TriedValue}
+use Rattle.ad_types.specs.Tried.{TriedValue}
 use Rattle.ad_search.specs.Reads.{reads_of}
 use Rattle.cmd_audit.specs.Tries.{with_settings}
 use Rattle.cmd_audit.proofs.Given.{tried_as, tried_none}

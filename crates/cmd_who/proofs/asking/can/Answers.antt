@@ -1,4 +1,5 @@
 use Rattle.std.proofs.Common.{Err, subst, ap}
+use Rattle.std.specs.Option.{option_map}
 use Rattle.ad_dir_model.specs.Directory.{Directory}
 use Rattle.cmd_store.specs.EngineWords.{OpenFault}
 use Rattle.ad_who.specs.Answers.{CanTold}
@@ -10,9 +11,10 @@ use Rattle.cmd_who.proofs.asking.can.Goals as goal
 
 pub returns-in-Ok : goal.returns-in-Ok
 returns-in-Ok g c =
-    let asks : Question = λ dir. CanTold dir c.args.name.now c.args.right.now c.args.base.now in
+    let base = option_map (λ text. text.now) c.args.base in
+    let asks : Question = λ dir. CanTold dir c.args.name.now c.args.right.now base in
     let excludes : Excludes asks = λ dir answer line is none. can_either dir c.args.name.now c.args.right.now
-    c.args.base.now answer none.0 is none.1 none.2 in
+    base answer none.0 is none.1 none.2 in
     let said = subst (λ (dir : Directory). TellsIn g.S.Site asks dir c.resume.new.site c.tell_can.new.site
     c.tell_can.result) c.dir.ensures c.tell_can.ensures in
     let all = asked_told g.S.Site asks excludes c.args.site.now c.resume.new.site c.tell_can.new.site
@@ -21,9 +23,10 @@ returns-in-Ok g c =
 
 pub returns-in-Err : goal.returns-in-Err
 returns-in-Err g c =
-    let asks : Question = λ dir. CanTold dir c.args.name.now c.args.right.now c.args.base.now in
+    let base = option_map (λ text. text.now) c.args.base in
+    let asks : Question = λ dir. CanTold dir c.args.name.now c.args.right.now base in
     let excludes : Excludes asks = λ dir answer line is none. can_either dir c.args.name.now c.args.right.now
-    c.args.base.now answer none.0 is none.1 none.2 in
+    base answer none.0 is none.1 none.2 in
     let all = asked_by g.S.Site asks excludes c.args.site.now c.resume.new.site c.refuse.new.site c.in-Err.fault
     c.refuse.result c.in-Err.ensures.outside c.in-Err.ensures.opened
     (λ is. c.in-Err.ensures.cause (ap (λ (f : OpenFault). Err f) is)) c.refuse.ensures in
