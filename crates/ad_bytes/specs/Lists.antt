@@ -2,8 +2,8 @@
 use Rattle.std.specs.Prelude.{ℕ, List, take}
 use Rattle.ad_bytes.specs.declared.bytes.Held.{Held}
 use Rattle.ad_bytes.specs.declared.bytes.Held.TheVariants as held
-use Rattle.ad_bytes.specs.declared.few.Items.{Items}
-use Rattle.ad_bytes.specs.declared.few.Items.TheVariants as items
+use Rattle.ad_bytes.specs.declared.one_or_many.Items.{Items}
+use Rattle.ad_bytes.specs.declared.one_or_many.Items.TheVariants as items
 
 -- the bytes that count
 abbrev pub held_bytes : Held → List ℕ

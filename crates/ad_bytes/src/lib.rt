@@ -23,21 +23,21 @@
 //! # Cost
 //!
 //! A read takes the same time whatever the length of the input, and no memory: an input borrows its bytes. A push
-//! is amortised constant; a copy is linear in the bytes. One value of a `Few`, and up to 30 bytes of a `Bytes`,
+//! is amortised constant; a copy is linear in the bytes. One value of a `OneOrMany`, and up to 30 bytes of a `Bytes`,
 //! stand where the list does.
 #![tactic(auto)]
 
 mod bytes;
-mod few;
 mod hex;
 mod inline;
 mod input;
 mod list;
+mod one_or_many;
 mod ranges;
 
 pub use bytes::Bytes;
-pub use few::Few;
 pub use hex::{hex_char, hex_value};
 pub use input::{Input, Short};
 pub use list::List;
+pub use one_or_many::OneOrMany;
 pub use ranges::{are_bytes, is_bytes};

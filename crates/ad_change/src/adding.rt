@@ -34,7 +34,7 @@ use crate::new_object::{domain_is_sid, gets_sid, new_edits, new_object};
 use crate::outcome::Plan;
 use crate::owner::is_owner_allowed;
 use crate::sent::attrs_are_bytes;
-use ad_bytes::{Bytes, Few, List};
+use ad_bytes::{Bytes, List, OneOrMany};
 use ad_change_values::{
     Held, Stop, are_too_many, code_of, has_no_empty_password, is_lacking, one_is_repeated,
     read_values, stored_values,
@@ -62,7 +62,7 @@ fn too_many(schema: &Schema, attr: AttrId, sent: &[Bytes]) -> bool
 }
 
 // The checks of one attribute, and its values as they are stored.
-fn judge_attr(alloc: Global, dir: &Dir, attr: AttrId, sent: &[Bytes]) -> Result<Few<Stored>, Stop>
+fn judge_attr(alloc: Global, dir: &Dir, attr: AttrId, sent: &[Bytes]) -> Result<OneOrMany<Stored>, Stop>
     requires { attr.0 < length (attrs_of dir.now.schema) }
     ensures { Judges (add.attr_checks dir.now (attr, sent.now))
         (λ stored. map stored_seen stored ≡ all_stored dir.now attr.0 sent.now) result }
@@ -84,7 +84,7 @@ fn judge_attr(alloc: Global, dir: &Dir, attr: AttrId, sent: &[Bytes]) -> Result<
 }
 
 // Puts an attribute with its values at the end.
-fn push_held(held: &mut Held, attr: AttrId, stored: Few<Stored>) -> Result<(), AllocError>
+fn push_held(held: &mut Held, attr: AttrId, stored: OneOrMany<Stored>) -> Result<(), AllocError>
     ensures { OnOk result (held.new.items ≡ held.old.items ++ (attr, stored) ∷ []) }
 {
     held.push((attr, stored))?;

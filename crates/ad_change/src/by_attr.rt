@@ -10,7 +10,7 @@ ghost use Rattle.ad_change.specs.Adding.{held_before, is_given};
 ghost use Rattle.ad_change.specs.Creating.{all_before};
 ghost use Rattle.ad_change_values.specs.ByAttr.{by_attr};
 
-use ad_bytes::{Bytes, Few, List};
+use ad_bytes::{Bytes, List, OneOrMany};
 use ad_change_values::Held;
 use ad_dir::Stored;
 use ad_schema::AttrId;
@@ -59,9 +59,9 @@ pub(crate) fn is_in(given: &BTreeSet<u32>, attr: u32) -> bool
 
 // Puts an attribute with its values in the place of what is held of it, where there are any.
 fn put_with(
-    values: &mut BTreeMap<u32, Few<Stored>>,
+    values: &mut BTreeMap<u32, OneOrMany<Stored>>,
     attr: AttrId,
-    stored: Few<Stored>,
+    stored: OneOrMany<Stored>,
 ) -> Result<(), AllocError>
     ensures { OnOk result (by_attr values.new.entries ≡ held_before attr.0 (map stored_seen stored)
         (by_attr values.old.entries)) }
@@ -77,8 +77,8 @@ fn put_with(
 
 // The same of an attribute that was read.
 fn put_last(
-    values: &mut BTreeMap<u32, Few<Stored>>,
-    last: (AttrId, Few<Stored>),
+    values: &mut BTreeMap<u32, OneOrMany<Stored>>,
+    last: (AttrId, OneOrMany<Stored>),
 ) -> Result<(), AllocError>
     ensures { OnOk result (by_attr values.new.entries
         ≡ held_before (held_seen last).attr (held_seen last).values (by_attr values.old.entries)) }
@@ -88,7 +88,7 @@ fn put_last(
 }
 
 // Moves the values of the first attribute after those of all before it.
-fn move_first(values: &mut BTreeMap<u32, Few<Stored>>, all: &mut Held) -> Result<(), AllocError>
+fn move_first(values: &mut BTreeMap<u32, OneOrMany<Stored>>, all: &mut Held) -> Result<(), AllocError>
     ensures moved { OnOk result (map held_seen all.new.items ++ by_attr values.new.entries
         ≡ map held_seen all.old.items ++ by_attr values.old.entries) }
     ensures fewer { OnOk result (btree_map_len values.new ≡ btree_map_len values.old - 1) }
@@ -100,7 +100,7 @@ fn move_first(values: &mut BTreeMap<u32, Few<Stored>>, all: &mut Held) -> Result
 }
 
 // The attributes with their values, in order.
-fn in_order(alloc: Global, values: BTreeMap<u32, Few<Stored>>) -> Result<Held, AllocError>
+fn in_order(alloc: Global, values: BTreeMap<u32, OneOrMany<Stored>>) -> Result<Held, AllocError>
     ensures { IfOk result (λ all. map held_seen all.items ≡ by_attr values.entries) }
 {
     let mut values = values;

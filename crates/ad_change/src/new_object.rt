@@ -25,7 +25,7 @@ ghost use Rattle.ad_change.specs.Adding.{held_before};
 ghost use Rattle.ad_change.specs.Creating.{new_whole};
 ghost use Rattle.ad_dir.specs.Conditions.{AreEdits};
 
-use ad_bytes::{Bytes, Few, List};
+use ad_bytes::{Bytes, List, OneOrMany};
 use ad_change_values::{Held, put_stored, take_stored};
 use ad_dir::{Dir, Edit, Meta, Object, ROOT, Stored, guid_of, live_sd};
 use ad_ids::{Sid, Token};
@@ -43,7 +43,7 @@ fn put_before(
     alloc: Global,
     held: &mut Held,
     attr: AttrId,
-    stored: Few<Stored>,
+    stored: OneOrMany<Stored>,
 ) -> Result<(), AllocError>
     requires { AttrsRiseFrom 0 (map held_seen held.old.items) }
     ensures { OnOk result (map held_seen held.new.items
@@ -122,7 +122,7 @@ fn put_sid(alloc: Global, held: &mut Held, attr: AttrId, sid: &Sid) -> Result<()
         ≡ changes.with_values attr.0 (plain (as_shown (sid_bytes sid.now)) ∷ [])
         (map held_seen held.old.items)) }
 {
-    let mut stored = Few::new(alloc);
+    let mut stored = OneOrMany::new(alloc);
     stored.push(Stored::Plain(sid_value(alloc, sid)?))?;
     put_before(alloc, held, attr, stored)
 }

@@ -6,7 +6,7 @@ ghost use Rattle.ad_sd.specs.declared.parts.Sd.{Sd as SdValue};
 ghost use Rattle.ad_dir_objects.specs.Seen.{stored_seen, held_seen, object_seen};
 ghost use Rattle.ad_change.specs.Judging.{same_place};
 
-use ad_bytes::{Bytes, Few};
+use ad_bytes::{Bytes, OneOrMany};
 use ad_dir::{Object, Stored};
 use ad_schema::AttrId;
 use ad_value::{Value, equal};
@@ -49,7 +49,7 @@ fn same_stored_all(a: &[Stored], b: &[Stored]) -> bool
 
 // ---- attributes
 
-fn same_held(a: &(AttrId, Few<Stored>), b: &(AttrId, Few<Stored>)) -> bool
+fn same_held(a: &(AttrId, OneOrMany<Stored>), b: &(AttrId, OneOrMany<Stored>)) -> bool
     ensures { IsTrue result ↔ (held_seen a.now ≡ held_seen b.now) }
 {
     if a.0.0 != b.0.0 {
@@ -58,7 +58,7 @@ fn same_held(a: &(AttrId, Few<Stored>), b: &(AttrId, Few<Stored>)) -> bool
     same_stored_all(a.1.as_slice(), b.1.as_slice())
 }
 
-fn same_held_all(a: &[(AttrId, Few<Stored>)], b: &[(AttrId, Few<Stored>)]) -> bool
+fn same_held_all(a: &[(AttrId, OneOrMany<Stored>)], b: &[(AttrId, OneOrMany<Stored>)]) -> bool
     ensures { IsTrue result ↔ (map held_seen a.now ≡ map held_seen b.now) }
 {
     if a.len() != b.len() {

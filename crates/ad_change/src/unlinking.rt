@@ -10,7 +10,7 @@ ghost use Rattle.ad_dir_model.specs.Changes.{goes_with, stays_linked, unlinked, 
 ghost use Rattle.ad_change.specs.Removing.{AddsEdits, IsLeaving, losing_among, loses_some, unlinked_at};
 
 use crate::subtree::goes_with;
-use ad_bytes::{Few, List};
+use ad_bytes::{List, OneOrMany};
 use ad_dir::{Dir, Edit, Object, Stored, live_object, live_sd};
 use ad_schema::AttrId;
 use std::alloc::{AllocError, Global};
@@ -42,7 +42,7 @@ fn some_lost(dir: &Dir, target: u32, alone: bool, stored: &[Stored]) -> bool
 }
 
 // Whether an object that has these values loses any.
-fn loses(dir: &Dir, target: u32, alone: bool, values: &[(AttrId, Few<Stored>)]) -> bool
+fn loses(dir: &Dir, target: u32, alone: bool, values: &[(AttrId, OneOrMany<Stored>)]) -> bool
     requires { IsLeaving dir.now target alone }
     ensures { result ≡ list_any (λ held. loses_some (goes_with dir.now target) held.values)
         (map held_seen values.now) }
@@ -63,7 +63,7 @@ fn push_kept(
     dir: &Dir,
     target: u32,
     alone: bool,
-    kept: &mut Few<Stored>,
+    kept: &mut OneOrMany<Stored>,
     value: &Stored,
 ) -> Result<(), AllocError>
     requires { IsLeaving dir.now target alone }
@@ -89,12 +89,12 @@ fn values_left(
     target: u32,
     alone: bool,
     stored: &[Stored],
-) -> Result<Few<Stored>, AllocError>
+) -> Result<OneOrMany<Stored>, AllocError>
     requires { IsLeaving dir.now target alone }
     ensures { IfOk result (λ kept. map stored_seen kept
         ≡ filter (stays_linked (goes_with dir.now target)) (map stored_seen stored.now)) }
 {
-    let mut kept = Few::new(alloc);
+    let mut kept = OneOrMany::new(alloc);
     'each: for value in stored {
         push_kept(alloc, dir, target, alone, &mut kept, value)?;
     }
@@ -107,8 +107,8 @@ fn push_held(
     dir: &Dir,
     target: u32,
     alone: bool,
-    all: &mut List<(AttrId, Few<Stored>)>,
-    held: &(AttrId, Few<Stored>),
+    all: &mut List<(AttrId, OneOrMany<Stored>)>,
+    held: &(AttrId, OneOrMany<Stored>),
 ) -> Result<(), AllocError>
     requires { IsLeaving dir.now target alone }
     ensures { OnOk result (map held_seen all.new
@@ -128,8 +128,8 @@ fn all_kept(
     dir: &Dir,
     target: u32,
     alone: bool,
-    values: &[(AttrId, Few<Stored>)],
-) -> Result<List<(AttrId, Few<Stored>)>, AllocError>
+    values: &[(AttrId, OneOrMany<Stored>)],
+) -> Result<List<(AttrId, OneOrMany<Stored>)>, AllocError>
     requires { IsLeaving dir.now target alone }
     ensures { IfOk result (λ all. map held_seen all
         ≡ filter_map (unlinked_held (goes_with dir.now target)) (map held_seen values.now)) }

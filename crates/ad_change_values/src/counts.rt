@@ -7,7 +7,7 @@ ghost use Rattle.ad_dir_objects.specs.Seen.{held_seen};
 ghost use Rattle.ad_dir_model.specs.Object.{stored_in};
 ghost use Rattle.ad_change_values.specs.ByAttr.{count_in};
 
-use ad_bytes::Few;
+use ad_bytes::OneOrMany;
 use ad_dir::Stored;
 use ad_schema::AttrId;
 use std::alloc::{AllocError, Global};
@@ -37,7 +37,7 @@ pub(crate) fn count_of(counts: &Counts, attr: AttrId) -> usize
 }
 
 /// How many values each attribute has.
-pub(crate) fn counts_of(alloc: Global, held: &[(AttrId, Few<Stored>)]) -> Result<Counts, AllocError>
+pub(crate) fn counts_of(alloc: Global, held: &[(AttrId, OneOrMany<Stored>)]) -> Result<Counts, AllocError>
     ensures { IfOk result (λ counts. (attr : ℕ) → count_in counts attr
         ≡ length (stored_in (map held_seen held.now) attr)) }
 {

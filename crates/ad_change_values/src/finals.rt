@@ -16,7 +16,7 @@ ghost use Rattle.ad_change_values.specs.Judging.{Judges, AreNamed};
 use crate::counts::{Counts, count_of, counts_of};
 use crate::stop::Stop;
 use crate::values::is_lacking;
-use ad_bytes::Few;
+use ad_bytes::OneOrMany;
 use ad_dir::{ActItem, Stored, is_single};
 use ad_ldap::result_code;
 use ad_schema::{AttrId, ClassId, Schema, attr_count};
@@ -86,7 +86,7 @@ pub fn judge_attrs(
     alloc: Global,
     schema: &Schema,
     class: ClassId,
-    held: &[(AttrId, Few<Stored>)],
+    held: &[(AttrId, OneOrMany<Stored>)],
     items: &[ActItem],
 ) -> Result<(), Stop>
     requires class { class.0 < length (classes_of schema.now) }

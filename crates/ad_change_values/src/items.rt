@@ -19,7 +19,7 @@ use crate::repeated::one_is_repeated;
 use crate::rows::{Rows, held_of, put_pile, rows_of, take_pile};
 use crate::stop::Stop;
 use crate::values::{has_no_empty_password, read_values, stored_values};
-use ad_bytes::Few;
+use ad_bytes::OneOrMany;
 use ad_dir::{ActItem, Dir, Stored, is_password};
 use ad_ldap::{ADD_VALUES, DELETE_VALUES, result_code};
 use ad_schema::Schema;
@@ -171,7 +171,7 @@ fn judge_kept(
 }
 
 // All checks of an item on the values of its attribute, and its values as they are stored.
-fn judge_item(alloc: Global, dir: &Dir, stored: &Pile, item: &ActItem) -> Result<Few<Stored>, Stop>
+fn judge_item(alloc: Global, dir: &Dir, stored: &Pile, item: &ActItem) -> Result<OneOrMany<Stored>, Stop>
     requires { item.now.attr.0 < length (attrs_of dir.now.schema) }
     ensures { Judges (checks_on dir.now (map stored_seen stored.now) item.now)
         (λ new. map stored_seen new ≡ all_stored dir.now item.now.attr.0 item.now.values) result }
@@ -199,14 +199,14 @@ fn taken_from(alloc: Global, stored: Pile, gone: &[Stored]) -> Result<Pile, Allo
         (map stored_seen gone.now)) }
 {
     if is_none(gone) {
-        return Ok(Pile::of(Few::new(alloc)));
+        return Ok(Pile::of(OneOrMany::new(alloc)));
     }
     let left = stored.without(alloc, gone)?;
     Ok(left)
 }
 
 #[tactic(auto, unfolding(crate::specs::Items::values_after))]
-fn values_after(alloc: Global, op: u8, new: Few<Stored>, stored: Pile) -> Result<Pile, AllocError>
+fn values_after(alloc: Global, op: u8, new: OneOrMany<Stored>, stored: Pile) -> Result<Pile, AllocError>
     ensures { IfOk result (λ after. map stored_seen after
         ≡ modify.values_after op (map stored_seen new) (map stored_seen stored)) }
 {

@@ -9,7 +9,7 @@ ghost use Rattle.ad_change_values.specs.Values.{is_among};
 use crate::places::{Places, add_one, alive_of, is_bare, is_there, places_of, take_all};
 use crate::repeated::MANY;
 use crate::values::is_among;
-use ad_bytes::Few;
+use ad_bytes::OneOrMany;
 use ad_dir::Stored;
 use std::alloc::{AllocError, Global};
 use std::marker::Model;
@@ -18,7 +18,7 @@ use std::marker::Model;
 #[derive(Drop)]
 pub(crate) struct Pile {
     // Those that came, in their order. Where there is an index, some may have been taken away since.
-    all: Few<Stored>,
+    all: OneOrMany<Stored>,
     // How many were looked for.
     looks: usize,
     places: Option<Places>,
@@ -44,7 +44,7 @@ fn is_due(looks: usize, count: usize) -> bool {
 fn index_if(
     alloc: Global,
     due: bool,
-    all: &Few<Stored>,
+    all: &OneOrMany<Stored>,
     places: Option<Places>,
 ) -> Result<Option<Places>, AllocError>
     requires { IsPile all.now places }
@@ -58,7 +58,7 @@ fn index_if(
 }
 
 // The index, if it is due.
-fn index_of(alloc: Global, due: bool, all: &Few<Stored>) -> Result<Option<Places>, AllocError>
+fn index_of(alloc: Global, due: bool, all: &OneOrMany<Stored>) -> Result<Option<Places>, AllocError>
     ensures pile { IfOk result (λ places. IsPile all.now places) }
     ensures seen { IfOk result (λ places. pile_in all.now places ≡ all.now) }
 {
@@ -69,7 +69,7 @@ fn index_of(alloc: Global, due: bool, all: &Few<Stored>) -> Result<Option<Places
     Ok(Some(places))
 }
 
-fn is_empty_in(all: &Few<Stored>, places: &Option<Places>) -> bool
+fn is_empty_in(all: &OneOrMany<Stored>, places: &Option<Places>) -> bool
     requires { IsPile all.now places.now }
     ensures { result ≡ (length (pile_in all.now places.now) == 0) }
 {
@@ -81,7 +81,7 @@ fn is_empty_in(all: &Few<Stored>, places: &Option<Places>) -> bool
 
 fn has_in(
     alloc: Global,
-    all: &Few<Stored>,
+    all: &OneOrMany<Stored>,
     places: &Option<Places>,
     one: &Stored,
 ) -> Result<bool, AllocError>
@@ -98,21 +98,21 @@ fn has_in(
     }
 }
 
-fn joined(first: Few<Stored>, second: Few<Stored>) -> Result<Few<Stored>, AllocError>
+fn joined(first: OneOrMany<Stored>, second: OneOrMany<Stored>) -> Result<OneOrMany<Stored>, AllocError>
     ensures { IfOk result (λ all. all ≡ first ++ second) }
 {
     let mut all = first.into_vec()?;
     let mut others = second.into_vec()?;
     all.append(&mut others)?;
-    Ok(Few::from_vec(all))
+    Ok(OneOrMany::from_vec(all))
 }
 
 fn add_all(
     alloc: Global,
-    mut all: Few<Stored>,
+    mut all: OneOrMany<Stored>,
     mut places: Places,
     new: Vec<Stored>,
-) -> Result<(Few<Stored>, Option<Places>), AllocError>
+) -> Result<(OneOrMany<Stored>, Option<Places>), AllocError>
     requires { IsIndex (since_in places) all }
     ensures pile { IfOk result (λ both. IsPile both.0 both.1) }
     ensures seen { IfOk result (λ both. pile_in both.0 both.1 ≡ alive (since_in places) 0 all
@@ -126,10 +126,10 @@ fn add_all(
 
 fn with_in(
     alloc: Global,
-    all: Few<Stored>,
+    all: OneOrMany<Stored>,
     places: Option<Places>,
-    new: Few<Stored>,
-) -> Result<(Few<Stored>, Option<Places>), AllocError>
+    new: OneOrMany<Stored>,
+) -> Result<(OneOrMany<Stored>, Option<Places>), AllocError>
     requires { IsPile all places }
     ensures pile { IfOk result (λ both. IsPile both.0 both.1) }
     ensures seen { IfOk result (λ both. pile_in both.0 both.1 ≡ pile_in all places ++ new) }
@@ -140,20 +140,20 @@ fn with_in(
     }
 }
 
-fn without_these(stored: Few<Stored>, gone: &[Stored]) -> Result<Few<Stored>, AllocError>
+fn without_these(stored: OneOrMany<Stored>, gone: &[Stored]) -> Result<OneOrMany<Stored>, AllocError>
     ensures { IfOk result (λ left. left ≡ filter (not_among gone.now) stored) }
 {
     let mut left = stored.into_vec()?;
     left.retain(|value| !is_among(gone, value));
-    Ok(Few::from_vec(left))
+    Ok(OneOrMany::from_vec(left))
 }
 
 fn without_in(
     alloc: Global,
-    all: Few<Stored>,
+    all: OneOrMany<Stored>,
     places: Option<Places>,
     gone: &[Stored],
-) -> Result<(Few<Stored>, Option<Places>), AllocError>
+) -> Result<(OneOrMany<Stored>, Option<Places>), AllocError>
     requires { IsPile all places }
     ensures pile { IfOk result (λ both. IsPile both.0 both.1) }
     ensures seen { IfOk result (λ both. pile_in both.0 both.1 ≡ filter (not_among gone.now)
@@ -170,9 +170,9 @@ fn without_in(
 
 fn few_in(
     alloc: Global,
-    all: Few<Stored>,
+    all: OneOrMany<Stored>,
     places: Option<Places>,
-) -> Result<Few<Stored>, AllocError>
+) -> Result<OneOrMany<Stored>, AllocError>
     ensures { IfOk result (λ few. few ≡ pile_in all places) }
 {
     match places {
@@ -183,7 +183,7 @@ fn few_in(
 
 impl Pile {
     /// These values. It takes no memory.
-    pub fn of(stored: Few<Stored>) -> Pile
+    pub fn of(stored: OneOrMany<Stored>) -> Pile
         ensures { result ≡ stored }
     {
         Pile {
@@ -231,7 +231,7 @@ impl Pile {
     /// # Errors
     ///
     /// Out of memory.
-    pub fn with(self, alloc: Global, new: Few<Stored>) -> Result<Pile, AllocError>
+    pub fn with(self, alloc: Global, new: OneOrMany<Stored>) -> Result<Pile, AllocError>
         ensures { IfOk result (λ pile. pile ≡ self ++ new) }
     {
         let Pile { all, looks, places } = self;
@@ -257,7 +257,7 @@ impl Pile {
     /// # Errors
     ///
     /// Out of memory.
-    pub fn into_few(self, alloc: Global) -> Result<Few<Stored>, AllocError>
+    pub fn into_few(self, alloc: Global) -> Result<OneOrMany<Stored>, AllocError>
         ensures { IfOk result (λ few. few ≡ self) }
     {
         let Pile {

@@ -7,7 +7,7 @@ ghost use Rattle.ad_change_values.specs.declared.keys.StoredKey.{StoredKey as Ke
 ghost use Rattle.ad_change_values.specs.Piles.{alive, is_since, not_among, since_in, IsIndex};
 
 use crate::keys::{StoredKey, key_of};
-use ad_bytes::Few;
+use ad_bytes::OneOrMany;
 use ad_dir::Stored;
 use std::alloc::{AllocError, Global};
 use std::collections::BTreeMap;
@@ -85,7 +85,7 @@ fn put_new(places: &mut Places, key: StoredKey, place: usize) -> Result<(), Allo
 /// Puts a value after all.
 pub(crate) fn add_one(
     alloc: Global,
-    all: &mut Few<Stored>,
+    all: &mut OneOrMany<Stored>,
     places: &mut Places,
     one: Stored,
 ) -> Result<(), AllocError>
@@ -153,8 +153,8 @@ fn push_if(left: &mut Vec<Stored>, there: bool, one: Stored) -> Result<(), Alloc
 pub(crate) fn alive_of(
     alloc: Global,
     places: &Places,
-    all: Few<Stored>,
-) -> Result<Few<Stored>, AllocError>
+    all: OneOrMany<Stored>,
+) -> Result<OneOrMany<Stored>, AllocError>
     ensures { IfOk result (λ left. left ≡ alive (since_in places.now) 0 all) }
 {
     let mut left = Vec::new(alloc);
@@ -166,5 +166,5 @@ pub(crate) fn alive_of(
         let after = next(place)?;
         place = after;
     }
-    Ok(Few::from_vec(left))
+    Ok(OneOrMany::from_vec(left))
 }

@@ -13,7 +13,7 @@ ghost use Rattle.ad_change_values.specs.ByAttr.{by_attr};
 
 use crate::held::Held;
 use crate::pile::Pile;
-use ad_bytes::Few;
+use ad_bytes::OneOrMany;
 use ad_schema::AttrId;
 use std::alloc::{AllocError, Global};
 use std::collections::BTreeMap;
@@ -76,7 +76,7 @@ pub(crate) fn take_pile(alloc: Global, rows: &mut Rows, attr: AttrId) -> Pile
 {
     match rows.remove(&attr.0) {
         Some(pile) => pile,
-        None => Pile::of(Few::new(alloc)),
+        None => Pile::of(OneOrMany::new(alloc)),
     }
 }
 

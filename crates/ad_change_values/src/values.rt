@@ -18,7 +18,7 @@ ghost use Rattle.ad_change_values.specs.Values as values;
 ghost use Rattle.ad_change_values.specs.Judging.{Judges, values_in, reading_checks};
 
 use crate::stop::Stop;
-use ad_bytes::{Bytes, Few, List};
+use ad_bytes::{Bytes, List, OneOrMany};
 use ad_dir::{Dir, Stored, digest_value, is_password};
 use ad_ldap::result_code;
 use ad_needs_rules::number_of_name;
@@ -142,12 +142,12 @@ pub fn has_no_empty_password(schema: &Schema, attr: AttrId, sent: &[Bytes]) -> b
 // ---- storing
 
 // The links that the values of an attribute of links are: 19 where one names no object.
-fn links_to(alloc: Global, dir: &Dir, attr: AttrId, sent: &[Bytes]) -> Result<Few<Stored>, Stop>
+fn links_to(alloc: Global, dir: &Dir, attr: AttrId, sent: &[Bytes]) -> Result<OneOrMany<Stored>, Stop>
     requires { attr_is_link dir.now.schema attr.0 ≡ true }
     ensures { Judges (or_code (list_all (values.leads dir.now attr.0) sent.now) 19 ∷ [])
         (λ stored. map stored_seen stored ≡ values.all_stored dir.now attr.0 sent.now) result }
 {
-    let mut stored = Few::new(alloc);
+    let mut stored = OneOrMany::new(alloc);
     for text in sent {
         let target = number_of_name(alloc, dir, text.as_slice())?;
         match target {
@@ -158,10 +158,10 @@ fn links_to(alloc: Global, dir: &Dir, attr: AttrId, sent: &[Bytes]) -> Result<Fe
     Ok(stored)
 }
 
-fn all_plain(alloc: Global, read: List<Value>) -> Result<Few<Stored>, AllocError>
+fn all_plain(alloc: Global, read: List<Value>) -> Result<OneOrMany<Stored>, AllocError>
     ensures { IfOk result (λ stored. stored ≡ map (λ value. kept.Plain value) read) }
 {
-    let mut stored = Few::new(alloc);
+    let mut stored = OneOrMany::new(alloc);
     for value in read.into_vec() {
         stored.push(Stored::Plain(value))?;
     }
@@ -175,7 +175,7 @@ pub fn stored_values(
     attr: AttrId,
     sent: &[Bytes],
     read: List<Value>,
-) -> Result<Few<Stored>, Stop>
+) -> Result<OneOrMany<Stored>, Stop>
     requires attr { attr.0 < length (attrs_of dir.now.schema) }
     requires read { read ≡ values_in dir.now.schema attr.0 sent.now }
     ensures { Judges (or_code (list_all (values.leads dir.now attr.0) sent.now) 19 ∷ [])

@@ -7,7 +7,7 @@ ghost use Rattle.ad_dir_objects.specs.Seen.{stored_seen, held_seen};
 ghost use Rattle.ad_dir.specs.Holders.{holders, is_holder};
 
 use crate::dir::Dir;
-use ad_bytes::Few;
+use ad_bytes::OneOrMany;
 use ad_dir_objects::Stored;
 use ad_schema::AttrId;
 use std::alloc::{AllocError, Global};
@@ -35,7 +35,7 @@ fn some_link_to(stored: &[Stored], target: u32) -> bool
 }
 
 // Whether one of the values of attributes is.
-fn any_link_to(values: &[(AttrId, Few<Stored>)], target: u32) -> bool
+fn any_link_to(values: &[(AttrId, OneOrMany<Stored>)], target: u32) -> bool
     ensures { result ≡ list_any (λ held. names target held.values) (map held_seen values.now) }
 {
     'each: for held in values {

@@ -6,7 +6,7 @@ ghost use Rattle.ad_dir_objects.specs.Seen.{stored_seen, held_seen};
 ghost use Rattle.ad_dir_links.specs.Marks.{mark, tie, is_indexed, ties_in, all_ties};
 
 use crate::marks::{mark, name_mark};
-use ad_bytes::Few;
+use ad_bytes::OneOrMany;
 use ad_dir_objects::{Object, Stored};
 use ad_schema::AttrId;
 use ad_value::Value;
@@ -94,7 +94,7 @@ fn push_ties(
 fn push_all(
     alloc: Global,
     indexed: &[bool],
-    values: &[(AttrId, Few<Stored>)],
+    values: &[(AttrId, OneOrMany<Stored>)],
     all: &mut Vec<u32>,
 ) -> Result<(), AllocError>
     ensures { OnOk result (all.new.items ≡ all.old.items

@@ -8,7 +8,7 @@ ghost use Rattle.ad_dir_links.specs.Changing.{object_ties};
 use crate::counts::{Links, add_links, drop_one};
 use crate::gather::{is_indexed, tie_of, ties_of};
 use crate::marks::name_mark;
-use ad_bytes::Few;
+use ad_bytes::OneOrMany;
 use ad_dir_objects::{Object, Stored};
 use ad_schema::AttrId;
 use ad_sd::NormalSd;
@@ -53,7 +53,7 @@ fn forget_all(
     links: &mut Links,
     holder: u32,
     indexed: &[bool],
-    values: &[(AttrId, Few<Stored>)],
+    values: &[(AttrId, OneOrMany<Stored>)],
 )
     ensures { Forgets holder links.old.entries links.new.entries }
 {

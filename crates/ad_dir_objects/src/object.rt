@@ -1,6 +1,6 @@
 //! Objects and their stored values.
 
-use ad_bytes::{Bytes, Few, List};
+use ad_bytes::{Bytes, List, OneOrMany};
 use ad_schema::{AttrId, ClassId};
 use ad_value::Value;
 
@@ -25,5 +25,5 @@ pub struct Object {
     /// Its naming value, in UTF-8.
     pub name: Bytes,
     /// The attributes that it has, by rising place in the schema, each with its stored values in their order.
-    pub values: List<(AttrId, Few<Stored>)>,
+    pub values: List<(AttrId, OneOrMany<Stored>)>,
 }

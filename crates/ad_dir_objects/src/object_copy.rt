@@ -3,7 +3,7 @@
 ghost use Rattle.std.specs.Prelude.{◌≡◌, IfOk};
 
 use crate::object::{Object, Stored};
-use ad_bytes::{Few, List};
+use ad_bytes::{List, OneOrMany};
 use ad_schema::AttrId;
 use std::alloc::{AllocError, Global};
 
@@ -16,10 +16,10 @@ fn copied(alloc: Global, stored: &Stored) -> Result<Stored, AllocError>
     }
 }
 
-fn all_copied(alloc: Global, stored: &[Stored]) -> Result<Few<Stored>, AllocError>
+fn all_copied(alloc: Global, stored: &[Stored]) -> Result<OneOrMany<Stored>, AllocError>
     ensures { IfOk result (λ copy. copy ≡ stored.now) }
 {
-    let mut all = Few::new(alloc);
+    let mut all = OneOrMany::new(alloc);
     for one in stored {
         all.push(copied(alloc, one)?)?;
     }
@@ -28,8 +28,8 @@ fn all_copied(alloc: Global, stored: &[Stored]) -> Result<Few<Stored>, AllocErro
 
 fn values_copied(
     alloc: Global,
-    values: &[(AttrId, Few<Stored>)],
-) -> Result<List<(AttrId, Few<Stored>)>, AllocError>
+    values: &[(AttrId, OneOrMany<Stored>)],
+) -> Result<List<(AttrId, OneOrMany<Stored>)>, AllocError>
     ensures { IfOk result (λ copy. copy ≡ values.now) }
 {
     let mut all = List::new(alloc);

@@ -11,7 +11,7 @@ ghost use Rattle.ad_sd.specs.declared.parts.Sd.{Sd as SdValue};
 ghost use Rattle.ad_dir_objects.specs.Seen.{stored_seen, held_seen, object_seen};
 
 use crate::object::{Object, Stored};
-use ad_bytes::{Few, Input};
+use ad_bytes::{Input, OneOrMany};
 use ad_ids::{Sid, what_a_sid_s_text_spells};
 use ad_schema::{AttrId, RuleAttr, Schema};
 use ad_value::Value;
@@ -61,7 +61,7 @@ fn first_plain(stored: &[Stored]) -> Option<&Value>
 }
 
 /// The stored values of an attribute.
-pub fn stored_of(values: &[(AttrId, Few<Stored>)], attr: AttrId) -> &[Stored]
+pub fn stored_of(values: &[(AttrId, OneOrMany<Stored>)], attr: AttrId) -> &[Stored]
     ensures { map stored_seen result.now ≡ stored_in (map held_seen values.entry.now) attr.0 }
 {
     for held in values {
@@ -73,7 +73,7 @@ pub fn stored_of(values: &[(AttrId, Few<Stored>)], attr: AttrId) -> &[Stored]
 }
 
 /// The first stored value of an attribute, where it is no link.
-pub fn first_of(values: &[(AttrId, Few<Stored>)], attr: AttrId) -> Option<&Value>
+pub fn first_of(values: &[(AttrId, OneOrMany<Stored>)], attr: AttrId) -> Option<&Value>
     ensures { option_copied result ≡ first_plain
         (stored_in (map held_seen values.entry.now) attr.0) }
 {

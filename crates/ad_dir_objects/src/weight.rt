@@ -11,7 +11,7 @@ ghost use Rattle.ad_sd.specs.declared.parts.Sd.{Sd as SdValue};
 
 use crate::attributes::is_named;
 use crate::{Object, Stored};
-use ad_bytes::Few;
+use ad_bytes::OneOrMany;
 use ad_schema::{AttrId, Schema};
 use ad_sd::NormalSd;
 
@@ -74,7 +74,7 @@ fn counts_nothing(schema: &Schema, attr: AttrId, values: &[Stored]) -> bool
     is_named(schema, b"adminCount", attr)
 }
 
-fn after_held(schema: &Schema, left: usize, held: &(AttrId, Few<Stored>)) -> Option<usize>
+fn after_held(schema: &Schema, left: usize, held: &(AttrId, OneOrMany<Stored>)) -> Option<usize>
     ensures { result ≡ left_of left (held_weight schema.now (held_seen held.now)) }
 {
     if counts_nothing(schema, held.0, held.1.as_slice()) {
@@ -86,7 +86,7 @@ fn after_held(schema: &Schema, left: usize, held: &(AttrId, Few<Stored>)) -> Opt
     }
 }
 
-fn after_all_held(schema: &Schema, left: usize, values: &[(AttrId, Few<Stored>)]) -> Option<usize>
+fn after_all_held(schema: &Schema, left: usize, values: &[(AttrId, OneOrMany<Stored>)]) -> Option<usize>
     ensures { result ≡ left_of left (all_held_weight schema.now (map held_seen values.now)) }
 {
     let mut left = left;

@@ -13,7 +13,7 @@ use crate::asking::{Asked, Asking};
 use crate::judged::Judged;
 use crate::rising::rise;
 use crate::verdicts::is_given;
-use ad_bytes::Few;
+use ad_bytes::OneOrMany;
 use ad_dir::{Dir, Stored, live_object};
 use ad_schema::AttrId;
 use std::alloc::{AllocError, Global};
@@ -82,7 +82,7 @@ fn push_held(
     asking: &Asking<'_>,
     number: u32,
     asked: &Asked,
-    values: &[(AttrId, Few<Stored>)],
+    values: &[(AttrId, OneOrMany<Stored>)],
     one: &mut Judged,
     places: &mut Vec<u32>,
 ) -> Result<(), AllocError>

@@ -14,7 +14,7 @@ ghost use Rattle.ad_load_objects.specs.Seen.{given_seen};
 ghost use Rattle.ad_load_records.specs.Records.{most_lines};
 
 use crate::links::stored_of;
-use ad_bytes::Few;
+use ad_bytes::OneOrMany;
 use ad_dir::Stored;
 use ad_load_objects::Given;
 use ad_load_records::LoadFault;
@@ -24,26 +24,26 @@ use std::alloc::{AllocError, Global};
 use std::collections::BTreeMap;
 
 // The values that there are.
-fn or_none(alloc: Global, held: Option<Few<Stored>>) -> Few<Stored>
+fn or_none(alloc: Global, held: Option<OneOrMany<Stored>>) -> OneOrMany<Stored>
     ensures { result ≡ unwrap_or held [] }
 {
     match held {
         Some(held) => held,
-        None => Few::new(alloc),
+        None => OneOrMany::new(alloc),
     }
 }
 
 // Puts a value after the others of its attribute.
 fn put_stored(
     alloc: Global,
-    values: &mut BTreeMap<u32, Few<Stored>>,
+    values: &mut BTreeMap<u32, OneOrMany<Stored>>,
     attr: AttrId,
     value: Stored,
 ) -> Result<(), AllocError>
     ensures { OnOk result (by_attr values.new.entries ≡ with_stored attr.0 (stored_seen value)
         (by_attr values.old.entries)) }
 {
-    let held = values.insert(attr.0, Few::new(alloc))?;
+    let held = values.insert(attr.0, OneOrMany::new(alloc))?;
     let mut all = or_none(alloc, held);
     all.push(value)?;
     values.insert(attr.0, all)?;
@@ -55,7 +55,7 @@ fn add_given(
     alloc: Global,
     schema: &Schema,
     names: &Names,
-    values: &mut BTreeMap<u32, Few<Stored>>,
+    values: &mut BTreeMap<u32, OneOrMany<Stored>>,
     one: Given,
 ) -> Result<(), LoadFault>
     ghost all: { List DraftValue }
@@ -77,7 +77,7 @@ fn all_by_attr(
     schema: &Schema,
     names: &Names,
     given: Vec<Given>,
-) -> Result<BTreeMap<u32, Few<Stored>>, LoadFault>
+) -> Result<BTreeMap<u32, OneOrMany<Stored>>, LoadFault>
     ghost all: { List DraftValue }
     requires few { length all ≤ most_lines }
     requires names { AreNames all names.now }
@@ -93,8 +93,8 @@ fn all_by_attr(
 
 // Moves the values of the first attribute after those of all before it.
 fn move_first(
-    values: &mut BTreeMap<u32, Few<Stored>>,
-    all: &mut Vec<(AttrId, Few<Stored>)>,
+    values: &mut BTreeMap<u32, OneOrMany<Stored>>,
+    all: &mut Vec<(AttrId, OneOrMany<Stored>)>,
 ) -> Result<(), AllocError>
     ensures moved { OnOk result (map held_seen all.new.items ++ by_attr values.new.entries
         ≡ map held_seen all.old.items ++ by_attr values.old.entries) }
@@ -109,8 +109,8 @@ fn move_first(
 // The attributes with their values, in order.
 fn in_order(
     alloc: Global,
-    values: BTreeMap<u32, Few<Stored>>,
-) -> Result<Vec<(AttrId, Few<Stored>)>, AllocError>
+    values: BTreeMap<u32, OneOrMany<Stored>>,
+) -> Result<Vec<(AttrId, OneOrMany<Stored>)>, AllocError>
     ensures { IfOk result (λ all. map held_seen all.items ≡ by_attr values.entries) }
 {
     let mut values = values;
@@ -128,7 +128,7 @@ pub(crate) fn many_stored(
     schema: &Schema,
     names: &Names,
     given: Vec<Given>,
-) -> Result<Vec<(AttrId, Few<Stored>)>, LoadFault>
+) -> Result<Vec<(AttrId, OneOrMany<Stored>)>, LoadFault>
     ghost all: { List DraftValue }
     requires few { length all ≤ most_lines }
     requires names { AreNames all names.now }

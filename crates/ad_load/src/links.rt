@@ -18,7 +18,7 @@ ghost use Rattle.ad_load_records.specs.Records.{most_lines};
 
 use crate::by_attr::many_stored;
 use crate::descriptors::own_sd;
-use ad_bytes::{Bytes, Few, List};
+use ad_bytes::{Bytes, List, OneOrMany};
 use ad_dir::{Object, Stored};
 use ad_dn::DnFault;
 use ad_ids::Sid;
@@ -89,23 +89,23 @@ pub(crate) fn stored_of(
 }
 
 // The place of the first attribute that isn't below this one.
-fn place_of(values: &[(AttrId, Few<Stored>)], attr: AttrId) -> Option<usize>
+fn place_of(values: &[(AttrId, OneOrMany<Stored>)], attr: AttrId) -> Option<usize>
     ensures place { result ≡ position (λ held. nat_le attr.0 held.0.0) values.now }
     ensures within { IfSome result (λ place. place < length values.now) }
 {
     values.iter().position(|held| attr.0 <= held.0.0)
 }
 
-fn alone(alloc: Global, attr: AttrId, value: Stored) -> (AttrId, Few<Stored>)
+fn alone(alloc: Global, attr: AttrId, value: Stored) -> (AttrId, OneOrMany<Stored>)
     ensures { held_seen result ≡ record { attr = attr.0; values = stored_seen value ∷ [] } }
 {
-    (attr, Few::one(alloc, value))
+    (attr, OneOrMany::one(alloc, value))
 }
 
 // Puts a value at a place, after the others of its attribute if that stands there, or else before what stands there.
 fn put_at(
     alloc: Global,
-    values: &mut Vec<(AttrId, Few<Stored>)>,
+    values: &mut Vec<(AttrId, OneOrMany<Stored>)>,
     place: usize,
     attr: AttrId,
     value: Stored,
@@ -125,7 +125,7 @@ fn put_at(
 // Puts a value after the others of its attribute.
 fn put_stored(
     alloc: Global,
-    values: &mut Vec<(AttrId, Few<Stored>)>,
+    values: &mut Vec<(AttrId, OneOrMany<Stored>)>,
     attr: AttrId,
     value: Stored,
 ) -> Result<(), AllocError>
@@ -147,7 +147,7 @@ fn add_given(
     alloc: Global,
     schema: &Schema,
     names: &Names,
-    values: &mut Vec<(AttrId, Few<Stored>)>,
+    values: &mut Vec<(AttrId, OneOrMany<Stored>)>,
     one: Given,
 ) -> Result<(), LoadFault>
     ghost all: { List DraftValue }
@@ -168,7 +168,7 @@ fn few_stored(
     schema: &Schema,
     names: &Names,
     given: Vec<Given>,
-) -> Result<Vec<(AttrId, Few<Stored>)>, LoadFault>
+) -> Result<Vec<(AttrId, OneOrMany<Stored>)>, LoadFault>
     ghost all: { List DraftValue }
     requires few { length all ≤ most_lines }
     requires names { AreNames all names.now }
@@ -191,7 +191,7 @@ fn all_stored(
     schema: &Schema,
     names: &Names,
     given: Vec<Given>,
-) -> Result<Vec<(AttrId, Few<Stored>)>, LoadFault>
+) -> Result<Vec<(AttrId, OneOrMany<Stored>)>, LoadFault>
     ghost all: { List DraftValue }
     requires few { length all ≤ most_lines }
     requires names { AreNames all names.now }

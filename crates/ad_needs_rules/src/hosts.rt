@@ -15,7 +15,7 @@ ghost use Rattle.ad_needs_rules.specs.Validated.{domain_name};
 ghost use Rattle.ad_needs_rules.specs.OwnWrites.{shown_in, dotted_part, dotted};
 ghost use Rattle.ad_needs_rules.specs.Validated.{slash, dot};
 
-use ad_bytes::{Bytes, Few};
+use ad_bytes::{Bytes, OneOrMany};
 use ad_dir::{Dir, ROOT, Stored, live_object, stored_of};
 use ad_dn::{Rdn, same_value};
 use ad_schema::{AttrId, Schema};
@@ -123,7 +123,7 @@ fn is_shown(stored: &[Stored], host: &[u8]) -> bool
 }
 
 // Whether the host is one of the stored dNSHostName.
-fn is_stored(schema: &Schema, values: &[(AttrId, Few<Stored>)], host: &[u8]) -> bool
+fn is_stored(schema: &Schema, values: &[(AttrId, OneOrMany<Stored>)], host: &[u8]) -> bool
     ensures { result ≡ list_any (equals_folded host.now)
         (option_map_or (λ attr. shown_in (stored_in (map held_seen values.now) attr))
         (attr_place schema.now (codes "dNSHostName")) []) }

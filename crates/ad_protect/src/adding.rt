@@ -12,18 +12,18 @@ ghost use Rattle.ad_dir_model.specs.Protection.{with_mark};
 ghost use Rattle.ad_protect.specs.Putting.{mark_seen};
 
 use crate::mark::Mark;
-use ad_bytes::{Few, List};
+use ad_bytes::{List, OneOrMany};
 use ad_dir::{Object, Stored};
 use ad_schema::AttrId;
 use std::alloc::{AllocError, Global};
 
-type Held = (AttrId, Few<Stored>);
+type Held = (AttrId, OneOrMany<Stored>);
 
 // The value of a mark alone.
-fn one_value(alloc: Global, mark: &Mark) -> Result<Few<Stored>, AllocError>
+fn one_value(alloc: Global, mark: &Mark) -> Result<OneOrMany<Stored>, AllocError>
     ensures { IfOk result (λ values. map stored_seen values ≡ plain mark.now.value ∷ []) }
 {
-    let mut values = Few::new(alloc);
+    let mut values = OneOrMany::new(alloc);
     values.push(Stored::Plain(mark.value.copy(alloc)?))?;
     Ok(values)
 }
@@ -66,7 +66,7 @@ fn remove_if(gone: bool, values: &mut Vec<Held>, place: usize)
 fn with_values(
     mut values: Vec<Held>,
     attr: AttrId,
-    of_attr: Few<Stored>,
+    of_attr: OneOrMany<Stored>,
 ) -> Result<Vec<Held>, AllocError>
     ensures { IfOk result (λ all. map held_seen all.items
         ≡ with_values attr.0 (map stored_seen of_attr) (map held_seen values.items)) }

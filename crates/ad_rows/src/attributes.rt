@@ -16,7 +16,7 @@ ghost use Rattle.ad_rows.specs.Parsing.{any_stored_of, attributes_at, attrs_rise
 ghost use Rattle.ad_rows.specs.Parsing.{link_of, stored_at, stored_of, values_at};
 
 use crate::parsing::{BodyFault, both, text};
-use ad_bytes::{Few, Input, List};
+use ad_bytes::{Input, List, OneOrMany};
 use ad_dir::{Stored, is_password};
 use ad_schema::{AttrId, Schema};
 use ad_value::{Syntax, Value, ValueFault, normal};
@@ -175,7 +175,7 @@ fn each_value(
     attr: AttrId,
     input: &mut Input<'_>,
     count: u64,
-) -> Result<(Few<Stored>, bool), BodyFault>
+) -> Result<(OneOrMany<Stored>, bool), BodyFault>
     ensures count { IfOk result (λ read. length read.0 ≡ count) }
     ensures each { IfOk result (λ read. IfSome (option_copied schema.entry)
         (λ s. attr.0 < length (attrs_of s)
@@ -183,7 +183,7 @@ fn each_value(
     ensures read { ReadsUnless is_memory (λ read. map stored_seen read.0) result input.new
         (many_at (stored_at (option_copied schema.entry) attr.0) count input.old) }
 {
-    let mut values = Few::new(alloc);
+    let mut values = OneOrMany::new(alloc);
     let mut good = true;
     for _ in 0..count {
         let (value, fits) = next_value(alloc, schema, attr, input)?;
@@ -200,7 +200,7 @@ fn values(
     schema: Option<&Schema>,
     attr: AttrId,
     input: &mut Input<'_>,
-) -> Result<(Few<Stored>, bool), BodyFault>
+) -> Result<(OneOrMany<Stored>, bool), BodyFault>
     ensures good { IfOk result (λ read. IfSome (option_copied schema.entry) (λ s. IsTrue read.1
         ↔ IsHeld s (record { attr = attr.0; values = map stored_seen read.0 }))) }
     ensures read { ReadsUnless is_memory (λ read. map stored_seen read.0) result input.new
@@ -224,10 +224,10 @@ fn next_of(attr: u32) -> u64
 }
 
 /// The attributes of an object and their values.
-pub(crate) type Attributes = List<(AttrId, Few<Stored>)>;
+pub(crate) type Attributes = List<(AttrId, OneOrMany<Stored>)>;
 
 /// An attribute with its values.
-type Attribute = (AttrId, Few<Stored>);
+type Attribute = (AttrId, OneOrMany<Stored>);
 
 // The next attribute, and whether it and its values are of the schema.
 #[tactic(auto, unfolding(crate::specs::Parsing::held_at))]

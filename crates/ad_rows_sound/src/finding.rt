@@ -16,7 +16,7 @@ ghost use Rattle.ad_rows_sound.specs.Parts.{AreLiveLinks, HasSid, HasSmallParent
 ghost use Rattle.ad_rows_sound.specs.Parts.{sid_key};
 ghost use Rattle.ad_rows_sound.specs.Told.{as_folded};
 
-use ad_bytes::{Bytes, Few};
+use ad_bytes::{Bytes, OneOrMany};
 use ad_dir::{Object, Stored, object_sid};
 use ad_dn::fold;
 use ad_ids::{MAX_SID_BYTES, Sid};
@@ -114,7 +114,7 @@ fn are_live_links(objects: &[Entry], values: &[Stored]) -> bool
 }
 
 /// Whether each link of an object names an object that is there.
-pub(crate) fn has_live_links(objects: &[Entry], values: &[(AttrId, Few<Stored>)]) -> bool
+pub(crate) fn has_live_links(objects: &[Entry], values: &[(AttrId, OneOrMany<Stored>)]) -> bool
     requires { Rise (objects_of objects.now) }
     ensures { IsTrue result ↔ AllByRecursion (AreLiveLinks (objects_of objects.now))
         (map held_seen values.now) }

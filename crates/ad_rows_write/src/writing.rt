@@ -9,7 +9,7 @@ ghost use Rattle.ad_rows_write.specs.Body.{SpellsText, SpellsList, SpellsStored,
 ghost use Rattle.ad_rows_write.specs.Body.{SpellsLine, SpellsRecord, kind_byte};
 ghost use Rattle.ad_rows_write.specs.Appends.{Appends};
 
-use ad_bytes::Few;
+use ad_bytes::OneOrMany;
 use ad_dir::Stored;
 use ad_schema::{AttrId, Line, SchemaKind, SchemaRecord};
 use prop_queue::Pending;
@@ -93,7 +93,7 @@ impl Part for Stored {
     }
 }
 
-impl Part for (AttrId, Few<Stored>) {
+impl Part for (AttrId, OneOrMany<Stored>) {
     ghost Spells = { λ held. SpellsHeld (held_seen held) };
 
     fn put(&self, into: &mut Vec<u8>) -> Result<(), AllocError> {

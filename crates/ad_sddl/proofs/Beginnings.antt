@@ -5,7 +5,7 @@ use Rattle.std.proofs.lemmas.Bool.{eqb-true}
 use Rattle.ad_bytes.specs.Numbers.{byte_at}
 use Rattle.ad_bytes.proofs.Steps.{from_need, from_ok, both_true}
 use Rattle.ad_sddl.specs.declared.fault.SddlKind.TheVariants as kind
-use Rattle.ad_sddl.specs.declared.fault.Stop.{Stop}
+use Rattle.ad_sddl.specs.declared.fault.ParseError.{ParseError}
 use Rattle.ad_sddl.specs.Words.{begins}
 use Rattle.ad_sddl.specs.Reading.{stop, end_at}
 
@@ -52,7 +52,7 @@ end_takes end [] u rest e = absurd cc
 end_takes end (b ∷ bytes) u rest e =
     from_need (eqb b end) (stop kind.Shape (b ∷ bytes)) _ (u, rest) e
     (λ (is : eqb b end ≡ true) (e2 : Ok (tt, bytes) ≡ Ok (u, rest)).
-    let same : (tt, bytes) ≡ (u, rest) = from_ok {E = Stop} (tt, bytes) (u, rest) e2 in
+    let same : (tt, bytes) ≡ (u, rest) = from_ok {E = ParseError} (tt, bytes) (u, rest) e2 in
     ap (λ (x : ℕ). x ∷ bytes) (eqb-true b end is) ∙ ap (λ (p : Unit {0} × List ℕ). end ∷ p.1) same)
 
 eqb-refl : (n : ℕ) → eqb n n ≡ true

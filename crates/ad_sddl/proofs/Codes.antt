@@ -11,7 +11,7 @@ use Rattle.ad_bytes.specs.Reading.{Reading, ◌>>=◌}
 use Rattle.ad_bytes.specs.Numbers.{byte_at}
 use Rattle.ad_bytes.proofs.Steps.{from_bind, from_ok}
 use Rattle.ad_sddl.specs.declared.fault.SddlKind.{SddlKind}
-use Rattle.ad_sddl.specs.declared.fault.Stop.{Stop}
+use Rattle.ad_sddl.specs.declared.fault.ParseError.{ParseError}
 use Rattle.ad_acl.specs.declared.codes.Code.{Code}
 use Rattle.ad_sddl.specs.Words.{begins, find, are_letters}
 use Rattle.ad_acl.specs.Codes.{flag_codes}
@@ -26,7 +26,7 @@ codes_done table kind zero mask bytes lt e = absurd (omega (arith, lt))
 codes_done table kind (suc n) mask bytes lt e = rw e refl
 
 pub codes_more : (table : List Code) (kind : SddlKind) (n mask : ℕ) (bytes : List ℕ) (bits : ℕ) (after : List ℕ)
-    (total : Reading ℕ Stop) → length bytes < n → begins (codes ";") bytes ≡ false
+    (total : Reading ℕ ParseError) → length bytes < n → begins (codes ";") bytes ≡ false
     → code_at table kind bytes ≡ Ok (bits, after) → length after < length bytes → codes_at table kind n mask bytes
     ≡ total
     → (m : ℕ) × ((length after < m) × (codes_at table kind m (bit_or mask bits) after ≡ total))
@@ -37,8 +37,8 @@ codes_more table kind (suc n) mask bytes bits after total lt e read shorter so_f
     = rw (e, read) refl in
     (n, (omega (arith, lt, shorter), sym one ∙ so_far))
 
-pub codes_stop : (table : List Code) (kind : SddlKind) (n mask : ℕ) (bytes : List ℕ) (fault : Stop)
-    (total : Reading ℕ Stop) → length bytes < n → begins (codes ";") bytes ≡ false
+pub codes_stop : (table : List Code) (kind : SddlKind) (n mask : ℕ) (bytes : List ℕ) (fault : ParseError)
+    (total : Reading ℕ ParseError) → length bytes < n → begins (codes ";") bytes ≡ false
     → code_at table kind bytes ≡ Err fault → codes_at table kind n mask bytes ≡ total → total ≡ Err fault
 unfolding codes_at
 codes_stop table kind zero mask bytes fault total lt e read so_far = absurd (omega (arith, lt))
@@ -64,7 +64,7 @@ within_or : (all a b : ℕ) → Within all a → Within all b → Within all (bi
 within_or all a b p q = or_assoc a b all ∙ ap (λ (x : ℕ). bit_or a x) q ∙ p
 
 -- what has to be there, under a fault
-abbrev pub or_else_stop : {A : Type 0} → Stop → Option A → Result A Stop
+abbrev pub or_else_stop : {A : Type 0} → ParseError → Option A → Result A ParseError
 or_else_stop fault None = Err fault
 or_else_stop fault (Some x) = Ok x
 
@@ -95,13 +95,13 @@ pub record CodeIs (table : List Code) (bytes : List ℕ) (bits : ℕ) (after : L
   pub found : find table first second ≡ Some code
   pub bits_are : code.bits ≡ bits
 
-code_chosen : (table : List Code) (a b : ℕ) (rest : List ℕ) (bits : ℕ) (after : List ℕ) (fault : Stop)
+code_chosen : (table : List Code) (a b : ℕ) (rest : List ℕ) (bits : ℕ) (after : List ℕ) (fault : ParseError)
     (o : Option Code) → find table a b ≡ o
     → ◌>>=◌ {B = ℕ × List ℕ} (or_else_stop fault o) (λ code. Ok (code.bits, rest)) ≡ Ok (bits, after)
     → CodeIs table (a ∷ b ∷ rest) bits after
 code_chosen table a b rest bits after fault None found e = absurd cc
 code_chosen table a b rest bits after fault (Some code) found e =
-    let same : (code.bits, rest) ≡ (bits, after) = from_ok {E = Stop} (code.bits, rest) (bits, after) e in
+    let same : (code.bits, rest) ≡ (bits, after) = from_ok {E = ParseError} (code.bits, rest) (bits, after) e in
     record {
       first = a;
       second = b;
@@ -134,7 +134,7 @@ pub codes_if : (end : Bool) (table : List Code) (kind : SddlKind) (n mask : ℕ)
     ≡ Ok (read, rest)
     → (end ≡ true → mask ≡ read → drop 1 bytes ≡ rest → P) → (CodeThen table kind n mask bytes read rest → P) → P
 codes_if true table kind n mask bytes read rest P e at_end behind =
-    let same : (mask, drop 1 bytes) ≡ (read, rest) = from_ok {E = Stop} (mask, drop 1 bytes) (read, rest) e in
+    let same : (mask, drop 1 bytes) ≡ (read, rest) = from_ok {E = ParseError} (mask, drop 1 bytes) (read, rest) e in
     at_end refl (ap (λ (p : ℕ × List ℕ). p.0) same) (ap (λ (p : ℕ × List ℕ). p.1) same)
 codes_if false table kind n mask bytes read rest P e at_end behind =
     from_bind (code_at table kind bytes) _ (read, rest) e

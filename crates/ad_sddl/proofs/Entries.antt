@@ -13,7 +13,7 @@ use Rattle.ad_acl.specs.declared.kind.AceKind.{AceKind}
 use Rattle.ad_acl.specs.declared.kind.AceKind.TheVariants.{Allow, Deny, Audit}
 use Rattle.ad_acl.specs.Entry.{Entry}
 use Rattle.ad_sddl.specs.declared.fault.SddlKind.TheVariants as kind
-use Rattle.ad_sddl.specs.declared.fault.Stop.{Stop}
+use Rattle.ad_sddl.specs.declared.fault.ParseError.{ParseError}
 use Rattle.ad_sddl.specs.declared.entry.Shape.{Shape}
 use Rattle.ad_sddl.specs.Words.{begins}
 use Rattle.ad_acl.specs.Codes.{flag_codes}
@@ -26,9 +26,9 @@ use Rattle.ad_sddl.proofs.Sids.{sid_takes, sid_before}
 
 -- ---- types
 
-chosen : {A : Type 0} (is : Bool) (x y : A) (others : Result A Stop) (P : Type 0) → (is ≡ true → x ≡ y → P)
+chosen : {A : Type 0} (is : Bool) (x y : A) (others : Result A ParseError) (P : Type 0) → (is ≡ true → x ≡ y → P)
     → (others ≡ Ok y → P) → (if is then Ok x else others) ≡ Ok y → P
-chosen true x y others P here there e = here refl (from_ok {E = Stop} x y e)
+chosen true x y others P here there e = here refl (from_ok {E = ParseError} x y e)
 chosen false x y others P here there e = there e
 
 abbrev word : Shape → List ℕ
@@ -55,7 +55,7 @@ type_takes bytes v rest e =
     (bytes ≡ word v ++ rest) (λ is same. typed bytes (shape Deny false) (drop 1 bytes) v rest
     (begins_one 100 bytes is) same) (λ e6. absurd (no_type bytes v rest e6)) e5) e4) e3) e2) e1) e
   where
-    no_type : (bytes : List ℕ) (v : Shape) (rest : List ℕ) → ◌≡◌ {A = Reading Shape Stop}
+    no_type : (bytes : List ℕ) (v : Shape) (rest : List ℕ) → ◌≡◌ {A = Reading Shape ParseError}
         (Err (stop kind.AceKind bytes)) (Ok (v, rest)) → ⊥
     no_type bytes v rest e = absurd cc
 
@@ -110,7 +110,7 @@ entry_takes domain bytes v rest e =
           = inherited.0;
       sid = sid.0;
     } in
-    let same : (entry, close.1) ≡ (v, rest) = from_ok {E = Stop} (entry, close.1) (v, rest) f8 in
+    let same : (entry, close.1) ≡ (v, rest) = from_ok {E = ParseError} (entry, close.1) (v, rest) f8 in
     subst (λ (p : Entry × List ℕ). TakesFront (SpellsEntry domain) (40 ∷ bytes) p.0 p.1) same
     (record {
       text = entry_of (word t.0) a.text b.text c.text d.text s.text;
@@ -187,7 +187,7 @@ entries_if : (domain : Option SidValue) (is : Bool) (n : ℕ) (bytes : List ℕ)
     → TakesFront (SpellsEach (SpellsEntry domain)) bytes es rest
 entries_if domain false n bytes es rest begun others e =
     subst (λ (p : List Entry × List ℕ). TakesFront (SpellsEach (SpellsEntry domain)) bytes p.0 p.1)
-    (from_ok {E = Stop} ([], bytes) (es, rest) e) (record { text = []; parts = refl; spelled = refl })
+    (from_ok {E = ParseError} ([], bytes) (es, rest) e) (record { text = []; parts = refl; spelled = refl })
 entries_if domain true n bytes es rest begun others e =
     from_bind (entry_at domain (drop 1 bytes)) _ (es, rest) e
     (λ (first : Entry × List ℕ) (e1 : entry_at domain (drop 1 bytes) ≡ Ok first) f1.
@@ -197,7 +197,7 @@ entries_if domain true n bytes es rest begun others e =
     let t = entry_takes domain (drop 1 bytes) first.0 first.1 e1 in
     let u = others more.0 first.1 more.1 e2 in
     subst (λ (p : List Entry × List ℕ). TakesFront (SpellsEach (SpellsEntry domain)) bytes p.0 p.1)
-    (from_ok {E = Stop} (first.0 ∷ more.0, more.1) (es, rest) f2)
+    (from_ok {E = ParseError} (first.0 ∷ more.0, more.1) (es, rest) f2)
     (record {
       text = t.text ++ u.text;
       parts = begins_one 40 bytes begun ∙ t.parts ∙ ap (λ (r : List ℕ). t.text ++ r) u.parts
@@ -210,7 +210,7 @@ pub entries_take : (domain : Option SidValue) (n : ℕ) (es : List Entry) (bytes
 unfolding entries_at
 entries_take domain zero es bytes rest e = subst
     (λ (p : List Entry × List ℕ). TakesFront (SpellsEach (SpellsEntry domain)) bytes p.0 p.1)
-    (from_ok {E = Stop} ([], bytes) (es, rest) e) (record { text = []; parts = refl; spelled = refl })
+    (from_ok {E = ParseError} ([], bytes) (es, rest) e) (record { text = []; parts = refl; spelled = refl })
 entries_take domain (suc n) es bytes rest e = entries_if domain (begins (codes "(") bytes) n bytes es rest refl
     (entries_take domain n) e
 

@@ -13,7 +13,7 @@ use Rattle.ad_ids.specs.declared.guid.Guid.{Guid}
 use Rattle.ad_ids.specs.GuidText.{SpellsGuidText}
 use Rattle.ad_ids.specs.GuidText.{guid_of_text}
 use Rattle.ad_sddl.specs.declared.fault.SddlKind.TheVariants as kind
-use Rattle.ad_sddl.specs.declared.fault.Stop.{Stop}
+use Rattle.ad_sddl.specs.declared.fault.ParseError.{ParseError}
 use Rattle.ad_acl.specs.declared.codes.Code.{Code}
 use Rattle.ad_sddl.specs.Words.{begins, find}
 use Rattle.ad_acl.specs.Codes.{right_codes, flag_codes}
@@ -224,7 +224,7 @@ hex_takes bytes mask rest begun e =
     from_bind (end_at 59 (digits_at 8 0 behind).1) _ (mask, rest) e2
     (λ (end : Unit {0} × List ℕ) (e3 : end_at 59 (digits_at 8 0 behind).1 ≡ Ok end)
     (e4 : Ok ((digits_at 8 0 behind).0, end.1) ≡ Ok (mask, rest)).
-    let same : ((digits_at 8 0 behind).0, end.1) ≡ (mask, rest) = from_ok {E = Stop} ((digits_at 8 0 behind).0, end.1)
+    let same : ((digits_at 8 0 behind).0, end.1) ≡ (mask, rest) = from_ok {E = ParseError} ((digits_at 8 0 behind).0, end.1)
     (mask, rest) e4 in
     let ended : (digits_at 8 0 behind).1 ≡ 59 ∷ rest = end_takes 59 (digits_at 8 0 behind).1 end.0 end.1 e3
     ∙ ap (λ (p : ℕ × List ℕ). 59 ∷ p.1) same in
@@ -244,7 +244,7 @@ hex_takes bytes mask rest begun e =
   where
     some_given : (bytes : List ℕ) (o : Option ℕ) (v : ℕ) → or_stop kind.Rights bytes o ≡ Ok v → o ≡ Some v
     some_given bytes None v e = absurd cc
-    some_given bytes (Some x) v e = ap Some (from_ok {E = Stop} x v e)
+    some_given bytes (Some x) v e = ap Some (from_ok {E = ParseError} x v e)
 
 rights_if : (is : Bool) (bytes : List ℕ) (mask : ℕ) (rest : List ℕ) → begins (codes "0x") bytes ≡ is
     → (if is then hex_at bytes else field_at right_codes kind.Rights bytes) ≡ Ok (mask, rest)
@@ -290,7 +290,7 @@ rights_again mask text rest (inr s) =
 
 guid_given : (bytes : List ℕ) (o : Option Guid) (g : Guid) → or_stop kind.Guid bytes o ≡ Ok g → o ≡ Some g
 guid_given bytes None g e = absurd cc
-guid_given bytes (Some x) g e = ap Some (from_ok {E = Stop} x g e)
+guid_given bytes (Some x) g e = ap Some (from_ok {E = ParseError} x g e)
 
 present_takes : (bytes : List ℕ) (v : Option Guid) (rest : List ℕ) → present_guid_at bytes ≡ Ok (v, rest)
     → TakesField 59 (SpellsGuidIf true) bytes v rest
@@ -301,7 +301,7 @@ present_takes bytes v rest e =
     from_bind (end_at 59 (drop 36 bytes)) _ (v, rest) e2
     (λ (end : Unit {0} × List ℕ)
     (e3 : end_at 59 (drop 36 bytes) ≡ Ok end) (e4 : Ok (Some g, end.1) ≡ Ok (v, rest)).
-    let same : (Some g, end.1) ≡ (v, rest) = from_ok {E = Stop} (Some g, end.1) (v, rest) e4 in
+    let same : (Some g, end.1) ≡ (v, rest) = from_ok {E = ParseError} (Some g, end.1) (v, rest) e4 in
     subst (λ (p : Option Guid × List ℕ). TakesField 59 (SpellsGuidIf true) bytes p.0 p.1) same
     (record {
       text = take 36 bytes;
@@ -321,7 +321,7 @@ guid_if : (end is_object : Bool) (bytes : List ℕ) (v : Option Guid) (rest : Li
     else (if is_object then present_guid_at bytes else Err (stop kind.Guid bytes))) ≡ Ok (v, rest)
     → TakesField 59 (SpellsGuidIf is_object) bytes v rest
 guid_if true is_object bytes v rest begun e =
-    let same : (None, drop 1 bytes) ≡ (v, rest) = from_ok {E = Stop} (None, drop 1 bytes) (v, rest) e in
+    let same : (None, drop 1 bytes) ≡ (v, rest) = from_ok {E = ParseError} (None, drop 1 bytes) (v, rest) e in
     absent_guid is_object bytes rest v begun (ap (λ (p : Option Guid × List ℕ). p.0) same)
     (ap (λ (p : Option Guid × List ℕ). p.1) same)
 guid_if false true bytes v rest begun e = present_takes bytes v rest e

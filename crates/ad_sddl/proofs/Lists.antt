@@ -10,7 +10,7 @@ use Rattle.ad_bytes.proofs.Steps.{from_bind, from_ok}
 use Rattle.ad_ids.specs.SidValue.{SidValue}
 use Rattle.ad_acl.specs.Entry.{Entry}
 use Rattle.ad_sd.specs.declared.parts.AceList.{AceList}
-use Rattle.ad_sddl.specs.declared.fault.Stop.{Stop}
+use Rattle.ad_sddl.specs.declared.fault.ParseError.{ParseError}
 use Rattle.ad_sddl.specs.Words.{begins}
 use Rattle.ad_sddl.specs.Grammar.{IsListFlag, is_p, same, SpellsEntry, SpellsList}
 use Rattle.ad_sddl.specs.Reading.{if_given, list_flag_at, list_flags_at, all_flags, all_entries, list_at}
@@ -138,7 +138,7 @@ list_takes domain bytes v rest e =
     let list : AceList = record { protected = (all_flags bytes).0; entries = entries.0 } in
     let t = entries_take domain (length behind) entries.0 behind entries.1 e1 in
     subst (λ (p : AceList × List ℕ). TakesFront (SpellsList domain) bytes p.0 p.1)
-    (from_ok {E = Stop} (list, entries.1) (v, rest) e2)
+    (from_ok {E = ParseError} (list, entries.1) (v, rest) e2)
     (record {
       text = flat_map same f.given ++ t.text;
       parts = f.parts ∙ ap (λ (r : List ℕ). flat_map same f.given ++ r) t.parts

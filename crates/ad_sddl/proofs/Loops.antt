@@ -8,7 +8,7 @@ use Rattle.ad_bytes.proofs.Many.{with_front}
 use Rattle.ad_ids.specs.SidValue.{SidValue}
 use Rattle.ad_acl.specs.Entry.{Entry}
 use Rattle.ad_sd.specs.declared.parts.SdParts.{SdParts}
-use Rattle.ad_sddl.specs.declared.fault.Stop.{Stop}
+use Rattle.ad_sddl.specs.declared.fault.ParseError.{ParseError}
 use Rattle.ad_sddl.specs.Words.{begins}
 use Rattle.ad_sddl.specs.Reading.{list_flag_at, list_flags_at, entry_at, entries_at, part_at, rest_at}
 
@@ -51,13 +51,13 @@ flags_end (suc n) protected bytes total read so_far =
 
 -- ---- entries
 
-regroup : (front : List Entry) (x : Entry) (read : Reading (List Entry) Stop)
+regroup : (front : List Entry) (x : Entry) (read : Reading (List Entry) ParseError)
     → with_front front (read >>= λ y. Ok (x ∷ y.0, y.1)) ≡ with_front (front ++ x ∷ []) read
 regroup front x (Ok y) = ap (λ (xs : List Entry). Ok (xs, y.1)) (simp append_assoc)
 regroup front x (Err f) = refl
 
 pub entries_more : (domain : Option SidValue) (n : ℕ) (front : List Entry) (bytes behind : List ℕ) (x : Entry)
-    (after : List ℕ) (most : ℕ) (total : Reading (List Entry) Stop) → length bytes ≤ most → length bytes ≤ n
+    (after : List ℕ) (most : ℕ) (total : Reading (List Entry) ParseError) → length bytes ≤ most → length bytes ≤ n
     → length after < length bytes
     → begins (codes "(") bytes ≡ true → behind ≡ drop 1 bytes → entry_at domain behind ≡ Ok (x, after)
     → with_front front (entries_at domain n bytes) ≡ total
@@ -72,8 +72,8 @@ entries_more domain (suc n) front bytes behind x after most total within le shor
     (entries_at domain n after) = rw (begun, there) (regroup front x (entries_at domain n after)) in
     (n, (omega (arith, le, shorter), (omega (arith, within, shorter), sym one ∙ so_far)))
 
-pub entries_stop : (domain : Option SidValue) (n : ℕ) (front : List Entry) (bytes behind : List ℕ) (fault : Stop)
-    (total : Reading (List Entry) Stop) → length bytes ≤ n → 1 ≤ length bytes
+pub entries_stop : (domain : Option SidValue) (n : ℕ) (front : List Entry) (bytes behind : List ℕ) (fault : ParseError)
+    (total : Reading (List Entry) ParseError) → length bytes ≤ n → 1 ≤ length bytes
     → begins (codes "(") bytes ≡ true → behind ≡ drop 1 bytes → entry_at domain behind ≡ Err fault
     → with_front front (entries_at domain n bytes) ≡ total → total ≡ Err fault
 unfolding entries_at
@@ -85,7 +85,7 @@ entries_stop domain (suc n) front bytes behind fault total le some begun rest re
     sym so_far ∙ one
 
 pub entries_end : (domain : Option SidValue) (n : ℕ) (front : List Entry) (bytes : List ℕ)
-    (total : Reading (List Entry) Stop)
+    (total : Reading (List Entry) ParseError)
     → begins (codes "(") bytes ≡ false → with_front front (entries_at domain n bytes) ≡ total → total
     ≡ Ok (front, bytes)
 unfolding entries_at
@@ -99,7 +99,7 @@ entries_end domain (suc n) front bytes total begun so_far =
 -- ---- parts
 
 pub parts_more : (domain : Option SidValue) (n : ℕ) (parts : SdParts) (bytes : List ℕ) (next : SdParts)
-    (after : List ℕ) (total : Result SdParts Stop) → length bytes < n → length after < length bytes
+    (after : List ℕ) (total : Result SdParts ParseError) → length bytes < n → length after < length bytes
     → eqb (length after) 0 ≡ false → part_at domain parts bytes ≡ Ok (next, after) → rest_at domain n parts bytes
     ≡ total → (m : ℕ) × ((length after < m) × (rest_at domain m next after ≡ total))
 unfolding rest_at
@@ -108,8 +108,8 @@ parts_more domain (suc n) parts bytes next after total lt shorter some read so_f
     let one : rest_at domain (suc n) parts bytes ≡ rest_at domain n next after = rw (read, some) refl in
     (n, (omega (arith, lt, shorter), sym one ∙ so_far))
 
-pub parts_stop : (domain : Option SidValue) (n : ℕ) (parts : SdParts) (bytes : List ℕ) (fault : Stop)
-    (total : Result SdParts Stop) → length bytes < n
+pub parts_stop : (domain : Option SidValue) (n : ℕ) (parts : SdParts) (bytes : List ℕ) (fault : ParseError)
+    (total : Result SdParts ParseError) → length bytes < n
     → part_at domain parts bytes ≡ Err fault → rest_at domain n parts bytes ≡ total → total ≡ Err fault
 unfolding rest_at
 parts_stop domain zero parts bytes fault total lt read so_far = absurd (omega (arith, lt))
@@ -118,7 +118,7 @@ parts_stop domain (suc n) parts bytes fault total lt read so_far =
     sym so_far ∙ one
 
 pub parts_end : (domain : Option SidValue) (n : ℕ) (parts : SdParts) (bytes : List ℕ) (next : SdParts)
-    (after : List ℕ) (total : Result SdParts Stop) → length bytes < n
+    (after : List ℕ) (total : Result SdParts ParseError) → length bytes < n
     → eqb (length after) 0 ≡ true → part_at domain parts bytes ≡ Ok (next, after) → rest_at domain n parts bytes
     ≡ total → total ≡ Ok next
 unfolding rest_at

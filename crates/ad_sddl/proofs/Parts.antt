@@ -14,7 +14,7 @@ use Rattle.ad_ids.proofs.SidFront.{Ends}
 use Rattle.ad_sd.specs.declared.parts.AceList.{AceList}
 use Rattle.ad_sd.specs.declared.parts.SdParts.{SdParts}
 use Rattle.ad_sddl.specs.declared.fault.SddlKind.TheVariants as kind
-use Rattle.ad_sddl.specs.declared.fault.Stop.{Stop}
+use Rattle.ad_sddl.specs.declared.fault.ParseError.{ParseError}
 use Rattle.ad_sddl.specs.Words.{begins}
 use Rattle.ad_sddl.specs.Grammar.{Piece, owner, group, dacl, sacl, Headed, SpellsSid, SpellsList, SpellsPiece}
 use Rattle.ad_sddl.specs.Grammar.{with_piece, with_pieces, no_parts, SpellsPieces}
@@ -44,7 +44,7 @@ record OnceIs {A : Type 0} (Spells : A → List ℕ → Type 0) (head : List ℕ
   spelled : Headed (Spells value) head text
   with_it : put value ≡ next
 
-once_takes : {A : Type 0} (Spells : A → List ℕ → Type 0) (read : List ℕ → Reading A Stop)
+once_takes : {A : Type 0} (Spells : A → List ℕ → Type 0) (read : List ℕ → Reading A ParseError)
     → ((bytes : List ℕ) (v : A) (rest : List ℕ) → read bytes ≡ Ok (v, rest) → TakesFront Spells bytes v rest)
     → (a b : ℕ) (is_there : Bool) (put : A → SdParts) (bytes : List ℕ) (next : SdParts) (rest : List ℕ)
     → begins (a ∷ b ∷ []) bytes ≡ true → with_part put (once_at read is_there bytes) ≡ Ok (next, rest)
@@ -58,7 +58,7 @@ once_takes {A} Spells read takes a b is_there put bytes next rest begun e =
     let head = a ∷ b ∷ [] in
     let t = takes (drop 2 bytes) v.0 v.1 e3 in
     subst (λ (p : SdParts × List ℕ). OnceIs Spells head is_there put bytes p.0 p.1)
-    (from_ok {E = Stop} (put v.0, v.1) (next, rest) e2)
+    (from_ok {E = ParseError} (put v.0, v.1) (next, rest) e2)
     (record {
       value = v.0;
       new = new;
@@ -124,7 +124,7 @@ sacl_takes domain parts bytes next rest begun e =
     (once_takes (SpellsList domain) (list_at domain) (list_takes domain) 115 58 (is_some parts.sacl) put bytes next
     rest begun e)
 
-by_word : (is : Bool) (here others : Reading SdParts Stop) (next : SdParts) (rest : List ℕ) (P : Type 0)
+by_word : (is : Bool) (here others : Reading SdParts ParseError) (next : SdParts) (rest : List ℕ) (P : Type 0)
     → (is ≡ true → here ≡ Ok (next, rest) → P) → (others ≡ Ok (next, rest) → P) → (if is then here else others)
     ≡ Ok (next, rest) → P
 by_word true here others next rest P a b e = a refl e
@@ -141,7 +141,7 @@ part_takes domain parts bytes next rest e =
     by_word (begins (codes "s:") bytes) _ (Err (stop kind.Part bytes)) next rest P
     (sacl_takes domain parts bytes next rest) (λ e4. absurd (no_part e4)) e3) e2) e1) e
   where
-    no_part : ◌≡◌ {A = Reading SdParts Stop} (Err (stop kind.Part bytes)) (Ok (next, rest)) → ⊥
+    no_part : ◌≡◌ {A = Reading SdParts ParseError} (Err (stop kind.Part bytes)) (Ok (next, rest)) → ⊥
     no_part e = absurd cc
 
 -- pieces up to the end
@@ -171,7 +171,7 @@ rest_if true domain n parts bytes whole next after ended p others e =
             = p.takes.spelled;
         follows = empty after ended;
       };
-      parts_are = ap (λ (o : Option SdParts). with_pieces o []) p.with_it ∙ ap Some (from_ok {E = Stop} next whole e);
+      parts_are = ap (λ (o : Option SdParts). with_pieces o []) p.with_it ∙ ap Some (from_ok {E = ParseError} next whole e);
     }
 rest_if false domain n parts bytes whole next after ended p others e =
     let o = others e in

@@ -15,7 +15,7 @@ use Rattle.ad_ids.specs.SidFront.{longest_front}
 use Rattle.ad_ids.proofs.SidFront.{Ends, again_before, again_at_end, front_found, no_front_in_two}
 use Rattle.ad_sddl.specs.declared.fault.SddlKind.TheVariants as kind
 use Rattle.ad_sddl.specs.declared.fault.SddlKind.{SddlKind}
-use Rattle.ad_sddl.specs.declared.fault.Stop.{Stop}
+use Rattle.ad_sddl.specs.declared.fault.ParseError.{ParseError}
 use Rattle.ad_sddl.specs.declared.words.Alias.{Alias}
 use Rattle.ad_sddl.specs.Words.{are_letters, find_alias, alias_codes, meant_by}
 use Rattle.ad_sddl.specs.Grammar.{SpellsAlias, SpellsSid}
@@ -24,7 +24,7 @@ use Rattle.ad_sddl.specs.Reading.{or_stop, or_else, alias_at, sid_at}
 given : {A : Type 0} (kind : SddlKind) (bytes : List ℕ) (o : Option A) (x : A) → or_stop kind bytes o ≡ Ok x → o
     ≡ Some x
 given kind bytes None x e = absurd cc
-given kind bytes (Some y) x e = ap Some (from_ok {E = Stop} y x e)
+given kind bytes (Some y) x e = ap Some (from_ok {E = ParseError} y x e)
 
 -- ---- aliases
 
@@ -41,7 +41,7 @@ alias_takes domain (a ∷ b ∷ more) v rest e =
     (λ (sid : SidValue) (e3 : or_stop kind.Domain bytes (meant_by domain alias.base alias.number) ≡ Ok sid)
     (e4 : Ok (sid, more) ≡ Ok (v, rest)).
     subst (λ (p : SidValue × List ℕ). TakesFront (SpellsSid domain) bytes p.0 p.1)
-    (from_ok {E = Stop} (sid, more) (v, rest) e4)
+    (from_ok {E = ParseError} (sid, more) (v, rest) e4)
     (record {
       text = a ∷ b ∷ [];
       parts = refl;
@@ -195,7 +195,7 @@ numeric_or : (domain : Option SidValue) (bytes : List ℕ) (o : Option (SidValue
     → TakesFront (SpellsSid domain) bytes v rest
 numeric_or domain bytes None v rest is e = alias_takes domain bytes v rest e
 numeric_or domain bytes (Some found) v rest is e =
-    let f = front_found (length bytes) v bytes rest (is ∙ ap Some (from_ok {E = Stop} found (v, rest) e)) in
+    let f = front_found (length bytes) v bytes rest (is ∙ ap Some (from_ok {E = ParseError} found (v, rest) e)) in
     record { text = f.front; parts = f.parts; spelled = inl f.spelled }
 
 pub sid_takes : (domain : Option SidValue) (bytes : List ℕ) (v : SidValue) (rest : List ℕ) → sid_at domain bytes

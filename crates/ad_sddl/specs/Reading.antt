@@ -21,8 +21,8 @@ use Rattle.ad_sddl.specs.declared.fault.SddlKind.{SddlKind}
 use Rattle.ad_sddl.specs.declared.fault.SddlKind.TheVariants as kind
 use Rattle.ad_sddl.specs.declared.fault.SddlFault.{SddlFault}
 use Rattle.ad_sddl.specs.declared.fault.SddlFault.TheVariants as fault
-use Rattle.ad_sddl.specs.declared.fault.Stop.{Stop}
-use Rattle.ad_sddl.specs.declared.fault.Stop.TheVariants.{Bad, Memory}
+use Rattle.ad_sddl.specs.declared.fault.ParseError.{ParseError}
+use Rattle.ad_sddl.specs.declared.fault.ParseError.TheVariants.{Bad, Memory}
 use Rattle.ad_acl.specs.declared.codes.Code.{Code}
 use Rattle.ad_sddl.specs.declared.entry.Shape.{Shape}
 use Rattle.ad_sddl.specs.Words.{begins, find, find_alias, alias_codes, meant_by}
@@ -30,16 +30,16 @@ use Rattle.ad_acl.specs.Codes.{flag_codes, right_codes}
 use Rattle.ad_sddl.specs.Grammar.{no_parts}
 
 -- a fault at the beginning of these bytes, which are those up to the end
-abbrev pub stop : SddlKind → List ℕ → Stop
+abbrev pub stop : SddlKind → List ℕ → ParseError
 stop kind bytes = Bad kind (length bytes)
 
 -- what has to be there
-abbrev pub or_stop : {A : Type 0} → SddlKind → List ℕ → Option A → Result A Stop
+abbrev pub or_stop : {A : Type 0} → SddlKind → List ℕ → Option A → Result A ParseError
 or_stop kind bytes None = Err (stop kind bytes)
 or_stop kind bytes (Some x) = Ok x
 
 -- the character that has to end a field
-unfoldable pub end_at : ℕ → List ℕ → Reading (Unit {0}) Stop
+unfoldable pub end_at : ℕ → List ℕ → Reading (Unit {0}) ParseError
 end_at end bytes = do
   byte ← or_fault (stop kind.Shape bytes) (byte_at bytes)
   _ ← need (byte.0 == end) (stop kind.Shape bytes)
@@ -48,7 +48,7 @@ end_at end bytes = do
 -- ---- the fields of an entry, each with the character that ends it
 
 -- the bits of a code
-unfoldable pub code_at : List Code → SddlKind → List ℕ → Reading ℕ Stop
+unfoldable pub code_at : List Code → SddlKind → List ℕ → Reading ℕ ParseError
 code_at table kind bytes = do
   first ← or_fault (stop kind bytes) (byte_at bytes)
   second ← or_fault (stop kind bytes) (byte_at first.1)
@@ -56,14 +56,14 @@ code_at table kind bytes = do
   Ok (code.bits, second.1)
 
 -- codes up to a semicolon, which add their bits to the mask; n is no smaller than the number of bytes
-unfoldable pub codes_at : List Code → SddlKind → ℕ → ℕ → List ℕ → Reading ℕ Stop
+unfoldable pub codes_at : List Code → SddlKind → ℕ → ℕ → List ℕ → Reading ℕ ParseError
 codes_at table kind zero mask bytes = Err (stop kind bytes)
 codes_at table kind (suc n) mask bytes =
     if begins (codes ";") bytes then Ok (mask, drop 1 bytes)
     else (code_at table kind bytes >>= λ bits. codes_at table kind n (bit_or mask bits.0) bits.1)
 
 -- all of them
-abbrev pub field_at : List Code → SddlKind → List ℕ → Reading ℕ Stop
+abbrev pub field_at : List Code → SddlKind → List ℕ → Reading ℕ ParseError
 field_at table kind bytes = codes_at table kind (suc (length bytes)) 0 bytes
 
 -- as many hexadecimal digits as there are, up to so many, and the bytes after them
@@ -79,29 +79,29 @@ digit_here [] = None
 digit_here (b ∷ bytes) = hex_digit_value b
 
 -- 0x and 1 to 8 digits
-unfoldable pub hex_at : List ℕ → Reading ℕ Stop
+unfoldable pub hex_at : List ℕ → Reading ℕ ParseError
 hex_at bytes = do
   _ ← or_stop kind.Rights bytes (digit_here (drop 2 bytes))
   end ← end_at 59 (digits_at 8 0 (drop 2 bytes)).1
   Ok ((digits_at 8 0 (drop 2 bytes)).0, end.1)
 
-abbrev pub rights_at : List ℕ → Reading ℕ Stop
+abbrev pub rights_at : List ℕ → Reading ℕ ParseError
 rights_at bytes = if begins (codes "0x") bytes then hex_at bytes else field_at right_codes kind.Rights bytes
 
 -- 36 characters
-unfoldable pub present_guid_at : List ℕ → Reading (Option Guid) Stop
+unfoldable pub present_guid_at : List ℕ → Reading (Option Guid) ParseError
 present_guid_at bytes = do
   guid ← or_stop kind.Guid bytes (guid_of_text (take 36 bytes))
   end ← end_at 59 (drop 36 bytes)
   Ok (Some guid, end.1)
 
 -- a field that is empty, or has a GUID where the type has some
-unfoldable pub guid_at : Bool → List ℕ → Reading (Option Guid) Stop
+unfoldable pub guid_at : Bool → List ℕ → Reading (Option Guid) ParseError
 guid_at is_object bytes =
     if begins (codes ";") bytes then Ok (None, drop 1 bytes)
     else (if is_object then present_guid_at bytes else Err (stop kind.Guid bytes))
 
-unfoldable pub alias_at : Option SidValue → List ℕ → Reading SidValue Stop
+unfoldable pub alias_at : Option SidValue → List ℕ → Reading SidValue ParseError
 alias_at domain bytes = do
   first ← or_fault (stop kind.Sid bytes) (byte_at bytes)
   second ← or_fault (stop kind.Sid bytes) (byte_at first.1)
@@ -109,12 +109,12 @@ alias_at domain bytes = do
   sid ← or_stop kind.Domain bytes (meant_by domain alias.base alias.number)
   Ok (sid, second.1)
 
-abbrev pub or_else : {A : Type 0} → Result A Stop → Option A → Result A Stop
+abbrev pub or_else : {A : Type 0} → Result A ParseError → Option A → Result A ParseError
 or_else otherwise None = otherwise
 or_else otherwise (Some x) = Ok x
 
 -- the longest numeric identifier, else an alias
-unfoldable pub sid_at : Option SidValue → List ℕ → Reading SidValue Stop
+unfoldable pub sid_at : Option SidValue → List ℕ → Reading SidValue ParseError
 sid_at domain bytes = or_else (alias_at domain bytes) (longest_front bytes)
 
 -- ---- entries
@@ -123,7 +123,7 @@ abbrev pub shape : AceKind → Bool → Shape
 shape kind is_object = record { kind = kind; is_object = is_object }
 
 -- the longest of the six types
-unfoldable pub type_at : List ℕ → Reading Shape Stop
+unfoldable pub type_at : List ℕ → Reading Shape ParseError
 type_at bytes =
     if begins (codes "au") bytes then Ok (shape Audit false, drop 2 bytes)
     else if begins (codes "oa") bytes then Ok (shape Allow true, drop 2 bytes)
@@ -134,7 +134,7 @@ type_at bytes =
     else Err (stop kind.AceKind bytes)
 
 -- an entry after its (
-unfoldable pub entry_at : Option SidValue → List ℕ → Reading Entry Stop
+unfoldable pub entry_at : Option SidValue → List ℕ → Reading Entry ParseError
 entry_at domain bytes = do
   type ← type_at bytes
   end ← end_at 59 type.1
@@ -158,7 +158,7 @@ entry_at domain bytes = do
   )
 
 -- entries, as long as one begins; n is no smaller than the number of bytes
-unfoldable pub entries_at : Option SidValue → ℕ → List ℕ → Reading (List Entry) Stop
+unfoldable pub entries_at : Option SidValue → ℕ → List ℕ → Reading (List Entry) ParseError
 entries_at domain zero bytes = Ok ([], bytes)
 entries_at domain (suc n) bytes =
     if begins (codes "(") bytes then (entry_at domain (drop 1 bytes) >>= λ first. entries_at domain n first.1
@@ -166,7 +166,7 @@ entries_at domain (suc n) bytes =
     else Ok ([], bytes)
 
 -- all of them
-abbrev pub all_entries : Option SidValue → List ℕ → Reading (List Entry) Stop
+abbrev pub all_entries : Option SidValue → List ℕ → Reading (List Entry) ParseError
 all_entries domain bytes = entries_at domain (length bytes) bytes
 
 -- ---- lists
@@ -192,7 +192,7 @@ list_flags_at (suc n) protected bytes = if_given (protected, bytes)
 abbrev pub all_flags : List ℕ → Bool × List ℕ
 all_flags bytes = list_flags_at (length bytes) false bytes
 
-unfoldable pub list_at : Option SidValue → List ℕ → Reading AceList Stop
+unfoldable pub list_at : Option SidValue → List ℕ → Reading AceList ParseError
 list_at domain bytes = do
   entries ← all_entries domain (all_flags bytes).1
   Ok (record { protected = (all_flags bytes).0; entries = entries.0 }, entries.1)
@@ -201,17 +201,17 @@ list_at domain bytes = do
 
 -- A part after its letter and colon: that it isn't there yet, and what it is. The fault of its letter is before
 -- these.
-unfoldable pub once_at : {A : Type 0} → (List ℕ → Reading A Stop) → Bool → List ℕ → Reading A Stop
+unfoldable pub once_at : {A : Type 0} → (List ℕ → Reading A ParseError) → Bool → List ℕ → Reading A ParseError
 once_at read is_there bytes = do
   _ ← need (not is_there) (stop kind.Repeated bytes)
   read (drop 2 bytes)
 
 -- the parts with what was read
-abbrev pub with_part : {A : Type 0} → (A → SdParts) → Reading A Stop → Reading SdParts Stop
+abbrev pub with_part : {A : Type 0} → (A → SdParts) → Reading A ParseError → Reading SdParts ParseError
 with_part put read = read >>= λ found. Ok (put found.0, found.1)
 
 -- the parts with the next one
-unfoldable pub part_at : Option SidValue → SdParts → List ℕ → Reading SdParts Stop
+unfoldable pub part_at : Option SidValue → SdParts → List ℕ → Reading SdParts ParseError
 part_at domain parts bytes =
     if begins (codes "o:") bytes then with_part (λ sid. record parts { owner = Some sid })
     (once_at (sid_at domain) (is_some parts.owner) bytes)
@@ -224,20 +224,20 @@ part_at domain parts bytes =
     else Err (stop kind.Part bytes)
 
 -- one part, and others up to the end; n is no smaller than the number of bytes after the first
-unfoldable pub rest_at : Option SidValue → ℕ → SdParts → List ℕ → Result SdParts Stop
+unfoldable pub rest_at : Option SidValue → ℕ → SdParts → List ℕ → Result SdParts ParseError
 rest_at domain zero parts bytes = Err (stop kind.Part bytes)
 rest_at domain (suc n) parts bytes = part_at domain parts bytes >>= λ next. if length next.1 == 0 then Ok next.0
     else rest_at domain n next.0 next.1
 
-abbrev pub parts_at : Option SidValue → SdParts → List ℕ → Result SdParts Stop
+abbrev pub parts_at : Option SidValue → SdParts → List ℕ → Result SdParts ParseError
 parts_at domain parts bytes = rest_at domain (suc (length bytes)) parts bytes
 
 -- the parts of a whole text
-abbrev pub parts_of : Option SidValue → List ℕ → Result SdParts Stop
+abbrev pub parts_of : Option SidValue → List ℕ → Result SdParts ParseError
 parts_of domain bytes = parts_at domain no_parts bytes
 
 -- the fault at its place, in a text of so many bytes
-abbrev pub located : ℕ → Stop → SddlFault
+abbrev pub located : ℕ → ParseError → SddlFault
 located total (Bad kind left) = fault.Bad (total - left) kind
 located total Memory = fault.Memory
 

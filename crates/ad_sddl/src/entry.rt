@@ -5,7 +5,7 @@ ghost use Rattle.std.specs.Option.{option_copied};
 ghost use Rattle.ad_bytes.specs.Reading.{Reads};
 ghost use Rattle.ad_sddl.specs.Reading.{shape, type_at, entry_at};
 
-use crate::fault::{SddlKind, Stop};
+use crate::fault::{SddlKind, ParseError};
 use crate::field::{read_end, read_flags, read_guid, read_rights, takes};
 use crate::numeric::read_sid;
 use ad_acl::{Ace, AceKind};
@@ -39,7 +39,7 @@ const fn object(kind: AceKind) -> Shape
 
 // The longest of the six types.
 #[tactic(auto, unfolding(crate::specs::Reading::type_at))]
-fn read_type(input: &mut Input<'_>) -> Result<Shape, Stop>
+fn read_type(input: &mut Input<'_>) -> Result<Shape, ParseError>
     ensures read { Reads result input.new (type_at input.old) }
     ensures left { OnOk result (length input.new ≤ length input.old) }
 {
@@ -61,12 +61,12 @@ fn read_type(input: &mut Input<'_>) -> Result<Shape, Stop>
     if takes(input, b"d") {
         return Ok(plain(AceKind::Deny));
     }
-    Err(Stop::Bad(SddlKind::AceKind, input.len()))
+    Err(ParseError::Bad(SddlKind::AceKind, input.len()))
 }
 
 /// Reads an entry after its opening parenthesis.
 #[tactic(auto, unfolding(crate::specs::Reading::entry_at))]
-pub(crate) fn read_entry(input: &mut Input<'_>, domain: Option<&Sid>) -> Result<Ace, Stop>
+pub(crate) fn read_entry(input: &mut Input<'_>, domain: Option<&Sid>) -> Result<Ace, ParseError>
     ensures read { Reads result input.new (entry_at (option_copied domain.entry) input.old) }
     ensures left { OnOk result (length input.new ≤ length input.old) }
 {

@@ -1,7 +1,7 @@
 //! Why a text is no descriptor's: the kind and the place.
 
 ghost use Rattle.std.specs.Prelude.{◌≡◌};
-ghost use Rattle.ad_sddl.specs.declared.fault.Stop.TheVariants.{Memory as NoMemory};
+ghost use Rattle.ad_sddl.specs.declared.fault.ParseError.TheVariants.{Memory as NoMemory};
 ghost use Rattle.ad_sddl.specs.declared.fault.SddlFault.TheVariants.{Memory as FaultMemory};
 
 use std::alloc::AllocError;
@@ -47,16 +47,16 @@ pub enum SddlFault {
 
 // Where reading stops: a fault with the number of bytes from it to the end.
 #[derive(Clone, Copy, Debug, PartialEq, Eq)]
-pub(crate) enum Stop {
+pub(crate) enum ParseError {
     Bad(SddlKind, usize),
     Memory,
 }
 
-impl From<AllocError> for Stop {
+impl From<AllocError> for ParseError {
     ghost from_gives = { λ _ e. e ≡ NoMemory };
 
-    fn from(_: AllocError) -> Stop {
-        Stop::Memory
+    fn from(_: AllocError) -> ParseError {
+        ParseError::Memory
     }
 }
 

@@ -11,7 +11,7 @@ ghost use Rattle.ad_sddl.specs.Reading.{end_at, code_at, field_at, digits_at, di
 ghost use Rattle.ad_sddl.specs.Reading.{present_guid_at, guid_at};
 ghost use Rattle.ad_sddl.specs.Calls.{with_rest};
 
-use crate::fault::{SddlKind, Stop};
+use crate::fault::{SddlKind, ParseError};
 use crate::numeric::skip;
 use crate::words::find;
 use ad_acl::{Code, flag_codes, right_codes};
@@ -45,7 +45,7 @@ pub(crate) fn takes(input: &mut Input<'_>, word: &[u8]) -> bool
 
 /// Reads the character that ends a field.
 #[tactic(auto, unfolding(crate::specs::Reading::end_at))]
-pub(crate) fn read_end(input: &mut Input<'_>, end: u8) -> Result<(), Stop>
+pub(crate) fn read_end(input: &mut Input<'_>, end: u8) -> Result<(), ParseError>
     ensures read { Reads result input.new (end_at end input.old) }
     ensures left { OnOk result (length input.new < length input.old) }
 {
@@ -55,34 +55,34 @@ pub(crate) fn read_end(input: &mut Input<'_>, end: u8) -> Result<(), Stop>
             if byte == end {
                 Ok(())
             } else {
-                Err(Stop::Bad(SddlKind::Shape, left))
+                Err(ParseError::Bad(SddlKind::Shape, left))
             }
         }
-        Err(_) => Err(Stop::Bad(SddlKind::Shape, left)),
+        Err(_) => Err(ParseError::Bad(SddlKind::Shape, left)),
     }
 }
 
 // The bits of the code at the beginning.
 #[tactic(auto, unfolding(crate::specs::Reading::code_at))]
-fn read_code(input: &mut Input<'_>, table: &[Code], kind: SddlKind) -> Result<u32, Stop>
+fn read_code(input: &mut Input<'_>, table: &[Code], kind: SddlKind) -> Result<u32, ParseError>
     ensures read { Reads result input.new (code_at table.now kind input.old) }
     ensures left { OnOk result (length input.new < length input.old) }
 {
     let left = input.len();
     let Ok(first) = input.byte() else {
-        return Err(Stop::Bad(kind, left));
+        return Err(ParseError::Bad(kind, left));
     };
     let Ok(second) = input.byte() else {
-        return Err(Stop::Bad(kind, left));
+        return Err(ParseError::Bad(kind, left));
     };
     match find(table, first, second) {
         Some(code) => Ok(code.bits),
-        None => Err(Stop::Bad(kind, left)),
+        None => Err(ParseError::Bad(kind, left)),
     }
 }
 
 // Reads codes up to the semicolon after them.
-fn read_codes(input: &mut Input<'_>, table: &[Code], kind: SddlKind) -> Result<u32, Stop>
+fn read_codes(input: &mut Input<'_>, table: &[Code], kind: SddlKind) -> Result<u32, ParseError>
     ensures read { Reads result input.new (field_at table.now kind input.old) }
     ensures left { OnOk result (length input.new ≤ length input.old) }
 {
@@ -95,7 +95,7 @@ fn read_codes(input: &mut Input<'_>, table: &[Code], kind: SddlKind) -> Result<u
 }
 
 /// Reads the flags of an entry, and the semicolon after them.
-pub(crate) fn read_flags(input: &mut Input<'_>) -> Result<u8, Stop>
+pub(crate) fn read_flags(input: &mut Input<'_>) -> Result<u8, ParseError>
     ensures read { Reads result input.new (field_at flag_codes kind.Flag input.old) }
     ensures clear { IfOk result (λ flags. bit_and flags 32 ≡ 0) }
     ensures left { OnOk result (length input.new ≤ length input.old) }
@@ -133,7 +133,7 @@ fn read_digits(input: &mut Input<'_>) -> u32
 
 // Reads 0x, which stands there, the digits after it, and the semicolon after them.
 #[tactic(auto, unfolding(crate::specs::Reading::hex_at))]
-fn read_hex(input: &mut Input<'_>) -> Result<u32, Stop>
+fn read_hex(input: &mut Input<'_>) -> Result<u32, ParseError>
     requires { 2 ≤ length input.old }
     ensures read { Reads result input.new (hex_at input.old) }
     ensures left { OnOk result (length input.new ≤ length input.old) }
@@ -141,7 +141,7 @@ fn read_hex(input: &mut Input<'_>) -> Result<u32, Stop>
     let left = input.len();
     skip(input, 2);
     if digit_here(input.rest()).is_none() {
-        return Err(Stop::Bad(SddlKind::Rights, left));
+        return Err(ParseError::Bad(SddlKind::Rights, left));
     }
     let mask = read_digits(input);
     read_end(input, b';')?;
@@ -149,7 +149,7 @@ fn read_hex(input: &mut Input<'_>) -> Result<u32, Stop>
 }
 
 /// Reads the rights of an entry, and the semicolon after them.
-pub(crate) fn read_rights(input: &mut Input<'_>) -> Result<u32, Stop>
+pub(crate) fn read_rights(input: &mut Input<'_>) -> Result<u32, ParseError>
     ensures read { Reads result input.new (rights_at input.old) }
     ensures left { OnOk result (length input.new ≤ length input.old) }
 {
@@ -171,12 +171,12 @@ fn first_guid(text: &[u8]) -> Option<Guid>
 }
 
 #[tactic(auto, unfolding(crate::specs::Reading::present_guid_at))]
-fn read_present_guid(input: &mut Input<'_>) -> Result<Option<Guid>, Stop>
+fn read_present_guid(input: &mut Input<'_>) -> Result<Option<Guid>, ParseError>
     ensures read { Reads result input.new (present_guid_at input.old) }
     ensures left { OnOk result (length input.new ≤ length input.old) }
 {
     let Some(guid) = first_guid(input.rest()) else {
-        return Err(Stop::Bad(SddlKind::Guid, input.len()));
+        return Err(ParseError::Bad(SddlKind::Guid, input.len()));
     };
     skip(input, GUID_LENGTH);
     read_end(input, b';')?;
@@ -185,7 +185,7 @@ fn read_present_guid(input: &mut Input<'_>) -> Result<Option<Guid>, Stop>
 
 /// Reads the field of a GUID, and the semicolon after it. It is empty, unless the type of the entry may have GUIDs.
 #[tactic(auto, unfolding(crate::specs::Reading::guid_at))]
-pub(crate) fn read_guid(input: &mut Input<'_>, is_object: bool) -> Result<Option<Guid>, Stop>
+pub(crate) fn read_guid(input: &mut Input<'_>, is_object: bool) -> Result<Option<Guid>, ParseError>
     ensures read { Reads result input.new (guid_at is_object input.old) }
     ensures left { OnOk result (length input.new ≤ length input.old) }
 {
@@ -194,7 +194,7 @@ pub(crate) fn read_guid(input: &mut Input<'_>, is_object: bool) -> Result<Option
         return Ok(None);
     }
     if !is_object {
-        return Err(Stop::Bad(SddlKind::Guid, input.len()));
+        return Err(ParseError::Bad(SddlKind::Guid, input.len()));
     }
     read_present_guid(input)
 }

@@ -8,7 +8,7 @@ ghost use Rattle.ad_sddl.specs.Reading.{list_flag_at, all_flags, all_entries, li
 ghost use Rattle.ad_sddl.specs.Calls.{is_memory, with_rest};
 
 use crate::entry::read_entry;
-use crate::fault::Stop;
+use crate::fault::ParseError;
 use crate::field::{begins, takes};
 use crate::numeric::skip;
 use ad_acl::Aces;
@@ -49,7 +49,7 @@ fn read_list_flags(input: &mut Input<'_>) -> bool
 }
 
 // Reads entries as long as one begins.
-fn read_entries(alloc: Global, input: &mut Input<'_>, domain: Option<&Sid>) -> Result<Aces, Stop>
+fn read_entries(alloc: Global, input: &mut Input<'_>, domain: Option<&Sid>) -> Result<Aces, ParseError>
     ensures read { ReadsUnless is_memory (λ a. a) result input.new
         (all_entries (option_copied domain.entry) input.old) }
     ensures left { OnOk result (length input.new ≤ length input.old) }
@@ -67,7 +67,7 @@ pub(crate) fn read_list(
     alloc: Global,
     input: &mut Input<'_>,
     domain: Option<&Sid>,
-) -> Result<AceList, Stop>
+) -> Result<AceList, ParseError>
     ensures read { ReadsUnless is_memory (λ list. list) result input.new
         (list_at (option_copied domain.entry) input.old) }
     ensures left { OnOk result (length input.new ≤ length input.old) }

@@ -6,7 +6,7 @@ ghost use Rattle.ad_bytes.specs.Reading.{Reads};
 ghost use Rattle.ad_sddl.specs.Words.{meant_by};
 ghost use Rattle.ad_sddl.specs.Reading.{alias_at, sid_at};
 
-use crate::fault::{SddlKind, Stop};
+use crate::fault::{SddlKind, ParseError};
 use crate::words::{Base, alias_table, find_alias};
 use ad_bytes::Input;
 use ad_ids::Sid;
@@ -24,29 +24,29 @@ fn meant_by(domain: Option<&Sid>, base: Base, number: u32) -> Option<Sid>
 }
 
 #[tactic(auto, unfolding(crate::specs::Reading::alias_at))]
-fn read_alias(input: &mut Input<'_>, domain: Option<&Sid>) -> Result<Sid, Stop>
+fn read_alias(input: &mut Input<'_>, domain: Option<&Sid>) -> Result<Sid, ParseError>
     ensures read { Reads result input.new (alias_at (option_copied domain.entry) input.old) }
     ensures left { OnOk result (length input.new ≤ length input.old) }
 {
     let left = input.len();
     let Ok(first) = input.byte() else {
-        return Err(Stop::Bad(SddlKind::Sid, left));
+        return Err(ParseError::Bad(SddlKind::Sid, left));
     };
     let Ok(second) = input.byte() else {
-        return Err(Stop::Bad(SddlKind::Sid, left));
+        return Err(ParseError::Bad(SddlKind::Sid, left));
     };
     let Some(alias) = find_alias(alias_table(), first, second) else {
-        return Err(Stop::Bad(SddlKind::Sid, left));
+        return Err(ParseError::Bad(SddlKind::Sid, left));
     };
     match meant_by(domain, alias.base, alias.number) {
         Some(sid) => Ok(sid),
-        None => Err(Stop::Bad(SddlKind::Domain, left)),
+        None => Err(ParseError::Bad(SddlKind::Domain, left)),
     }
 }
 
 /// Reads an identifier: the longest numeric one, else an alias.
 #[tactic(auto, unfolding(crate::specs::Reading::sid_at))]
-pub(crate) fn read_sid(input: &mut Input<'_>, domain: Option<&Sid>) -> Result<Sid, Stop>
+pub(crate) fn read_sid(input: &mut Input<'_>, domain: Option<&Sid>) -> Result<Sid, ParseError>
     ensures read { Reads result input.new (sid_at (option_copied domain.entry) input.old) }
     ensures left { OnOk result (length input.new ≤ length input.old) }
 {

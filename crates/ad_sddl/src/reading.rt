@@ -10,7 +10,7 @@ ghost use Rattle.ad_sddl.specs.Reading.{sid_at, list_at, once_at, part_at, parts
 ghost use Rattle.ad_sddl.specs.Reading.{read_of};
 ghost use Rattle.ad_sddl.specs.Calls.{is_memory, ReadsParts, ReadsAll};
 
-use crate::fault::{SddlFault, SddlKind, Stop};
+use crate::fault::{SddlFault, SddlKind, ParseError};
 use crate::field::takes;
 use crate::list::read_list;
 use crate::numeric::read_sid;
@@ -38,13 +38,13 @@ fn read_new_sid(
     domain: Option<&Sid>,
     is_there: bool,
     left: usize,
-) -> Result<Sid, Stop>
+) -> Result<Sid, ParseError>
     ensures read { (bytes : List ℕ) → input.old ≡ drop 2 bytes → left ≡ length bytes
         → Reads result input.new (once_at (sid_at (option_copied domain.entry)) is_there bytes) }
     ensures left { OnOk result (length input.new ≤ length input.old) }
 {
     if is_there {
-        return Err(Stop::Bad(SddlKind::Repeated, left));
+        return Err(ParseError::Bad(SddlKind::Repeated, left));
     }
     read_sid(input, domain)
 }
@@ -57,14 +57,14 @@ fn read_new_list(
     domain: Option<&Sid>,
     is_there: bool,
     left: usize,
-) -> Result<AceList, Stop>
+) -> Result<AceList, ParseError>
     ensures read { (bytes : List ℕ) → input.old ≡ drop 2 bytes → left ≡ length bytes
         → ReadsUnless is_memory (λ list. list) result input.new
         (once_at (list_at (option_copied domain.entry)) is_there bytes) }
     ensures left { OnOk result (length input.new ≤ length input.old) }
 {
     if is_there {
-        return Err(Stop::Bad(SddlKind::Repeated, left));
+        return Err(ParseError::Bad(SddlKind::Repeated, left));
     }
     read_list(alloc, input, domain)
 }
@@ -76,7 +76,7 @@ fn read_part(
     input: &mut Input<'_>,
     domain: Option<&Sid>,
     parts: &mut SdParts,
-) -> Result<(), Stop>
+) -> Result<(), ParseError>
     ensures read { ReadsParts result parts.new input.new
         (part_at (option_copied domain.entry) parts.old input.old) }
     ensures left { OnOk result (length input.new < length input.old) }
@@ -102,7 +102,7 @@ fn read_part(
         parts.sacl = Some(sacl);
         return Ok(());
     }
-    Err(Stop::Bad(SddlKind::Part, left))
+    Err(ParseError::Bad(SddlKind::Part, left))
 }
 
 // Puts all parts up to the end into the parts, one at least.
@@ -111,7 +111,7 @@ fn read_all(
     input: &mut Input<'_>,
     domain: Option<&Sid>,
     parts: &mut SdParts,
-) -> Result<(), Stop>
+) -> Result<(), ParseError>
     ensures read { ReadsAll result parts.new
         (parts_at (option_copied domain.entry) parts.old input.old) }
 {
@@ -124,7 +124,7 @@ fn read_all(
 }
 
 // Reads a text in lower case.
-fn read_lower(alloc: Global, text: &[u8], domain: Option<&Sid>) -> Result<SdParts, Stop>
+fn read_lower(alloc: Global, text: &[u8], domain: Option<&Sid>) -> Result<SdParts, ParseError>
     ensures { GivesUnless is_memory (λ p. p) result
         (parts_of (option_copied domain.entry) text.now) }
 {
@@ -144,11 +144,11 @@ fn read_text(alloc: Global, text: &[u8], domain: Option<&Sid>) -> Result<SdParts
     let lower = text.to_ascii_lowercase(alloc)?;
     match read_lower(alloc, &lower, domain) {
         Ok(parts) => Ok(parts),
-        Err(Stop::Bad(kind, left)) => Err(SddlFault::Bad {
+        Err(ParseError::Bad(kind, left)) => Err(SddlFault::Bad {
             place: text.len().saturating_sub(left),
             kind,
         }),
-        Err(Stop::Memory) => Err(SddlFault::Memory),
+        Err(ParseError::Memory) => Err(SddlFault::Memory),
     }
 }
 

@@ -1,6 +1,6 @@
 //! Bytes and the numbers in them: in which order a number takes them, and that a list keeps what it is given.
 
-use ad_bytes::{Bytes, Few, Input};
+use ad_bytes::{Bytes, Input, OneOrMany};
 use std::alloc::AllocGlobal;
 use std::process::Abort;
 use std::test::*;
@@ -42,8 +42,8 @@ fn letters_become_small_ones(rt: HostRuntime) {
 }
 
 // The numbers from 1 to 3.
-fn three(rt: &(impl Abort + AllocGlobal)) -> Few<u8> {
-    let mut few = Few::new(rt.alloc());
+fn three(rt: &(impl Abort + AllocGlobal)) -> OneOrMany<u8> {
+    let mut few = OneOrMany::new(rt.alloc());
     for value in 1..4u8 {
         few.push(value).expect(rt, "memory");
         assert!(rt; few.len() == usize::from(value));
@@ -55,6 +55,6 @@ fn three(rt: &(impl Abort + AllocGlobal)) -> Few<u8> {
 fn a_few_values_stand_in_their_order(rt: HostRuntime) {
     let few = three(&rt);
     assert!(rt; few.as_slice() == [1, 2, 3].as_slice());
-    let one = Few::one(rt.alloc(), 9u8).into_vec().expect(&rt, "memory");
+    let one = OneOrMany::one(rt.alloc(), 9u8).into_vec().expect(&rt, "memory");
     assert!(rt; one.as_slice() == [9].as_slice());
 }

@@ -5,7 +5,7 @@ ghost use Rattle.ad_schema.specs.Attributes.{attrs_of};
 
 use crate::content::Held;
 use ad_acl::Aces;
-use ad_bytes::{Bytes, Few, List};
+use ad_bytes::{Bytes, List, OneOrMany};
 use ad_dir_objects::{Object, Stored};
 use ad_ids::Sid;
 use ad_schema::{AttrId, Builder, ClassId, Line, Schema, SchemaKind};
@@ -130,8 +130,8 @@ fn sid_value(rt: &(impl Abort + AllocGlobal), syntax: Syntax, number: u32) -> Va
 }
 
 // A list of the value of an identifier.
-fn one(rt: &(impl Abort + AllocGlobal), syntax: Syntax, number: u32) -> Few<Stored> {
-    let mut one = Few::new(rt.alloc());
+fn one(rt: &(impl Abort + AllocGlobal), syntax: Syntax, number: u32) -> OneOrMany<Stored> {
+    let mut one = OneOrMany::new(rt.alloc());
     one.push(Stored::Plain(sid_value(rt, syntax, number)))
         .expect(rt, "memory");
     one

@@ -8,7 +8,7 @@ ghost use Rattle.ad_dir_model.specs.Attributes.{is_named};
 ghost use Rattle.ad_dir_model.specs.Soundness.{AttrsRiseFrom, IsContent, IsHeld, IsPlainValue, IsStored};
 ghost use Rattle.ad_dir_objects.specs.Seen.{held_seen, object_seen, stored_seen};
 
-use ad_bytes::Few;
+use ad_bytes::OneOrMany;
 use ad_dir_objects::{Object, Stored};
 use ad_dn::is_value;
 use ad_schema::{AttrId, Schema};
@@ -16,7 +16,7 @@ use ad_value::{Value, ValueFault, equal, normal};
 use std::alloc::{AllocError, Global};
 
 /// An attribute with its values.
-pub type Held = (AttrId, Few<Stored>);
+pub type Held = (AttrId, OneOrMany<Stored>);
 
 fn is_password(schema: &Schema, attr: AttrId) -> bool
     ensures { result ≡ is_named schema.now (codes "unicodePwd") attr.0 }

@@ -16,20 +16,20 @@ enum Items<T: Drop> {
 /// A list that mostly has one value: one alone stands in the list itself, more stand in memory of their own. A
 /// contract sees it as a list.
 #[derive(Debug)]
-pub struct Few<T: Drop> {
+pub struct OneOrMany<T: Drop> {
     alloc: Global,
     items: Items<T>,
 }
 
 // Written out, so that what lies above drops a list in one step.
-impl<T: Drop> Drop for Few<T> {
+impl<T: Drop> Drop for OneOrMany<T> {
     fn drop(self) {
-        let Few { alloc: _, items } = self;
+        let OneOrMany { alloc: _, items } = self;
         drop(items);
     }
 }
 
-impl<T: Drop> Model for Few<T> {
+impl<T: Drop> Model for OneOrMany<T> {
     ghost use Rattle.std.specs.Prelude.{List as Values};
     ghost use Rattle.ad_bytes.specs.Lists.{items_in};
 
@@ -111,22 +111,22 @@ fn vec_of<T: Drop>(alloc: Global, items: Items<T>) -> Result<Vec<T>, AllocError>
     }
 }
 
-impl<T: Drop> Few<T> {
+impl<T: Drop> OneOrMany<T> {
     /// The empty list. It takes no memory.
-    pub fn new(alloc: Global) -> Few<T>
+    pub fn new(alloc: Global) -> OneOrMany<T>
         ensures { result ≡ [] }
     {
-        Few {
+        OneOrMany {
             alloc,
             items: Items::Many(Vec::new(alloc)),
         }
     }
 
     /// A list of one value. It takes no memory.
-    pub fn one(alloc: Global, item: T) -> Few<T>
+    pub fn one(alloc: Global, item: T) -> OneOrMany<T>
         ensures { result ≡ item ∷ [] }
     {
-        Few {
+        OneOrMany {
             alloc,
             items: Items::One([item]),
         }
@@ -172,16 +172,16 @@ impl<T: Drop> Few<T> {
     pub fn into_vec(self) -> Result<Vec<T>, AllocError>
         ensures { IfOk result (λ all. all.items ≡ self) }
     {
-        let Few { alloc, items } = self;
+        let OneOrMany { alloc, items } = self;
         vec_of(alloc, items)
     }
 
     /// The list of these values. More than one stay in the memory that they have.
-    pub fn from_vec(items: Vec<T>) -> Few<T>
+    pub fn from_vec(items: Vec<T>) -> OneOrMany<T>
         ensures { result ≡ items.items }
     {
         let alloc = *items.allocator();
-        Few {
+        OneOrMany {
             alloc,
             items: items_of(items),
         }
