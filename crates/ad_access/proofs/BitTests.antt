@@ -6,7 +6,7 @@ use Rattle.ad_acl.specs.Mask.{has_bit, mapped_has, write_owner, access_system_se
 use Rattle.ad_acl.proofs.MaskLaws.{has_bit-zero, has_bit-and}
 use Rattle.std.proofs.Math.Bool.{and_assoc}
 use Rattle.std.specs.Prelude.{bit_and}
-use Rattle.ad_access.specs.Grant.{is_of_owners}
+use Rattle.ad_access.specs.Grant.{is_implicit_owner_right}
 
 -- no right is among none
 pub none_of : (rights bit : ℕ) (so : Bool) → rights ≡ 0 → has_bit 0 bit ≡ has_bit rights bit && so
@@ -23,9 +23,9 @@ pub has_bit-write_owner : (bit : ℕ) → bit < 32 → has_bit 0x8_0000 bit ≡ 
 unfolding has_bit
 has_bit-write_owner bit lt = agree_below_at (has_bit 0x8_0000) (λ (n : ℕ). n == write_owner) 32 bit refl lt
 
-pub has_bit-of_owners : (bit : ℕ) → bit < 32 → has_bit 0x6_0000 bit ≡ is_of_owners bit
+pub has_bit-of_owners : (bit : ℕ) → bit < 32 → has_bit 0x6_0000 bit ≡ is_implicit_owner_right bit
 unfolding has_bit
-has_bit-of_owners bit lt = agree_below_at (has_bit 0x6_0000) is_of_owners 32 bit refl lt
+has_bit-of_owners bit lt = agree_below_at (has_bit 0x6_0000) is_implicit_owner_right 32 bit refl lt
 
 system_or_owner : (bit : ℕ) → bit < 32 → (bit == access_system_security) && (bit == write_owner) ≡ false
 system_or_owner bit lt = agree_below_at (λ (n : ℕ). (n == access_system_security) && (n == write_owner))

@@ -14,7 +14,7 @@ use Rattle.ad_types.specs.Tree.{path_at}
 use Rattle.ad_access.specs.declared.found.Found.{Found}
 use Rattle.ad_access.specs.Holder.{Holder, holds}
 use Rattle.ad_access.specs.Matching.{matches, speaks, is_about, decides_access, is_inherit_only}
-use Rattle.ad_access.specs.Grant.{decides, is_allow, sets_owner_rights, is_of_owners, granted_to}
+use Rattle.ad_access.specs.Grant.{decides, is_allow, sets_owner_rights, is_implicit_owner_right, granted_to}
 use Rattle.ad_access.specs.Found.{nothing, undecided, found_at, Decides, AreOpen, IsSwept}
 use Rattle.ad_access.proofs.Swept.{Swept, swept_none, swept_step, closed_at, swept_all}
 
@@ -29,7 +29,7 @@ pub record NodesSwept (owner : SidValue) (holder : Holder) (self : Option SidVal
 pub nodes_none : (owner : SidValue) (holder : Holder) (self : Option SidValue) (nodes : List Node)
     (whole : List Entry) (want : ℕ) (found : List Found) (owned : ℕ) → found ≡ replicate (length nodes)
     (undecided want) → ((bit : ℕ) → bit < 32 → has_bit owned bit ≡ has_bit want bit
-    && (is_of_owners bit && holds holder owner)) → NodesSwept owner holder self nodes whole whole want found want
+    && (is_implicit_owner_right bit && holds holder owner)) → NodesSwept owner holder self nodes whole whole want found want
     owned
 nodes_none owner holder self nodes whole want found owned is had = record {
   len = ap length is ∙ length-replicate (length nodes) (undecided want);

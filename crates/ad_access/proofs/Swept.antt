@@ -12,7 +12,7 @@ use Rattle.ad_acl.specs.Entry.{Entry}
 use Rattle.ad_acl.specs.Mask.{has_bit}
 use Rattle.ad_acl.proofs.MaskLaws.{has_bit-zero, has_bit-and, has_bit-or, has_bit-not}
 use Rattle.ad_access.specs.Holder.{Holder, holds}
-use Rattle.ad_access.specs.Grant.{decides, is_allow, granted_by_entries, sets_owner_rights, is_of_owners}
+use Rattle.ad_access.specs.Grant.{decides, is_allow, granted_by_entries, sets_owner_rights, is_implicit_owner_right}
 use Rattle.ad_access.specs.Grant.{granted_as_owner, granted_to}
 
 -- what is found for one right: allowed already, or still undecided and allowed by the others; and had as owner,
@@ -72,14 +72,14 @@ ended want allowed undecided owned entries as_owner e f =
 
 pub swept_none : (owner : SidValue) (holder : Holder) (self : Option SidValue) (path : List Guid) (whole : List Entry)
     (want owned : ℕ) → ((bit : ℕ) → bit < 32 → has_bit owned bit ≡ has_bit want bit
-    && (is_of_owners bit && holds holder owner)) → Swept owner holder self path whole whole want want 0 owned
+    && (is_implicit_owner_right bit && holds holder owner)) → Swept owner holder self path whole whole want want 0 owned
 unfolding granted_as_owner
 swept_none owner holder self path whole want owned had = record {
   by_entries = λ bit lt. ap (λ (b : Bool). b
       || (has_bit want bit && granted_by_entries whole holder self owner path bit)) (has_bit-zero bit);
   as_owner = λ bit lt.
       ap (λ (b : Bool). b && not (list_any sets_owner_rights whole)) (had bit lt)
-      ∙ and_assoc (has_bit want bit) (is_of_owners bit && holds holder owner) (not (list_any sets_owner_rights whole));
+      ∙ and_assoc (has_bit want bit) (is_implicit_owner_right bit && holds holder owner) (not (list_any sets_owner_rights whole));
 }
 
 -- one entry decides some of the undecided rights, and sets the owner's rights or doesn't

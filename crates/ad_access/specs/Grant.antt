@@ -36,13 +36,13 @@ abbrev pub sets_owner_rights : Entry → Bool
 sets_owner_rights entry = same_sid entry.sid owner_rights && not (is_inherit_only entry)
 
 -- what an owner has of itself: to read the descriptor and to write its DACL
-abbrev pub is_of_owners : ℕ → Bool
-is_of_owners bit = (bit == read_control) || (bit == write_dac)
+abbrev pub is_implicit_owner_right : ℕ → Bool
+is_implicit_owner_right bit = (bit == read_control) || (bit == write_dac)
 
 -- the right is one that owners have, the principal holds the owner, and no entry sets the owner's rights
 unfoldable pub granted_as_owner : SidValue → List Entry → Holder → ℕ → Bool
 granted_as_owner owner dacl holder bit =
-    is_of_owners bit && holds holder owner && not (list_any sets_owner_rights dacl)
+    is_implicit_owner_right bit && holds holder owner && not (list_any sets_owner_rights dacl)
 
 -- the right is granted to the one principal: as to an owner, or else by the entries
 abbrev pub granted_to : SidValue → List Entry → Holder → Option SidValue → List Guid → ℕ → Bool

@@ -4,7 +4,7 @@ ghost use Rattle.std.specs.Prelude.{◌≡◌, ℕ, Bool, true, ◌&&◌, ◌||�
 ghost use Rattle.ad_acl.specs.Mask.{has_bit, mapped_has, write_owner, access_system_security};
 ghost use Rattle.ad_access.specs.Privileges.{security, take_ownership};
 ghost use Rattle.ad_access.specs.Holder.{holds};
-ghost use Rattle.ad_access.specs.Grant.{is_of_owners};
+ghost use Rattle.ad_access.specs.Grant.{is_implicit_owner_right};
 ghost use Rattle.ad_access.specs.Rank.{holder_of};
 
 use crate::holder::{Rank, holds};
@@ -61,7 +61,7 @@ pub fn split_wanted(privileges: u8, want: u32) -> Asked
 /// rights.
 pub fn rights_as_owner(owner: &Sid, token: &Token, rank: Rank, want: u32) -> u32
     ensures { (bit : ℕ) → bit < 32 → has_bit result bit
-        ≡ (has_bit want bit && (is_of_owners bit && holds (holder_of token.now rank) owner.now)) }
+        ≡ (has_bit want bit && (is_implicit_owner_right bit && holds (holder_of token.now rank) owner.now)) }
 {
     let rights = want & (READ_CONTROL | WRITE_DAC);
     if rights == 0 {

@@ -32,7 +32,7 @@ fn after_other(dir: &Dir, left: usize, but: u32, number: u32) -> Option<usize>
 fn after_others(dir: &Dir, left: usize, but: u32) -> Option<usize>
     ensures { result ≡ left_of left (others_weight dir.now.schema but dir.now.objects) }
 {
-    dir.stands();
+    dir.invariants();
     let mut left = left;
     let mut above = 0;
     'each: while let Some(number) = dir.next_number(above) {
@@ -56,7 +56,7 @@ fn weight_without(dir: &Dir, all: usize, number: u32) -> Option<usize>
     ensures { all ≡ weight dir.now → IfSome result
         (λ bytes. bytes ≡ others_weight dir.now.schema number dir.now.objects) }
 {
-    dir.stands();
+    dir.invariants();
     match dir.object(number) {
         Some(object) => match after_object(dir.schema(), MAX_WEIGHT, object) {
             Some(left) => less(all, MAX_WEIGHT - left),

@@ -12,7 +12,7 @@ pub(crate) fn goes_with(dir: &Dir, target: u32, alone: bool, number: u32) -> boo
     requires { IsLeaving dir.now target alone }
     ensures { result ≡ goes_with dir.now target number }
 {
-    dir.stands();
+    dir.invariants();
     if number == target {
         return true;
     }

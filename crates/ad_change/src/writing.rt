@@ -81,7 +81,7 @@ pub(crate) fn put_edits(
     ensures { IfOk result (λ edits.
         AreNeeded dir.now (edits_of.change_edits (object_seen object (seen sd.entry))) edits) }
 {
-    dir.stands();
+    dir.invariants();
     if is_there(dir, &object, sd.as_bytes()) {
         return Ok(List::new(alloc));
     }
@@ -130,7 +130,7 @@ pub(crate) fn write_edits(
         AreNeeded dir.now (edits_of.write_edits dir.now (object_seen object (seen own.entry)))
         edits) }
 {
-    dir.stands();
+    dir.invariants();
     let bytes = whole_of(alloc, dir, &object, own)?;
     if is_there(dir, &object, bytes.as_slice()) {
         return Ok(List::new(alloc));

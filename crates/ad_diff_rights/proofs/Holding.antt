@@ -18,7 +18,7 @@ use Rattle.ad_access.specs.Privileges.{security, take_ownership}
 use Rattle.ad_access.specs.WellKnown.{owner_rights, principal_self}
 use Rattle.ad_access.specs.Holder.{first_holder, second_holder, holds, answers_to}
 use Rattle.ad_access.specs.Matching.{matches, speaks}
-use Rattle.ad_access.specs.Grant.{decides, is_allow, sets_owner_rights, is_of_owners, granted_by_entries}
+use Rattle.ad_access.specs.Grant.{decides, is_allow, sets_owner_rights, is_implicit_owner_right, granted_by_entries}
 use Rattle.ad_access.specs.Grant.{granted_as_owner, granted_to, granted_to_holders, granted}
 use Rattle.ad_dir_model.specs.Directory.{Directory}
 use Rattle.ad_dir_model.specs.Objects.{sd_at}
@@ -88,7 +88,7 @@ module _ (named : List SidValue) (a b : Token) (bare_a : IsBare a) (bare_b : IsB
       → granted_as_owner owner dacl (first_holder a) bit ≡ granted_as_owner owner dacl (first_holder b) bit
   unfolding granted_as_owner
   same_owned dacl owner bit owned =
-      ap (λ (q : Bool). is_of_owners bit && q && not (list_any sets_owner_rights dacl))
+      ap (λ (q : Bool). is_implicit_owner_right bit && q && not (list_any sets_owner_rights dacl))
       (same_held named a b owner alike.held owned)
 
 unrestricted : (owner : SidValue) (dacl : List Entry) (token : Token) (path : List Guid) (bit : ℕ) → IsBare token

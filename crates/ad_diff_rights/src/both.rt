@@ -73,7 +73,7 @@ pub fn objects_of_both(alloc: Global, before: &Dir, after: &Dir) -> Result<Vec<B
     ensures are { IfOk result (λ all. all.items ≡ objects_of_both before.now after.now) }
     ensures live { IfOk result (λ all. All (IsLiveBoth before.now after.now) all.items) }
 {
-    after.stands();
+    after.invariants();
     let numbers = before.numbers(alloc)?;
     both_among(alloc, before, after, numbers.as_slice())
 }

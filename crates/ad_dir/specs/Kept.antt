@@ -27,7 +27,7 @@ dir_seen schema entries pending meta = record {
       = meta_seen meta;
 }
 
-pub record IsKept (schema : List SchemaRecord) (objects : List Entry) (index : Index) (flags : List Bool)
+pub record IsStoredDir (schema : List SchemaRecord) (objects : List Entry) (index : Index) (flags : List Bool)
     (links : List (ℕ × ℕ)) (weight : Option ℕ) : Type 0 where
   pub sids : HaveTheirSids schema objects
   pub standing : AreStanding schema (objects_in objects)

@@ -23,7 +23,7 @@ ghost use Rattle.ad_dir.specs.Conditions.{MayApply, MayPut, with_sd};
 ghost use Rattle.ad_dir_objects.specs.declared.edit.Edit.TheVariants as Edit;
 
 use crate::weight::{if_put, weight_of_all, weight_with, weight_without};
-use crate::{holding, linking, values};
+use crate::{indexed_objects, linking, values};
 use ad_dir_links::{Links, indexed_attrs, links_of_all, mark_of_name, next_holder};
 use ad_dir_objects::{Edit, Meta, Object};
 use ad_dir_table::{Index, NameKey, Objects, children_of, next_child, with_name, with_sid};
@@ -72,13 +72,13 @@ impl Drop for Dir {
 
 impl Model for Dir {
     ghost use Rattle.ad_dir_model.specs.Directory.{Directory};
-    ghost use Rattle.ad_dir.specs.Kept.{dir_seen, IsKept};
+    ghost use Rattle.ad_dir.specs.Kept.{dir_seen, IsStoredDir};
 
     ghost Value = { Directory };
 
     ghost view = { λ dir. dir_seen dir.schema dir.objects.entries dir.queue dir.meta };
 
-    ghost invariant = { λ dir. IsKept dir.schema dir.objects.entries dir.index dir.indexed.items
+    ghost invariant = { λ dir. IsStoredDir dir.schema dir.objects.entries dir.index dir.indexed.items
         dir.links.entries dir.weight };
 }
 
@@ -136,7 +136,7 @@ impl Dir {
         let weight = weight_of_all(&schema, objects.as_slice());
         let indexed = indexed_attrs(alloc, &schema)?;
         let links = links_of_all(alloc, indexed.as_slice(), objects.as_slice())?;
-        let (objects, index) = holding::all_of(alloc, &schema, objects)?;
+        let (objects, index) = indexed_objects::all_of(alloc, &schema, objects)?;
         Ok(Dir {
             schema,
             objects,
@@ -150,7 +150,7 @@ impl Dir {
     }
 
     /// What holds of the objects of every directory.
-    pub fn stands(&self)
+    pub fn invariants(&self)
         ensures { AreStanding self.now.schema self.now.objects }
     {
         let _ = &self.meta;

@@ -76,7 +76,7 @@ impl Dir {
     pub fn holders(&self, alloc: Global, target: u32) -> Result<Vec<u32>, AllocError>
         ensures { IfOk result (λ all. all.items ≡ holders self.now.objects target) }
     {
-        self.stands();
+        self.invariants();
         let mut found = Vec::new(alloc);
         let mut above = 0u32;
         'each: while let Some(next) = self.next_holder(target, above) {

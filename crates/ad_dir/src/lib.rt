@@ -29,7 +29,7 @@
 
 mod dir;
 mod holders;
-mod holding;
+mod indexed_objects;
 mod linking;
 mod live;
 mod names;

@@ -13,7 +13,7 @@ ghost use Rattle.ad_dir_table.specs.Entry.{objects_in, HaveTheirSids};
 ghost use Rattle.ad_dir_table.specs.Lists.{ListsRise};
 ghost use Rattle.ad_dir_table.specs.Indexed.{AreNamed, IsIndexed, HasOwnKeys};
 
-use crate::holding;
+use crate::indexed_objects;
 use ad_dir_links::{LinkChange, Links, add_links, drop_links, forget_holder, link_change};
 use ad_dir_objects::Object;
 use ad_dir_table::{Index, Objects};
@@ -90,7 +90,7 @@ pub(crate) fn put(
     let alloc = *index.names.allocator();
     let number = object.number;
     let change = count_more(alloc, objects, links, indexed, &object)?;
-    let put = holding::put(objects, index, schema, object, bytes);
+    let put = indexed_objects::put(objects, index, schema, object, bytes);
     count_less(links, number, &change, &put);
     put
 }
@@ -129,5 +129,5 @@ pub(crate) fn remove(
 {
     let alloc = *index.names.allocator();
     forget(alloc, objects, links, indexed, number);
-    holding::remove(objects, index, number);
+    indexed_objects::remove(objects, index, number);
 }

@@ -43,7 +43,7 @@ pub fn class_of(dir: &Dir, number: u32) -> ClassId
     ensures class { result.0 ≡ (object_at dir.now.objects number).class }
     ensures in_range { result.0 < length (classes_of dir.now.schema) }
 {
-    dir.stands();
+    dir.invariants();
     live_object(dir, number).class
 }
 
@@ -63,6 +63,6 @@ pub fn parent_of(dir: &Dir, number: u32) -> u32
     ensures parent { result ≡ parent_at dir.now.objects number }
     ensures live { is_live dir.now.objects result ≡ true }
 {
-    dir.stands();
+    dir.invariants();
     live_object(dir, number).parent
 }

@@ -65,7 +65,7 @@ fn rdn_of(alloc: Global, dir: &Dir, number: u32) -> Result<Rdn, AllocError>
         (object_at dir.now.objects number)) }
     ensures rdn { IfOk result IsRdn }
 {
-    dir.stands();
+    dir.invariants();
     let object = live_object(dir, number);
     rdn_of_class(alloc, dir.schema(), object.class, object.name.as_slice())
 }
@@ -136,7 +136,7 @@ fn has_rdn(dir: &Dir, number: u32, kind: &[u8], value: &[u8]) -> bool
         (names.rdn_of dir.now.schema (object_at dir.now.objects number))
         (record { kind = kind.now; value = value.now }) }
 {
-    dir.stands();
+    dir.invariants();
     let object = live_object(dir, number);
     is_of_rdn(
         dir.schema(),
@@ -168,7 +168,7 @@ pub(crate) fn typed_child(dir: &Dir, parent: u32, kind: &[u8], value: &[u8]) -> 
     ensures { result ≡ names.child_of_rdn dir.now parent
         (record { kind = kind.now; value = value.now }) }
 {
-    dir.stands();
+    dir.invariants();
     match dir.child_named(parent, value) {
         Some(child) => if_rdn(dir, child, kind, value),
         None => None,
@@ -252,7 +252,7 @@ impl Dir {
             IfSome found (λ number. is_live self.now.objects number ≡ true)) }
         ensures succeeds { IsOk result }
     {
-        self.stands();
+        self.invariants();
         Ok(found(self, dn))
     }
 

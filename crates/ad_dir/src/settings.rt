@@ -89,7 +89,7 @@ fn setting_of(dir: &Dir, number: u32, place: usize) -> Option<char>
     ensures { result ≡ slice_get (option_map_or (λ v. chars v.shown)
         (first_of_attr (heuristics dir.now.schema) (object_at dir.now.objects number)) []) place }
 {
-    dir.stands();
+    dir.invariants();
     match heuristics(dir, number) {
         Some(value) => setting_at(value.shown(), place),
         None => None,
@@ -101,7 +101,7 @@ fn setting_of(dir: &Dir, number: u32, place: usize) -> Option<char>
 fn setting(dir: &Dir, place: usize) -> Option<char>
     ensures { result ≡ slice_get (settings dir.now) place }
 {
-    dir.stands();
+    dir.invariants();
     match directory_service(dir) {
         Some(number) => setting_of(dir, number, place),
         None => None,

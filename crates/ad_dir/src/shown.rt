@@ -177,7 +177,7 @@ pub(crate) fn shown(
     requires { is_live dir.now.objects number ≡ true }
     ensures { IfOk result (λ values. values.items ≡ shown.shown dir.now number attr.0) }
 {
-    dir.stands();
+    dir.invariants();
     let object = live_object(dir, number);
     let schema = dir.schema();
     let syntax = syntax_of(schema, attr);

@@ -20,7 +20,7 @@ use Rattle.ad_dir_model.specs.Identity.{sid_in}
 use Rattle.ad_dir_model.proofs.Finding.{of_number, at-of}
 use Rattle.ad_dir_model.proofs.StepSound.{sid_with_sd}
 use Rattle.ad_dir_objects.specs.Seen.{object_seen}
-use Rattle.ad_dir_table.specs.declared.kept.Kept.{Kept}
+use Rattle.ad_dir_table.specs.declared.stored_object.StoredObject.{StoredObject}
 use Rattle.ad_dir_table.specs.Entry.{HasItsSid, HaveTheirSids}
 use Rattle.ad_dir_table.specs.Fields.{AllKept, AreKeyed, HasNormal, kept_sid, object_kept, objects_kept}
 use Rattle.ad_dir_table.specs.Fields.{entry_kept, entries_kept, with_id}
@@ -29,15 +29,15 @@ use Rattle.ad_dir_table.proofs.Keeping.{Shares, SharesBut, but_live, sids_kept}
 use Rattle.ad_dir_table.proofs.Done.{IsPutDone, put_done, shares_but}
 
 -- what stands at the number of a live object
-record IsFound (number : ℕ) (entries : List (ℕ × Kept)) : Type 0 where
-  kept : Kept
+record IsFound (number : ℕ) (entries : List (ℕ × StoredObject)) : Type 0 where
+  kept : StoredObject
   at : lookup (is_at (nat_cmp number)) entries ≡ Some kept
 
-live_found : (live : List Extent) (entries : List (ℕ × Kept)) (number : ℕ) → AreKeyed entries
+live_found : (live : List Extent) (entries : List (ℕ × StoredObject)) (number : ℕ) → AreKeyed entries
     → is_live (objects_kept live entries) number ≡ true → IsFound number entries
 live_found live entries number keyed is = by_found (lookup (is_at (nat_cmp number)) entries) refl
   where
-    by_found : (f : Option Kept) → lookup (is_at (nat_cmp number)) entries ≡ f → IsFound number entries
+    by_found : (f : Option StoredObject) → lookup (is_at (nat_cmp number)) entries ≡ f → IsFound number entries
     by_found None none =
         let gone : object_of (objects_kept live entries) number ≡ None = sym (found live entries number keyed)
         ∙ ap (option_map (object_kept live)) none in
@@ -46,15 +46,15 @@ live_found live entries number keyed is = by_found (lookup (is_at (nat_cmp numbe
     by_found (Some kept) at = record { kept = kept; at = at }
 
 -- the id at the number is another
-abbrev pub AsSet : ℕ → SdId → List (ℕ × Kept) → List (ℕ × Kept) → Type 0
+abbrev pub AsSet : ℕ → SdId → List (ℕ × StoredObject) → List (ℕ × StoredObject) → Type 0
 AsSet number id old new = MatchOption (lookup (is_at (nat_cmp number)) old) (new ≡ old)
-    (λ (k : Kept). new ≡ insert_entry nat_cmp old number (with_id id k))
+    (λ (k : StoredObject). new ≡ insert_entry nat_cmp old number (with_id id k))
 
 -- the id that stood there
-abbrev pub WasAt : ℕ → List (ℕ × Kept) → Option SdId → Type 0
-WasAt number old was = was ≡ option_map (λ (k : Kept). k.id) (lookup (is_at (nat_cmp number)) old)
+abbrev pub WasAt : ℕ → List (ℕ × StoredObject) → Option SdId → Type 0
+WasAt number old was = was ≡ option_map (λ (k : StoredObject). k.id) (lookup (is_at (nat_cmp number)) old)
 
-pub record IsDescribed (number : ℕ) (bytes : List ℕ) (before after : List Extent) (old new : List (ℕ × Kept)) : Type 0
+pub record IsDescribed (number : ℕ) (bytes : List ℕ) (before after : List Extent) (old new : List (ℕ × StoredObject)) : Type 0
   where
     pub keyed : AreKeyed new
     pub normal : AllKept (HasNormal after) new
@@ -64,7 +64,7 @@ pub record IsDescribed (number : ℕ) (bytes : List ℕ) (before after : List Ex
     pub sids : (schema : List SchemaRecord) → HaveTheirSids schema (entries_kept before old)
         → HaveTheirSids schema (entries_kept after new)
 
-module _ (before : List Extent) (old : List (ℕ × Kept)) (keyed : AreKeyed old)
+module _ (before : List Extent) (old : List (ℕ × StoredObject)) (keyed : AreKeyed old)
     (sorted : IsStrictlySortedBy nat_cmp (keys_of old)) (normal : AllKept (HasNormal before) old)
     (shares : Shares before old) (number : ℕ) (live : is_live (objects_kept before old) number ≡ true) (id : SdId)
     (bytes : List ℕ) (mid : Pool) (spells : SpellsNormal (sd_in bytes) bytes)
@@ -78,27 +78,27 @@ module _ (before : List Extent) (old : List (ℕ × Kept)) (keyed : AreKeyed old
   own : here.kept.object.number ≡ number
   own = of_number (objects_kept before old) number (object_kept before here.kept) is_here
 
-  abbrev kept : Kept
+  abbrev kept : StoredObject
   kept = with_id id here.kept
 
-  new_is : (new : List (ℕ × Kept)) → AsSet number id old new → new ≡ insert_entry nat_cmp old kept.object.number kept
+  new_is : (new : List (ℕ × StoredObject)) → AsSet number id old new → new ≡ insert_entry nat_cmp old kept.object.number kept
   new_is new is =
-      subst (λ (f : Option Kept). MatchOption f (new ≡ old)
-      (λ (k : Kept). new ≡ insert_entry nat_cmp old number (with_id id k))) here.at is
+      subst (λ (f : Option StoredObject). MatchOption f (new ≡ old)
+      (λ (k : StoredObject). new ≡ insert_entry nat_cmp old number (with_id id k))) here.at is
       ∙ ap (λ (m : ℕ). insert_entry nat_cmp old m kept) (sym own)
 
   was_is : (was : Option SdId) → WasAt number old was → WasAt kept.object.number old was
   was_is was is = subst (λ (m : ℕ). WasAt m old was) (sym own) is
 
   -- the id that stood there may be given back
-  pub given_up : (was : Option SdId) (new : List (ℕ × Kept)) → AsSet number id old new → WasAt number old was
+  pub given_up : (was : Option SdId) (new : List (ℕ × StoredObject)) → AsSet number id old new → WasAt number old was
       → IfSome was (λ w. is_held mid.live w.0 ≡ true)
   given_up was new set is =
       but_live mid.live (insert_entry nat_cmp old kept.object.number kept) was
       (subst (SharesBut mid.live (insert_entry nat_cmp old kept.object.number kept)) (sym (was_is was is))
       (shares_but before old keyed sorted normal shares id bytes here.kept.object kept mid spells added refl refl))
 
-  pub described : (after : Pool) (was : Option SdId) (new : List (ℕ × Kept)) → AsSet number id old new
+  pub described : (after : Pool) (was : Option SdId) (new : List (ℕ × StoredObject)) → AsSet number id old new
       → WasAt number old was
       → IfSome was (λ w. IsTaken mid.live after.live w.0) → IfNone was (after ≡ mid)
       → IsDescribed number bytes before after.live old new
@@ -118,6 +118,6 @@ module _ (before : List Extent) (old : List (ℕ × Kept)) (keyed : AreKeyed old
       noted : (schema : List SchemaRecord) → HaveTheirSids schema (entries_kept before old) → (sd : Sd)
           → kept_sid kept ≡ sid_in schema (object_seen here.kept.object sd)
       noted schema all sd =
-          found_with (λ (k : Kept). HasItsSid schema (entry_kept before k)) (is_at (nat_cmp number)) old here.kept
+          found_with (λ (k : StoredObject). HasItsSid schema (entry_kept before k)) (is_at (nat_cmp number)) old here.kept
           (sids_kept schema before old all) here.at
           ∙ sym (sid_with_sd schema (object_kept before here.kept) sd)

@@ -19,7 +19,7 @@ use Rattle.ad_dir_model.specs.Objects.{put, removed}
 use Rattle.ad_dir_model.specs.Identity.{sid_in}
 use Rattle.ad_dir_objects.specs.declared.object.Object.{Object as ObjectIn}
 use Rattle.ad_dir_objects.specs.Seen.{object_seen}
-use Rattle.ad_dir_table.specs.declared.kept.Kept.{Kept}
+use Rattle.ad_dir_table.specs.declared.stored_object.StoredObject.{StoredObject}
 use Rattle.ad_dir_table.specs.Entry.{objects_in, HasItsSid, HaveTheirSids}
 use Rattle.ad_dir_table.specs.Fields.{AllKept, AreKeyed, HasNormal, IsNormalAt, sd_of, kept_sid, object_kept}
 use Rattle.ad_dir_table.specs.Fields.{objects_kept, entry_kept, entries_kept}
@@ -29,8 +29,8 @@ use Rattle.ad_dir_table.proofs.Keeping.{settles_after, settles_again, put_shares
 use Rattle.ad_dir_table.proofs.Keeping.{sids_seen}
 
 -- what a put leaves
-pub record IsPutDone (object : ObjectIn) (bytes : List ℕ) (kept : Kept) (before after : List Extent)
-    (old new : List (ℕ × Kept)) : Type 0 where
+pub record IsPutDone (object : ObjectIn) (bytes : List ℕ) (kept : StoredObject) (before after : List Extent)
+    (old new : List (ℕ × StoredObject)) : Type 0 where
   pub keyed : AreKeyed new
   pub normal : AllKept (HasNormal after) new
   pub shares : Shares after new
@@ -38,10 +38,10 @@ pub record IsPutDone (object : ObjectIn) (bytes : List ℕ) (kept : Kept) (befor
   pub sids : (schema : List SchemaRecord) → ((sd : Sd) → kept_sid kept ≡ sid_in schema (object_seen object sd))
       → HaveTheirSids schema (entries_kept before old) → HaveTheirSids schema (entries_kept after new)
 
-module _ (before : List Extent) (old : List (ℕ × Kept)) (keyed : AreKeyed old)
+module _ (before : List Extent) (old : List (ℕ × StoredObject)) (keyed : AreKeyed old)
     (sorted : IsStrictlySortedBy nat_cmp (keys_of old)) (normal : AllKept (HasNormal before) old)
     (shares : Shares before old) where
-  module _ (id : SdId) (bytes : List ℕ) (object : ObjectIn) (kept : Kept) (mid : Pool)
+  module _ (id : SdId) (bytes : List ℕ) (object : ObjectIn) (kept : StoredObject) (mid : Pool)
       (spells : SpellsNormal (sd_in bytes) bytes) (added : IsAdded before mid.live id.0 bytes)
       (is : kept.object ≡ object) (own : kept.id ≡ id) where
     number : ℕ
@@ -62,17 +62,17 @@ module _ (before : List Extent) (old : List (ℕ × Kept)) (keyed : AreKeyed old
 
     -- the ids that are named, but for that of the object before
     pub shares_but : SharesBut mid.live (insert_entry nat_cmp old kept.object.number kept)
-        (option_map (λ (k : Kept). k.id) (lookup (is_at (nat_cmp kept.object.number)) old))
+        (option_map (λ (k : StoredObject). k.id) (lookup (is_at (nat_cmp kept.object.number)) old))
     shares_but = put_shares before mid.live id.0 bytes old kept.object.number kept sorted shares added
         (ap (λ (i : SdId). i.0) own)
 
-    pub put_done : (after : Pool) (was : Option SdId) (new : List (ℕ × Kept)) → new ≡ insert_entry nat_cmp old
+    pub put_done : (after : Pool) (was : Option SdId) (new : List (ℕ × StoredObject)) → new ≡ insert_entry nat_cmp old
         kept.object.number kept
-        → was ≡ option_map (λ (k : Kept). k.id) (lookup (is_at (nat_cmp kept.object.number)) old)
+        → was ≡ option_map (λ (k : StoredObject). k.id) (lookup (is_at (nat_cmp kept.object.number)) old)
         → IfSome was (λ w. IsTaken mid.live after.live w.0) → IfNone was (after ≡ mid) → IsPutDone object bytes kept
         before after.live old new
     put_done after was new entries was_is taken none =
-        subst (λ (es : List (ℕ × Kept)). IsPutDone object bytes kept before after.live old es) (sym entries) (record {
+        subst (λ (es : List (ℕ × StoredObject)). IsPutDone object bytes kept before after.live old es) (sym entries) (record {
           keyed = (inserted mid.live old kept.object.number kept refl keyed).keyed;
           normal = normal_same mid.live after.live with_new settled.same
               (all_inserted (HasNormal mid.live) old kept.object.number kept new_normal
@@ -86,14 +86,14 @@ module _ (before : List Extent) (old : List (ℕ × Kept)) (keyed : AreKeyed old
           sids = λ schema noted all.
               subst (HaveTheirSids schema) (sym (seen_same mid.live after.live with_new settled.same))
               (sids_seen schema mid.live with_new
-              (all_inserted (λ (k : Kept). HasItsSid schema (entry_kept mid.live k)) old kept.object.number kept
+              (all_inserted (λ (k : StoredObject). HasItsSid schema (entry_kept mid.live k)) old kept.object.number kept
               (subst (λ (o : ObjectIn). kept_sid kept ≡ sid_in schema (object_seen o (sd_of mid.live kept.id.0)))
               (sym is) (noted (sd_of mid.live kept.id.0)))
               (sids_kept schema mid.live old (subst (HaveTheirSids schema) (sym (seen_same before mid.live old same))
               all))));
         })
       where
-        with_new : List (ℕ × Kept)
+        with_new : List (ℕ × StoredObject)
         with_new = insert_entry nat_cmp old kept.object.number kept
 
         settled : Settles mid.live after.live with_new
@@ -105,7 +105,7 @@ module _ (before : List Extent) (old : List (ℕ × Kept)) (keyed : AreKeyed old
     undone after taken = settles_again before mid.live after id bytes old shares added taken
 
 -- what a removal leaves
-pub record IsRemoveDone (number : ℕ) (before after : List Extent) (old new : List (ℕ × Kept)) : Type 0 where
+pub record IsRemoveDone (number : ℕ) (before after : List Extent) (old new : List (ℕ × StoredObject)) : Type 0 where
   pub keyed : AreKeyed new
   pub normal : AllKept (HasNormal after) new
   pub shares : Shares after new
@@ -113,14 +113,14 @@ pub record IsRemoveDone (number : ℕ) (before after : List Extent) (old new : L
   pub sids : (schema : List SchemaRecord) → HaveTheirSids schema (entries_kept before old)
       → HaveTheirSids schema (entries_kept after new)
 
-pub remove_done : (before after : Pool) (old new : List (ℕ × Kept)) (number : ℕ) (was : Option SdId) → AreKeyed old
+pub remove_done : (before after : Pool) (old new : List (ℕ × StoredObject)) (number : ℕ) (was : Option SdId) → AreKeyed old
     → IsStrictlySortedBy nat_cmp (keys_of old) → AllKept (HasNormal before.live) old → Shares before.live old
-    → new ≡ remove_entry (is_at (nat_cmp number)) old → was ≡ option_map (λ (k : Kept). k.id)
+    → new ≡ remove_entry (is_at (nat_cmp number)) old → was ≡ option_map (λ (k : StoredObject). k.id)
     (lookup (is_at (nat_cmp number)) old)
     → IfSome was (λ w. IsTaken before.live after.live w.0) → IfNone was (after ≡ before)
     → IsRemoveDone number before.live after.live old new
 remove_done before after old new number was keyed sorted normal shares entries was_is taken none =
-    subst (λ (es : List (ℕ × Kept)). IsRemoveDone number before.live after.live old es) (sym entries) (record {
+    subst (λ (es : List (ℕ × StoredObject)). IsRemoveDone number before.live after.live old es) (sym entries) (record {
       keyed = (gone before.live old number keyed sorted).keyed;
       normal = normal_same before.live after.live left settled.same
           (all_taken (HasNormal before.live) (is_at (nat_cmp number)) old normal);
@@ -130,11 +130,11 @@ remove_done before after old new number was keyed sorted normal shares entries w
       sids = λ schema all.
           subst (HaveTheirSids schema) (sym (seen_same before.live after.live left settled.same))
           (sids_seen schema before.live left
-          (all_taken (λ (k : Kept). HasItsSid schema (entry_kept before.live k)) (is_at (nat_cmp number)) old
+          (all_taken (λ (k : StoredObject). HasItsSid schema (entry_kept before.live k)) (is_at (nat_cmp number)) old
           (sids_kept schema before.live old all)));
     })
   where
-    left : List (ℕ × Kept)
+    left : List (ℕ × StoredObject)
     left = remove_entry (is_at (nat_cmp number)) old
 
     settled : Settles before.live after.live left
@@ -142,10 +142,10 @@ remove_done before after old new number was keyed sorted normal shares entries w
         (subst (SharesBut before.live left) (sym was_is)
         (removed_shares before.live old (is_at (nat_cmp number)) shares)) taken none
 
-pub length_seen : (live : List Extent) (entries : List (ℕ × Kept)) (n : ℕ) → length (entries_kept live entries) < n
+pub length_seen : (live : List Extent) (entries : List (ℕ × StoredObject)) (n : ℕ) → length (entries_kept live entries) < n
     → length entries < n
 length_seen live entries n few = let same = long entries in omega (arith, same, few)
   where
-    long : (es : List (ℕ × Kept)) → length (entries_kept live es) ≡ length es
+    long : (es : List (ℕ × StoredObject)) → length (entries_kept live es) ≡ length es
     long [] = refl
     long (e ∷ es) = let rest = long es in omega (arith, rest)

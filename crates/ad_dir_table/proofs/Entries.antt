@@ -12,7 +12,7 @@ use Rattle.std.specs.declared.cmp.Ordering.TheVariants.{Less, Equal, Greater}
 use Rattle.std.proofs.lemmas.Bool.{cases_Bool, eqb-true}
 use Rattle.std.proofs.lemmas.Bool.Decides.{nat_tests}
 use Rattle.sd_pool.specs.Blocks.{Extent}
-use Rattle.ad_dir_table.specs.declared.kept.Kept.{Kept}
+use Rattle.ad_dir_table.specs.declared.stored_object.StoredObject.{StoredObject}
 use Rattle.std.proofs.lemmas.List.{append-nil}
 use Rattle.std.proofs.lemmas.Option.{same_Some}
 use Rattle.std.specs.Map.{values_of}
@@ -76,7 +76,7 @@ at_is n m = by_case (compared n m)
 module _ (live : List Extent) where
   -- ---- finding
 
-  found_in : (entries : List (ℕ × Kept)) (number : ℕ) → AreKeyed entries → option_map (object_kept live)
+  found_in : (entries : List (ℕ × StoredObject)) (number : ℕ) → AreKeyed entries → option_map (object_kept live)
       (lookup (is_at (nat_cmp number)) entries) ≡ find (has_number number) (objects_kept live entries)
   found_in [] number keyed = refl
   found_in (entry ∷ entries) number keyed =
@@ -93,12 +93,12 @@ module _ (live : List Extent) where
       by_test true rest = refl
       by_test false rest = rest
 
-  pub found : (entries : List (ℕ × Kept)) (number : ℕ) → AreKeyed entries → option_map (object_kept live)
+  pub found : (entries : List (ℕ × StoredObject)) (number : ℕ) → AreKeyed entries → option_map (object_kept live)
       (lookup (is_at (nat_cmp number)) entries) ≡ object_of (objects_kept live entries) number
   unfolding object_of
   found entries number keyed = found_in entries number keyed
 
-  pub through : (found : Option (Bor Kept)) → option_map (λ kept. object_kept live kept.now) found
+  pub through : (found : Option (Bor StoredObject)) → option_map (λ kept. object_kept live kept.now) found
       ≡ option_map (object_kept live) (option_copied found)
   through None = refl
   through (Some kept) = refl
@@ -106,11 +106,11 @@ module _ (live : List Extent) where
   -- ---- putting
 
   -- what an insertion makes of the entries
-  pub record IsPut (entries : List (ℕ × Kept)) (kept : Kept) (new : List (ℕ × Kept)) : Type 0 where
+  pub record IsPut (entries : List (ℕ × StoredObject)) (kept : StoredObject) (new : List (ℕ × StoredObject)) : Type 0 where
     pub keyed : AreKeyed new
     pub seen : objects_kept live new ≡ put (object_kept live kept) (objects_kept live entries)
 
-  pub inserted : (entries : List (ℕ × Kept)) (number : ℕ) (kept : Kept) → number ≡ kept.object.number
+  pub inserted : (entries : List (ℕ × StoredObject)) (number : ℕ) (kept : StoredObject) → number ≡ kept.object.number
       → AreKeyed entries → IsPut entries kept (insert_entry nat_cmp entries number kept)
   unfolding put
   inserted [] number kept is keyed = record { keyed = (is, tt); seen = refl }
@@ -148,20 +148,20 @@ module _ (live : List Extent) where
           → IsPut (entry ∷ entries) kept (insert_entry nat_cmp (entry ∷ entries) number kept)
       by_case (less h) rest =
           let t = tests false true h.differ h.below in
-          subst (λ (new : List (ℕ × Kept)). IsPut (entry ∷ entries) kept new)
+          subst (λ (new : List (ℕ × StoredObject)). IsPut (entry ∷ entries) kept new)
           (ap (λ (o : Ordering). match_ordering o ((number, kept) ∷ entry ∷ entries) ((entry.0, kept) ∷ entries)
           (entry ∷ insert_entry nat_cmp entries number kept)) (sym h.is))
           (record { keyed = (is, keyed); seen = sym (at_entry false true t.0 t.1) })
       by_case (equal h) rest =
           let t = tests true (ltb number entry.0) h.same refl in
           let one : entry.0 ≡ number = eqb-true entry.0 number h.same in
-          subst (λ (new : List (ℕ × Kept)). IsPut (entry ∷ entries) kept new)
+          subst (λ (new : List (ℕ × StoredObject)). IsPut (entry ∷ entries) kept new)
           (ap (λ (o : Ordering). match_ordering o ((number, kept) ∷ entry ∷ entries) ((entry.0, kept) ∷ entries)
           (entry ∷ insert_entry nat_cmp entries number kept)) (sym h.is))
           (record { keyed = (one ∙ is, keyed.1); seen = sym (at_entry true (ltb number entry.0) t.0 t.1) })
       by_case (greater h) rest =
           let t = tests false false h.differ h.below in
-          subst (λ (new : List (ℕ × Kept)). IsPut (entry ∷ entries) kept new)
+          subst (λ (new : List (ℕ × StoredObject)). IsPut (entry ∷ entries) kept new)
           (ap (λ (o : Ordering). match_ordering o ((number, kept) ∷ entry ∷ entries) ((entry.0, kept) ∷ entries)
           (entry ∷ insert_entry nat_cmp entries number kept)) (sym h.is))
           (record {
@@ -173,7 +173,7 @@ module _ (live : List Extent) where
   -- ---- removing
 
   -- where each number is above this one, this one isn't among them
-  none_removed : (number : ℕ) (entries : List (ℕ × Kept)) → AreKeyed entries
+  none_removed : (number : ℕ) (entries : List (ℕ × StoredObject)) → AreKeyed entries
       → AllByRecursion (λ (k : ℕ). nat_cmp number k ≡ Less) (keys_of entries)
       → filter (λ (o : Object). not (has_number number o)) (objects_kept live entries) ≡ objects_kept live entries
   none_removed number [] keyed above = refl
@@ -188,11 +188,11 @@ module _ (live : List Extent) where
       differ (equal h) = let bad : Less ≡ Equal = sym above.0 ∙ h.is in absurd cc
       differ (greater h) = ap (λ (k : ℕ). eqb k number) (sym keyed.0) ∙ h.differ
 
-  pub record IsRemoved (entries : List (ℕ × Kept)) (number : ℕ) (new : List (ℕ × Kept)) : Type 0 where
+  pub record IsRemoved (entries : List (ℕ × StoredObject)) (number : ℕ) (new : List (ℕ × StoredObject)) : Type 0 where
     pub keyed : AreKeyed new
     pub seen : objects_kept live new ≡ removed number (objects_kept live entries)
 
-  taken : (entries : List (ℕ × Kept)) (number : ℕ) → AreKeyed entries → IsStrictlySortedBy nat_cmp (keys_of entries)
+  taken : (entries : List (ℕ × StoredObject)) (number : ℕ) → AreKeyed entries → IsStrictlySortedBy nat_cmp (keys_of entries)
       → IsRemoved entries number (remove_entry (is_at (nat_cmp number)) entries)
   unfolding removed IsStrictlySortedBy
   taken [] number keyed sorted = record { keyed = tt; seen = refl }
@@ -224,23 +224,23 @@ module _ (live : List Extent) where
           let one : entry.0 ≡ number = keyed.0 ∙ eqb-true entry.1.object.number number is in
           let above : AllByRecursion (λ (k : ℕ). nat_cmp number k ≡ Less) (keys_of entries)
           = subst (λ (n : ℕ). AllByRecursion (λ (k : ℕ). nat_cmp n k ≡ Less) (keys_of entries)) one sorted.0 in
-          subst (λ (new : List (ℕ × Kept)). IsRemoved (entry ∷ entries) number new) (as_new true is)
+          subst (λ (new : List (ℕ × StoredObject)). IsRemoved (entry ∷ entries) number new) (as_new true is)
           (record { keyed = keyed.1; seen = sym (none_removed number entries keyed.1 above) ∙ as_old true is })
       by_test false is rest =
-          subst (λ (new : List (ℕ × Kept)). IsRemoved (entry ∷ entries) number new) (as_new false is)
+          subst (λ (new : List (ℕ × StoredObject)). IsRemoved (entry ∷ entries) number new) (as_new false is)
           (record {
             keyed = (keyed.0, rest.keyed);
             seen = ap (λ (os : List Object). object_kept live entry.1 ∷ os)
                 rest.seen ∙ as_old false is;
           })
 
-  pub gone : (entries : List (ℕ × Kept)) (number : ℕ) → AreKeyed entries → IsStrictlySortedBy nat_cmp
+  pub gone : (entries : List (ℕ × StoredObject)) (number : ℕ) → AreKeyed entries → IsStrictlySortedBy nat_cmp
       (keys_of entries) → IsRemoved entries number (remove_entry (is_at (nat_cmp number)) entries)
   gone entries number keyed sorted = taken entries number keyed sorted
 
 -- ---- what holds of each object
 
-pub all_inserted : (P : Kept → Type 0) (entries : List (ℕ × Kept)) (number : ℕ) (kept : Kept) → P kept
+pub all_inserted : (P : StoredObject → Type 0) (entries : List (ℕ × StoredObject)) (number : ℕ) (kept : StoredObject) → P kept
     → AllKept P entries → AllKept P (insert_entry nat_cmp entries number kept)
 all_inserted P [] number kept p all = (p, tt)
 all_inserted P (entry ∷ entries) number kept p all = by_case (nat_cmp number entry.0)
@@ -253,7 +253,7 @@ all_inserted P (entry ∷ entries) number kept p all = by_case (nat_cmp number e
     by_case Equal rest = (p, all.1)
     by_case Greater rest = (all.0, rest)
 
-pub all_taken : (P : Kept → Type 0) (test : ℕ → Bool) (entries : List (ℕ × Kept)) → AllKept P entries
+pub all_taken : (P : StoredObject → Type 0) (test : ℕ → Bool) (entries : List (ℕ × StoredObject)) → AllKept P entries
     → AllKept P (remove_entry test entries)
 all_taken P test [] all = tt
 all_taken P test (entry ∷ entries) all = by_test (test entry.0) (all_taken P test entries all.1)
@@ -263,7 +263,7 @@ all_taken P test (entry ∷ entries) all = by_test (test entry.0) (all_taken P t
     by_test true rest = all.1
     by_test false rest = (all.0, rest)
 
-pub found_with : (P : Kept → Type 0) (test : ℕ → Bool) (entries : List (ℕ × Kept)) (kept : Kept) → AllKept P entries
+pub found_with : (P : StoredObject → Type 0) (test : ℕ → Bool) (entries : List (ℕ × StoredObject)) (kept : StoredObject) → AllKept P entries
     → lookup test entries ≡ Some kept → P kept
 found_with P test [] kept all e = absurd cc
 found_with P test (entry ∷ entries) kept all e = by_test (test entry.0) (found_with P test entries kept all.1) e
@@ -274,7 +274,7 @@ found_with P test (entry ∷ entries) kept all e = by_test (test entry.0) (found
     by_test false rest h = rest h
 
 -- what was found has what holds of each
-pub found_if : (P : Kept → Type 0) (entries : List (ℕ × Kept)) (number : ℕ) (result : Option (Bor Kept))
+pub found_if : (P : StoredObject → Type 0) (entries : List (ℕ × StoredObject)) (number : ℕ) (result : Option (Bor StoredObject))
     → AllKept P entries
     → option_copied result ≡ lookup (is_at (nat_cmp number)) entries → IfSome result (λ kept. P kept.now)
 found_if P entries number None all e = tt
@@ -282,13 +282,13 @@ found_if P entries number (Some kept) all e = found_with P (is_at (nat_cmp numbe
 
 -- ---- the values
 
-pub numbers_seen : (live : List Extent) (entries : List (ℕ × Kept)) → map (λ (kept : Kept). kept.object.number)
+pub numbers_seen : (live : List Extent) (entries : List (ℕ × StoredObject)) → map (λ (kept : StoredObject). kept.object.number)
     (values_of entries) ≡ numbers (objects_kept live entries)
 unfolding numbers
 numbers_seen live [] = refl
 numbers_seen live (entry ∷ entries) = ap (λ (l : List ℕ). entry.1.object.number ∷ l) (again entries)
   where
-    again : (es : List (ℕ × Kept)) → map (λ (kept : Kept). kept.object.number) (values_of es)
+    again : (es : List (ℕ × StoredObject)) → map (λ (kept : StoredObject). kept.object.number) (values_of es)
         ≡ map (λ (o : Object). o.number) (objects_kept live es)
     again [] = refl
     again (e ∷ es) = ap (λ (l : List ℕ). e.1.object.number ∷ l) (again es)

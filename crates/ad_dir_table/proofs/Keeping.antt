@@ -23,13 +23,13 @@ use Rattle.sd_pool.specs.Sharers.{sharers_at, bytes_at, IsAdded, IsTaken}
 use Rattle.sd_pool.proofs.SharerLaws.{shared_live}
 use Rattle.ad_dir_objects.specs.Seen.{object_seen}
 use Rattle.ad_dir_table.proofs.Entries.{Compared, compared, less, equal, greater}
-use Rattle.ad_dir_table.specs.declared.kept.Kept.{Kept}
+use Rattle.ad_dir_table.specs.declared.stored_object.StoredObject.{StoredObject}
 use Rattle.ad_dir_table.specs.Entry.{Entry, HasItsSid, HaveTheirSids}
 use Rattle.ad_dir_table.specs.Fields.{AllKept, HasNormal, entry_kept, entries_kept, count_of, one_of}
 
 -- ---- the ids that objects name
 
-abbrev pub Shares : List Extent → List (ℕ × Kept) → Type 0
+abbrev pub Shares : List Extent → List (ℕ × StoredObject) → Type 0
 Shares live entries = (id : ℕ) → sharers_at live id ≡ count_of id entries
 
 -- a number below another is below those above that one
@@ -54,7 +54,7 @@ less_through a b c first second = by_case (compared a b) (compared b c) (compare
     by_case (greater x) y z = let bad : Less ≡ Greater = sym first ∙ x.is in absurd cc
 
 -- nothing stands at a number below all others
-none_at : (n : ℕ) (entries : List (ℕ × Kept)) → AllByRecursion (λ (k : ℕ). nat_cmp n k ≡ Less) (keys_of entries)
+none_at : (n : ℕ) (entries : List (ℕ × StoredObject)) → AllByRecursion (λ (k : ℕ). nat_cmp n k ≡ Less) (keys_of entries)
     → lookup (is_at (nat_cmp n)) entries ≡ None
 none_at n [] above = refl
 none_at n (entry ∷ entries) above =
@@ -62,7 +62,7 @@ none_at n (entry ∷ entries) above =
     ∙ none_at n entries above.1
 
 -- what is written at a number that stands there is put in its place
-pub set_inserted : (n : ℕ) (kept was : Kept) (entries : List (ℕ × Kept)) → IsStrictlySortedBy nat_cmp
+pub set_inserted : (n : ℕ) (kept was : StoredObject) (entries : List (ℕ × StoredObject)) → IsStrictlySortedBy nat_cmp
     (keys_of entries) → lookup (is_at (nat_cmp n)) entries ≡ Some was
     → set_value (is_at (nat_cmp n)) entries kept ≡ insert_entry nat_cmp entries n kept
 unfolding IsStrictlySortedBy
@@ -100,12 +100,12 @@ set_inserted n kept was (entry ∷ entries) sorted found = by_case (nat_cmp n en
         absurd (none-some was (sym (none_at n entries (later is (keys_of entries) sorted.0)) ∙ found_as Less is))
     by_case Equal is rest = step Equal is refl
     by_case Greater is rest = step Greater is
-        (ap (λ (es : List (ℕ × Kept)). entry ∷ es) (rest (found_as Greater is)))
+        (ap (λ (es : List (ℕ × StoredObject)). entry ∷ es) (rest (found_as Greater is)))
 
-abbrev counted_in : ℕ → Option Kept → ℕ
-counted_in id was = one_of id (option_map (λ (k : Kept). k.id) was)
+abbrev counted_in : ℕ → Option StoredObject → ℕ
+counted_in id was = one_of id (option_map (λ (k : StoredObject). k.id) was)
 
-pub count_inserted : (id : ℕ) (entries : List (ℕ × Kept)) (n : ℕ) (kept : Kept) → IsStrictlySortedBy nat_cmp
+pub count_inserted : (id : ℕ) (entries : List (ℕ × StoredObject)) (n : ℕ) (kept : StoredObject) → IsStrictlySortedBy nat_cmp
     (keys_of entries)
     → count_of id (insert_entry nat_cmp entries n kept) + counted_in id (lookup (is_at (nat_cmp n)) entries)
     ≡ count_of id entries + (if eqb kept.id.0 id then 1 else 0)
@@ -151,7 +151,7 @@ count_inserted id (entry ∷ entries) n kept sorted = by_case (nat_cmp n entry.0
     by_case Equal is rest = step Equal is (omega arith)
     by_case Greater is rest = step Greater is (omega (arith, rest))
 
-pub count_removed : (id : ℕ) (entries : List (ℕ × Kept)) (test : ℕ → Bool) → count_of id (remove_entry test entries)
+pub count_removed : (id : ℕ) (entries : List (ℕ × StoredObject)) (test : ℕ → Bool) → count_of id (remove_entry test entries)
     + counted_in id (lookup test entries) ≡ count_of id entries
 unfolding count_of
 count_removed id [] test = refl
@@ -164,7 +164,7 @@ count_removed id (entry ∷ entries) test = by_test (test entry.0) (count_remove
     by_test true rest = omega arith
     by_test false rest = omega (arith, rest)
 
-pub count_within : (id : ℕ) (entries : List (ℕ × Kept)) → count_of id entries ≤ length entries
+pub count_within : (id : ℕ) (entries : List (ℕ × StoredObject)) → count_of id entries ≤ length entries
 unfolding count_of
 count_within id [] = omega arith
 count_within id (entry ∷ entries) =
@@ -175,8 +175,8 @@ count_within id (entry ∷ entries) =
     ]
 
 -- each id that is named is counted
-counted_part : (whole part : List (ℕ × Kept)) → ((id : ℕ) → count_of id part ≤ count_of id whole)
-    → AllKept (λ (k : Kept). 0 < count_of k.id.0 whole) part
+counted_part : (whole part : List (ℕ × StoredObject)) → ((id : ℕ) → count_of id part ≤ count_of id whole)
+    → AllKept (λ (k : StoredObject). 0 < count_of k.id.0 whole) part
 unfolding count_of
 counted_part whole [] within = tt
 counted_part whole (entry ∷ entries) within
@@ -189,15 +189,15 @@ counted_part whole (entry ∷ entries) within
         = rw (eq-eqb entry.1.id.0 entry.1.id.0 refl) refl in
         omega (arith, all, one)
 
-pub all_counted : (entries : List (ℕ × Kept)) → AllKept (λ (k : Kept). 0 < count_of k.id.0 entries) entries
+pub all_counted : (entries : List (ℕ × StoredObject)) → AllKept (λ (k : StoredObject). 0 < count_of k.id.0 entries) entries
 all_counted entries = counted_part entries entries (λ id. omega arith)
 
 -- ---- bytes that stay
 
-abbrev pub SameBytes : List Extent → List Extent → List (ℕ × Kept) → Type 0
-SameBytes old new entries = AllKept (λ (k : Kept). bytes_at new k.id.0 ≡ bytes_at old k.id.0) entries
+abbrev pub SameBytes : List Extent → List Extent → List (ℕ × StoredObject) → Type 0
+SameBytes old new entries = AllKept (λ (k : StoredObject). bytes_at new k.id.0 ≡ bytes_at old k.id.0) entries
 
-pub seen_same : (old new : List Extent) (entries : List (ℕ × Kept)) → SameBytes old new entries
+pub seen_same : (old new : List Extent) (entries : List (ℕ × StoredObject)) → SameBytes old new entries
     → entries_kept new entries ≡ entries_kept old entries
 seen_same old new [] same = refl
 seen_same old new (entry ∷ entries) same =
@@ -207,7 +207,7 @@ seen_same old new (entry ∷ entries) same =
     made : List ℕ → Entry
     made bytes = record { object = object_seen entry.1.object (sd_in bytes); sid = (entry_kept old entry.1).sid }
 
-pub normal_same : (old new : List Extent) (entries : List (ℕ × Kept)) → SameBytes old new entries
+pub normal_same : (old new : List Extent) (entries : List (ℕ × StoredObject)) → SameBytes old new entries
     → AllKept (HasNormal old) entries → AllKept (HasNormal new) entries
 normal_same old new [] same normal = tt
 normal_same old new (entry ∷ entries) same normal = (
@@ -216,19 +216,19 @@ normal_same old new (entry ∷ entries) same normal = (
       same.1 normal.1,
 )
 
-all_named : (P Q : Kept → Type 0) (entries : List (ℕ × Kept)) → ((k : Kept) → P k → Q k) → AllKept P entries
+all_named : (P Q : StoredObject → Type 0) (entries : List (ℕ × StoredObject)) → ((k : StoredObject) → P k → Q k) → AllKept P entries
     → AllKept Q entries
 all_named P Q [] f all = tt
 all_named P Q (entry ∷ entries) f all = (f entry.1 all.0, all_named P Q entries f all.1)
 
-pub added_same : (old new : List Extent) (id : ℕ) (bytes : List ℕ) (entries : List (ℕ × Kept))
+pub added_same : (old new : List Extent) (id : ℕ) (bytes : List ℕ) (entries : List (ℕ × StoredObject))
     → IsAdded old new id bytes → Shares old entries → SameBytes old new entries
 added_same old new id bytes entries added shares =
     all_named (λ k. 0 < count_of k.id.0 entries) (λ k. bytes_at new k.id.0 ≡ bytes_at old k.id.0) entries
     (λ k counted. added.kept k.id.0 (shared_live old k.id.0 (subst (λ (n : ℕ). 0 < n) (sym (shares k.id.0)) counted)))
     (all_counted entries)
 
-pub taken_same : (old new : List Extent) (id : ℕ) (entries : List (ℕ × Kept)) → IsTaken old new id
+pub taken_same : (old new : List Extent) (id : ℕ) (entries : List (ℕ × StoredObject)) → IsTaken old new id
     → Shares new entries → SameBytes old new entries
 taken_same old new id entries taken shares =
     all_named (λ k. 0 < count_of k.id.0 entries) (λ k. bytes_at new k.id.0 ≡ bytes_at old k.id.0) entries
@@ -238,10 +238,10 @@ taken_same old new id entries taken shares =
 -- ---- giving back what is named no more
 
 -- the sharers but for one that goes are those that are named
-abbrev pub SharesBut : List Extent → List (ℕ × Kept) → Option SdId → Type 0
+abbrev pub SharesBut : List Extent → List (ℕ × StoredObject) → Option SdId → Type 0
 SharesBut live entries was = (id : ℕ) → sharers_at live id ≡ count_of id entries + one_of id was
 
-pub but_live : (live : List Extent) (entries : List (ℕ × Kept)) (was : Option SdId) → SharesBut live entries was
+pub but_live : (live : List Extent) (entries : List (ℕ × StoredObject)) (was : Option SdId) → SharesBut live entries was
     → IfSome was (λ id. is_live live id.0 ≡ true)
 but_live live entries None shares = tt
 but_live live entries (Some id) shares =
@@ -250,15 +250,15 @@ but_live live entries (Some id) shares =
     let more : 0 < sharers_at live id.0 = omega (arith, count, one) in
     shared_live live id.0 more
 
-pub record Settles (old new : List Extent) (entries : List (ℕ × Kept)) : Type 0 where
+pub record Settles (old new : List Extent) (entries : List (ℕ × StoredObject)) : Type 0 where
   pub shares : Shares new entries
   pub same : SameBytes old new entries
 
-all_same : (live : List Extent) (entries : List (ℕ × Kept)) → SameBytes live live entries
+all_same : (live : List Extent) (entries : List (ℕ × StoredObject)) → SameBytes live live entries
 all_same live [] = tt
 all_same live (entry ∷ entries) = (refl, all_same live entries)
 
-taken_settles : (old new : List Extent) (entries : List (ℕ × Kept)) (id : SdId) → SharesBut old entries (Some id)
+taken_settles : (old new : List Extent) (entries : List (ℕ × StoredObject)) (id : SdId) → SharesBut old entries (Some id)
     → IsTaken old new id.0 → Settles old new entries
 taken_settles old new entries id shares taken
     = record { shares = now; same = taken_same old new id.0 entries taken now }
@@ -266,7 +266,7 @@ taken_settles old new entries id shares taken
     now : Shares new entries
     now k = let gone = taken.sharers k in let count = shares k in omega (arith, gone, count)
 
-pub settles_after : (old new : Pool) (entries : List (ℕ × Kept)) (was : Option SdId) → SharesBut old.live entries was
+pub settles_after : (old new : Pool) (entries : List (ℕ × StoredObject)) (was : Option SdId) → SharesBut old.live entries was
     → IfSome was (λ id. IsTaken old.live new.live id.0) → IfNone was (new ≡ old)
     → Settles old.live new.live entries
 settles_after old new entries None shares taken same =
@@ -275,7 +275,7 @@ settles_after old new entries None shares taken same =
 settles_after old new entries (Some id) shares taken same = taken_settles old.live new.live entries id shares taken
 
 -- where nothing was put, what was put into the pool goes again
-pub settles_again : (before old new : List Extent) (id : SdId) (bytes : List ℕ) (entries : List (ℕ × Kept))
+pub settles_again : (before old new : List Extent) (id : SdId) (bytes : List ℕ) (entries : List (ℕ × StoredObject))
     → Shares before entries → IsAdded before old id.0 bytes → IsTaken old new id.0 → Settles before new entries
 settles_again before old new id bytes entries shares added taken =
     let back = taken_settles old new entries id (λ k. let more = added.sharers k in let count = shares k
@@ -285,15 +285,15 @@ settles_again before old new id bytes entries shares added taken =
       same = through entries (added_same before old id.0 bytes entries added shares) back.same;
     }
   where
-    through : (es : List (ℕ × Kept)) → SameBytes before old es → SameBytes old new es → SameBytes before new es
+    through : (es : List (ℕ × StoredObject)) → SameBytes before old es → SameBytes old new es → SameBytes before new es
     through [] a b = tt
     through (e ∷ es) a b = (b.0 ∙ a.0, through es a.1 b.1)
 
 -- the id that is put is named by the new object
-pub put_shares : (old new : List Extent) (id : ℕ) (bytes : List ℕ) (entries : List (ℕ × Kept)) (n : ℕ) (kept : Kept)
+pub put_shares : (old new : List Extent) (id : ℕ) (bytes : List ℕ) (entries : List (ℕ × StoredObject)) (n : ℕ) (kept : StoredObject)
     → IsStrictlySortedBy nat_cmp (keys_of entries) → Shares old entries → IsAdded old new id bytes → kept.id.0 ≡ id
     → SharesBut new (insert_entry nat_cmp entries n kept)
-    (option_map (λ (k : Kept). k.id) (lookup (is_at (nat_cmp n)) entries))
+    (option_map (λ (k : StoredObject). k.id) (lookup (is_at (nat_cmp n)) entries))
 put_shares old new id bytes entries n kept sorted shares added own k =
     let more = added.sharers k in
     let count = shares k in
@@ -302,25 +302,25 @@ put_shares old new id bytes entries n kept sorted shares added own k =
     = ap (λ (i : ℕ). if eqb i k then 1 else 0) own in
     omega (arith, more, count, both, same)
 
-pub removed_shares : (live : List Extent) (entries : List (ℕ × Kept)) (test : ℕ → Bool) → Shares live entries
-    → SharesBut live (remove_entry test entries) (option_map (λ (k : Kept). k.id) (lookup test entries))
+pub removed_shares : (live : List Extent) (entries : List (ℕ × StoredObject)) (test : ℕ → Bool) → Shares live entries
+    → SharesBut live (remove_entry test entries) (option_map (λ (k : StoredObject). k.id) (lookup test entries))
 removed_shares live entries test shares k = let count = shares k in let both = count_removed k entries test
     in omega (arith, count, both)
 
 -- ---- identifiers
 
-pub sids_kept : (schema : List SchemaRecord) (live : List Extent) (entries : List (ℕ × Kept))
-    → HaveTheirSids schema (entries_kept live entries) → AllKept (λ (k : Kept). HasItsSid schema (entry_kept live k))
+pub sids_kept : (schema : List SchemaRecord) (live : List Extent) (entries : List (ℕ × StoredObject))
+    → HaveTheirSids schema (entries_kept live entries) → AllKept (λ (k : StoredObject). HasItsSid schema (entry_kept live k))
     entries
 sids_kept schema live [] all = tt
 sids_kept schema live (entry ∷ entries) all = (all.0, sids_kept schema live entries all.1)
 
-pub sids_seen : (schema : List SchemaRecord) (live : List Extent) (entries : List (ℕ × Kept))
-    → AllKept (λ (k : Kept). HasItsSid schema (entry_kept live k)) entries
+pub sids_seen : (schema : List SchemaRecord) (live : List Extent) (entries : List (ℕ × StoredObject))
+    → AllKept (λ (k : StoredObject). HasItsSid schema (entry_kept live k)) entries
     → HaveTheirSids schema (entries_kept live entries)
 sids_seen schema live [] all = tt
 sids_seen schema live (entry ∷ entries) all = (all.0, sids_seen schema live entries all.1)
 
-pub none_shared : (live : List Extent) (entries : List (ℕ × Kept)) → live ≡ [] → entries ≡ [] → Shares live entries
+pub none_shared : (live : List Extent) (entries : List (ℕ × StoredObject)) → live ≡ [] → entries ≡ [] → Shares live entries
 unfolding sharers_at count_of extent_of
 none_shared live entries none empty id = ap (λ (l : List Extent). sharers_at l id) none ∙ sym (ap (count_of id) empty)

@@ -23,7 +23,7 @@ use Rattle.ad_dir_model.specs.Objects.{object_of, object_at, sd_at}
 use Rattle.ad_dir_model.proofs.Finding.{of-live}
 use Rattle.ad_dir_model.specs.SameSd.{same_sd}
 use Rattle.ad_dir_model.proofs.SameSdLaws.{same_sd-is, same_sd-refl}
-use Rattle.ad_dir_table.specs.declared.kept.Kept.{Kept}
+use Rattle.ad_dir_table.specs.declared.stored_object.StoredObject.{StoredObject}
 use Rattle.ad_dir_table.specs.Listing.{descriptor_count, holders}
 use Rattle.ad_dir_table.specs.Pooled.{IsPoolOf}
 use Rattle.ad_dir_table.specs.Fields.{AllKept, HasNormal, IsNormalAt, sd_of, objects_kept, count_of}
@@ -41,7 +41,7 @@ one_sd live i j normal_i normal_j same = normal_i.1 ∙ ap normal_bytes same ∙
 less_is : (n : ℕ) → 0 < n → ltb 0 n ≡ true
 less_is n lt = grind (arith, nat_tests)
 
-module _ (pool : Pool) (is : IsPool pool) (entries : List (ℕ × Kept)) (shares : Shares pool.live entries)
+module _ (pool : Pool) (is : IsPool pool) (entries : List (ℕ × StoredObject)) (shares : Shares pool.live entries)
     (normal : AllKept (HasNormal pool.live) entries) where
   named_live : (id : ℕ) → 0 < count_of id entries → is_live pool.live id ≡ true
   named_live id named = shared_live pool.live id (subst (λ (n : ℕ). 0 < n) (sym (shares id)) named)
@@ -54,7 +54,7 @@ module _ (pool : Pool) (is : IsPool pool) (entries : List (ℕ × Kept)) (shares
   unfolding count_of
   live_normal id live = named_in entries normal (live_named id live)
     where
-      named_in : (es : List (ℕ × Kept)) → AllKept (HasNormal pool.live) es → 0 < count_of id es
+      named_in : (es : List (ℕ × StoredObject)) → AllKept (HasNormal pool.live) es → 0 < count_of id es
           → IsNormalAt pool.live id
       named_in [] all some = absurd (omega (arith, some))
       named_in (e ∷ es) all some =
@@ -86,13 +86,13 @@ module _ (pool : Pool) (is : IsPool pool) (entries : List (ℕ × Kept)) (shares
         ]
       ]
 
-  AllLive : List (ℕ × Kept) → Type 0
-  AllLive es = AllKept (λ (k : Kept). is_live pool.live k.id.0 ≡ true) es
+  AllLive : List (ℕ × StoredObject) → Type 0
+  AllLive es = AllKept (λ (k : StoredObject). is_live pool.live k.id.0 ≡ true) es
 
-  ids_of : List (ℕ × Kept) → List ℕ
+  ids_of : List (ℕ × StoredObject) → List ℕ
   ids_of es = map (λ e. e.1.id.0) es
 
-  any_is : (i : ℕ) (es : List (ℕ × Kept)) → is_live pool.live i ≡ true → AllLive es
+  any_is : (i : ℕ) (es : List (ℕ × StoredObject)) → is_live pool.live i ≡ true → AllLive es
       → list_any (λ (o : Object). same_sd (sd_of pool.live i) o.sd) (objects_kept pool.live es) ≡ among i (ids_of es)
   unfolding AllLive ids_of
   any_is i [] live_i live = refl
@@ -108,7 +108,7 @@ module _ (pool : Pool) (is : IsPool pool) (entries : List (ℕ × Kept)) (shares
       by_test true rest = refl
       by_test false rest = rest
 
-  holders_are : (i : ℕ) (es : List (ℕ × Kept)) → is_live pool.live i ≡ true → AllLive es → holders (sd_of pool.live i)
+  holders_are : (i : ℕ) (es : List (ℕ × StoredObject)) → is_live pool.live i ≡ true → AllLive es → holders (sd_of pool.live i)
       (objects_kept pool.live es) ≡ count_of i es
   unfolding AllLive holders count_of
   holders_are i [] live_i live = refl
@@ -117,7 +117,7 @@ module _ (pool : Pool) (is : IsPool pool) (entries : List (ℕ × Kept)) (shares
       (same_is i e.1.id.0 live_i live.0)
       ∙ ap (λ (n : ℕ). (if eqb e.1.id.0 i then 1 else 0) + n) (holders_are i es live_i live.1)
 
-  counted : (es : List (ℕ × Kept)) → AllLive es → descriptor_count (objects_kept pool.live es) ≡ counts (ids_of es)
+  counted : (es : List (ℕ × StoredObject)) → AllLive es → descriptor_count (objects_kept pool.live es) ≡ counts (ids_of es)
   unfolding AllLive ids_of descriptor_count
   counted [] live = refl
   counted (e ∷ es) live =
@@ -125,7 +125,7 @@ module _ (pool : Pool) (is : IsPool pool) (entries : List (ℕ × Kept)) (shares
       (any_is e.1.id.0 es live.0 live.1)
       ∙ ap (λ (n : ℕ). (if among e.1.id.0 (ids_of es) then 0 else 1) + n) (counted es live.1)
 
-  among_named : (id : ℕ) (es : List (ℕ × Kept)) → among id (ids_of es) ≡ nat_lt 0 (count_of id es)
+  among_named : (id : ℕ) (es : List (ℕ × StoredObject)) → among id (ids_of es) ≡ nat_lt 0 (count_of id es)
   unfolding ids_of count_of
   among_named id [] = refl
   among_named id (e ∷ es) =
@@ -140,8 +140,8 @@ module _ (pool : Pool) (is : IsPool pool) (entries : List (ℕ × Kept)) (shares
   unfolding AllLive
   all_live = each entries (all_counted entries)
     where
-      each : (es : List (ℕ × Kept)) → AllKept (λ (k : Kept). 0 < count_of k.id.0 entries) es
-          → AllKept (λ (k : Kept). is_live pool.live k.id.0 ≡ true) es
+      each : (es : List (ℕ × StoredObject)) → AllKept (λ (k : StoredObject). 0 < count_of k.id.0 entries) es
+          → AllKept (λ (k : StoredObject). is_live pool.live k.id.0 ≡ true) es
       each [] all = tt
       each (e ∷ es) all = (named_live e.1.id.0 all.0, each es all.1)
 
@@ -178,7 +178,7 @@ module _ (pool : Pool) (is : IsPool pool) (entries : List (ℕ × Kept)) (shares
     count = live_count;
   }
     where
-      own_in : (es : List (ℕ × Kept)) → AllLive es → (number : ℕ) (o : Object) → object_of (objects_kept pool.live es)
+      own_in : (es : List (ℕ × StoredObject)) → AllLive es → (number : ℕ) (o : Object) → object_of (objects_kept pool.live es)
           number ≡ Some o → is_some (with_bytes pool.live (normal_bytes o.sd)) ≡ true
       own_in [] live number o at = absurd (none-some o at)
       own_in (e ∷ es) live number o at =
@@ -221,7 +221,7 @@ module _ (pool : Pool) (is : IsPool pool) (entries : List (ℕ × Kept)) (shares
             | inr last ↦ rw last (omega (arith, rest))
           ]
 
-      length_kept : (es : List (ℕ × Kept)) → length (objects_kept pool.live es) ≡ length es
+      length_kept : (es : List (ℕ × StoredObject)) → length (objects_kept pool.live es) ≡ length es
       length_kept [] = refl
       length_kept (e ∷ es) = let rest = length_kept es in omega (arith, rest)
 

@@ -2,7 +2,7 @@
 use Rattle.std.specs.Prelude.{◌≡◌, ℕ, Option, Some, None, ◌⊎◌}
 
 -- Where the key stays, nothing is put and nothing taken.
-pub record IsKept {V : Type 0} (was now to from : Option V) : Type 0 where
+pub record IsTable {V : Type 0} (was now to from : Option V) : Type 0 where
   pub same : was ≡ now
   pub no_put : to ≡ None
   pub no_take : from ≡ None
@@ -14,7 +14,7 @@ pub record IsOther {V : Type 0} (was now to from : Option V) : Type 0 where
   pub apart : (v : V) → now ≡ Some v → was ≡ Some v → ⊥
 
 abbrev pub IsChange : {V : Type 0} → Option V → Option V → Option V → Option V → Type 0
-IsChange was now to from = IsKept was now to from ⊎ IsOther was now to from
+IsChange was now to from = IsTable was now to from ⊎ IsOther was now to from
 
 -- the number stands at the key, if there is one, and all else stays
 pub record Inserts {V : Type 0} (to : Option V) (number : ℕ) (old new : V → Option ℕ) : Type 0 where

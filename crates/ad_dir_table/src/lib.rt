@@ -37,12 +37,12 @@ mod change;
 mod folding;
 mod hashes;
 mod index;
-mod kept;
 mod name_key;
+mod object_slot;
 mod objects;
 mod parts;
 mod pooled;
-mod shelf;
+mod stored_object;
 
 pub use by_name::with_name;
 pub use by_parent::{children_of, next_child};

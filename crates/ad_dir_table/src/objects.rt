@@ -16,7 +16,7 @@ ghost use Rattle.ad_dir_table.specs.Entry.{objects_in, HaveTheirSids};
 ghost use Rattle.ad_dir_table.specs.Listing.{next_number, descriptor_count};
 ghost use Rattle.ad_dir_table.specs.Pooled.{IsPoolOf};
 
-use crate::kept;
+use crate::stored_object;
 use crate::parts::{self, Parts};
 use ad_dir_objects::Object;
 use ad_ids::Sid;
@@ -34,13 +34,13 @@ pub struct Objects {
 
 impl Model for Objects {
     ghost use Rattle.ad_dir_table.specs.Entry.{Holding};
-    ghost use Rattle.ad_dir_table.specs.Fields.{holding, IsKept};
+    ghost use Rattle.ad_dir_table.specs.Fields.{holding, IsTable};
 
     ghost Value = { Holding };
 
     ghost view = { λ objects. holding objects.parts };
 
-    ghost invariant = { λ objects. IsKept objects.parts };
+    ghost invariant = { λ objects. IsTable objects.parts };
 }
 
 impl Objects {
@@ -123,7 +123,7 @@ impl Objects {
     pub fn next_number(&self, above: u32) -> Option<u32>
         ensures { result ≡ next_number (objects_in self.now.entries) above }
     {
-        kept::next_number(&self.parts.kept, above)
+        stored_object::next_number(&self.parts.kept, above)
     }
 
     /// The numbers of all objects, rising.
@@ -134,7 +134,7 @@ impl Objects {
     pub fn numbers(&self, alloc: Global) -> Result<Vec<u32>, AllocError>
         ensures { IfOk result (λ all. all.items ≡ numbers (objects_in self.now.entries)) }
     {
-        kept::numbers(alloc, &self.parts.kept)
+        stored_object::numbers(alloc, &self.parts.kept)
     }
 
     /// Inserts an object with the normal bytes of its descriptor in the place of the one that has its number, or else

@@ -16,11 +16,11 @@ ghost use Rattle.ad_dir_objects.specs.Seen.{object_seen};
 ghost use Rattle.ad_dir_table.specs.Entry.{objects_in, HaveTheirSids};
 ghost use Rattle.ad_dir_table.specs.Listing.{descriptor_count};
 ghost use Rattle.ad_dir_table.specs.Pooled.{IsPoolOf};
-ghost use Rattle.ad_dir_table.specs.Fields.{entries_of, IsKept};
+ghost use Rattle.ad_dir_table.specs.Fields.{entries_of, IsTable};
 
-use crate::kept::{self, Kept, kept_of};
+use crate::stored_object::{self, StoredObject, kept_of};
 use crate::pooled;
-use crate::shelf::Shelf;
+use crate::object_slot::ObjectSlot;
 use ad_dir_objects::Object;
 use ad_ids::Sid;
 use ad_schema::Schema;
@@ -33,13 +33,13 @@ use std::collections::BTreeMap;
 #[derive(Drop)]
 pub(crate) struct Parts {
     pub alloc: Global,
-    pub kept: BTreeMap<u32, Shelf>,
+    pub kept: BTreeMap<u32, ObjectSlot>,
     pub pool: SdPool,
 }
 
 /// No objects. It takes no memory.
 pub(crate) fn empty(alloc: Global) -> Parts
-    ensures kept { IsKept result }
+    ensures kept { IsTable result }
     ensures none { entries_of result ≡ [] }
 {
     Parts {
@@ -51,7 +51,7 @@ pub(crate) fn empty(alloc: Global) -> Parts
 
 /// The object of a number.
 pub(crate) fn object(parts: &Parts, number: u32) -> Option<&Object>
-    requires { IsKept parts.now }
+    requires { IsTable parts.now }
     ensures { option_map (λ object.
         object_seen object.now (sd_at (objects_in (entries_of parts.now)) number)) result
         ≡ object_of (objects_in (entries_of parts.now)) number }
@@ -64,20 +64,20 @@ pub(crate) fn object(parts: &Parts, number: u32) -> Option<&Object>
 
 /// The identifier of the object of a number.
 pub(crate) fn sid(parts: &Parts, number: u32) -> Option<&Sid>
-    requires { IsKept parts.now }
+    requires { IsTable parts.now }
     ensures { (schema : List SchemaRecord) → HaveTheirSids schema (entries_of parts.now)
         → option_copied result ≡ option_and_then (sid_in schema)
         (object_of (objects_in (entries_of parts.now)) number) }
 {
     match kept_of(&parts.kept, number) {
-        Some(kept) => kept::sid_of(kept),
+        Some(kept) => stored_object::sid_of(kept),
         None => None,
     }
 }
 
 /// The id of the descriptor of an object.
 pub(crate) fn id(parts: &Parts, number: u32) -> Option<SdId>
-    requires { IsKept parts.now }
+    requires { IsTable parts.now }
     ensures some { is_some result ≡ Objects.is_live (objects_in (entries_of parts.now)) number }
     ensures live { IfSome result (λ id. is_live parts.now.pool.live id.0 ≡ true) }
     ensures bytes { IfSome result (λ id.
@@ -92,7 +92,7 @@ pub(crate) fn id(parts: &Parts, number: u32) -> Option<SdId>
 
 /// The descriptor of an object.
 pub(crate) fn sd(parts: &Parts, number: u32) -> Option<SdView<'_>>
-    requires { IsKept parts.now }
+    requires { IsTable parts.now }
     ensures { option_map seen result ≡ option_map (λ object. object.sd)
         (object_of (objects_in (entries_of parts.now)) number) }
 {
@@ -104,7 +104,7 @@ pub(crate) fn sd(parts: &Parts, number: u32) -> Option<SdView<'_>>
 
 /// Whether two live objects have one descriptor.
 pub(crate) fn is_same(parts: &Parts, a: u32, b: u32) -> bool
-    requires kept { IsKept parts.now }
+    requires kept { IsTable parts.now }
     requires a { Objects.is_live (objects_in (entries_of parts.now)) a ≡ true }
     requires b { Objects.is_live (objects_in (entries_of parts.now)) b ≡ true }
     ensures { IsTrue result ↔ (sd_at (objects_in (entries_of parts.now)) a
@@ -119,7 +119,7 @@ pub(crate) fn is_same(parts: &Parts, a: u32, b: u32) -> bool
 
 /// What holds of the pool.
 pub(crate) fn is_pooled(parts: &Parts)
-    requires { IsKept parts.now }
+    requires { IsTable parts.now }
     ensures { IsPoolOf (objects_in (entries_of parts.now)) parts.now.pool }
 {
     parts.pool.is_one();
@@ -137,10 +137,10 @@ pub(crate) fn put(
     object: Object,
     bytes: &[u8],
 ) -> Result<(), AllocError>
-    requires kept { IsKept parts.old }
+    requires kept { IsTable parts.old }
     requires few { length (entries_of parts.old) < 2 ^ 32 - 1 }
     requires normal { SpellsNormal (sd_in bytes.now) bytes.now }
-    ensures kept { IsKept parts.new }
+    ensures kept { IsTable parts.new }
     ensures ok { OnOk result (objects_in (entries_of parts.new)
         ≡ put (object_seen object (sd_in bytes.now)) (objects_in (entries_of parts.old))) }
     ensures err { OnErr result (entries_of parts.new ≡ entries_of parts.old) }
@@ -149,7 +149,7 @@ pub(crate) fn put(
 {
     parts.pool.is_one();
     let id = pooled::put(&mut parts.pool, bytes)?;
-    match kept::put(parts.alloc, &mut parts.kept, Kept::of(schema, object, id)) {
+    match stored_object::put(parts.alloc, &mut parts.kept, StoredObject::of(schema, object, id)) {
         Ok(was) => {
             pooled::give_back_if(&mut parts.pool, was);
             Ok(())
@@ -167,11 +167,11 @@ pub(crate) fn put(
 ///
 /// Out of memory. What is seen stays.
 pub(crate) fn put_sd(parts: &mut Parts, number: u32, bytes: &[u8]) -> Result<(), AllocError>
-    requires kept { IsKept parts.old }
+    requires kept { IsTable parts.old }
     requires live { Objects.is_live (objects_in (entries_of parts.old)) number ≡ true }
     requires few { length (entries_of parts.old) < 2 ^ 32 - 1 }
     requires normal { SpellsNormal (sd_in bytes.now) bytes.now }
-    ensures kept { IsKept parts.new }
+    ensures kept { IsTable parts.new }
     ensures ok { OnOk result (objects_in (entries_of parts.new)
         ≡ put (record (object_at (objects_in (entries_of parts.old)) number) { sd = sd_in bytes.now })
         (objects_in (entries_of parts.old))) }
@@ -181,20 +181,20 @@ pub(crate) fn put_sd(parts: &mut Parts, number: u32, bytes: &[u8]) -> Result<(),
 {
     parts.pool.is_one();
     let id = pooled::put(&mut parts.pool, bytes)?;
-    let was = kept::set_id(&mut parts.kept, number, id);
+    let was = stored_object::set_id(&mut parts.kept, number, id);
     pooled::give_back_if(&mut parts.pool, was);
     Ok(())
 }
 
 /// Removes the object of a number out. It takes no memory.
 pub(crate) fn remove(parts: &mut Parts, number: u32)
-    requires kept { IsKept parts.old }
-    ensures kept { IsKept parts.new }
+    requires kept { IsTable parts.old }
+    ensures kept { IsTable parts.new }
     ensures removed { objects_in (entries_of parts.new)
         ≡ removed number (objects_in (entries_of parts.old)) }
     ensures sids { (schema : List SchemaRecord) → HaveTheirSids schema (entries_of parts.old)
         → HaveTheirSids schema (entries_of parts.new) }
 {
-    let was = kept::take(&mut parts.kept, number);
+    let was = stored_object::take(&mut parts.kept, number);
     pooled::give_back_if(&mut parts.pool, was);
 }

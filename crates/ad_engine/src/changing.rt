@@ -122,7 +122,7 @@ fn decision_of(
         (by_effect message.now.id tag
         (effect dir.now token.now (op_seen message.now.op) settings.now))) }
 {
-    dir.stands();
+    dir.invariants();
     a_missing_need_names_live_objects();
     match verdict(alloc, dir, token, &message.op, settings)? {
         Verdict::Granted(act) => planned(alloc, dir, token, message, tag, settings, &act),

@@ -30,7 +30,7 @@ use Rattle.ad_dir_model.specs.Objects.{object_at, sd_at}
 use Rattle.ad_dir_model.specs.Identity.{self_sid}
 use Rattle.ad_dir_model.specs.Directory.{Directory}
 use Rattle.ad_access_dir.specs.Sight.{is_granted}
-use Rattle.ad_entries.specs.declared.kinds.Own.{Own}
+use Rattle.ad_entries.specs.declared.kinds.SelfMatch.{SelfMatch}
 use Rattle.ad_entries.specs.declared.kinds.Kind.{Kind}
 use Rattle.ad_entries.specs.Seen.{is_never_read, is_granted_on, is_readable}
 use Rattle.ad_entries.specs.Entry.{changing_attrs}
@@ -52,7 +52,7 @@ second_denies : (token : Token) (self : Option SidValue) → answers_to_self Den
 second_denies token None = refl
 second_denies token (Some sid) = refl
 
-alike : (token : Token) (a b : Option SidValue) (own : Own) → AnswersSo token a own → AnswersSo token b own
+alike : (token : Token) (a b : Option SidValue) (own : SelfMatch) → AnswersSo token a own → AnswersSo token b own
     → AnswerAlike token a b
 alike token a b own of_a of_b = record { first = first; second = second }
   where
@@ -124,7 +124,7 @@ changing_alike dir token search kind n m of_n of_m =
 
 -- ---- one kind
 
-pub same_record : (token : Token) (self : Option SidValue) (a b : Own) → (a.holds ≡ b.holds) × (a.denies ≡ b.denies)
+pub same_record : (token : Token) (self : Option SidValue) (a b : SelfMatch) → (a.holds ≡ b.holds) × (a.denies ≡ b.denies)
     × (a.restricted ≡ b.restricted) → AnswersSo token self a → AnswersSo token self b
 same_record token self a b same is = record {
   holds = sym same.0 ∙ is.holds;

@@ -2,7 +2,7 @@
 use Rattle.std.specs.Prelude.{◌≡◌, ℕ, Bool, true, false, ◌||◌, codes, length, slice_index_or, IfSome, List}
 use Rattle.ad_schema.specs.declared.line.SchemaRecord.{SchemaRecord}
 use Rattle.ad_dir_model.specs.Attributes.{is_named}
-use Rattle.ad_entries.specs.declared.asking.Apart.{Apart}
+use Rattle.ad_entries.specs.declared.asking.RequestedExtras.{RequestedExtras}
 use Rattle.ad_entries.specs.declared.asking.Asked.{Asked}
 use Rattle.ad_entries.specs.Entry.{is_asked, is_sent, is_descriptor_asked, attributes_name, children_name, parts_name}
 use Rattle.ad_entries.specs.Places.{is_asked_at}
@@ -33,7 +33,7 @@ abbrev pub LeavesUnasked : List SchemaRecord → List (List ℕ) → List ℕ �
 LeavesUnasked schema sent few = (attr : ℕ) → is_in attr few ≡ false → is_asked_at schema sent attr ≡ false
 
 -- what is asked for by its name alone
-pub record AreApart (sent : List (List ℕ)) (apart : Apart) : Type 0 where
+pub record AreApart (sent : List (List ℕ)) (apart : RequestedExtras) : Type 0 where
   pub descriptor : apart.descriptor ≡ is_descriptor_asked sent
   pub attributes : apart.attributes ≡ is_sent sent attributes_name
   pub children : apart.children ≡ is_sent sent children_name

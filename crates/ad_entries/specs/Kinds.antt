@@ -8,12 +8,12 @@ use Rattle.ad_access.specs.Matching.{answers_to_self}
 use Rattle.ad_dir_model.specs.Objects.{object_at, sd_at}
 use Rattle.ad_dir_model.specs.Identity.{self_sid}
 use Rattle.ad_dir_model.specs.Directory.{Directory}
-use Rattle.ad_entries.specs.declared.kinds.Own.{Own}
+use Rattle.ad_entries.specs.declared.kinds.SelfMatch.{SelfMatch}
 use Rattle.ad_entries.specs.declared.kinds.Kind.{Kind}
 
 -- How the principals of a token answer to the identifier that an object has of its own: whether the first holds it,
 -- whether it denies by it, and whether the second holds it.
-pub record AnswersSo (token : Token) (self : Option SidValue) (own : Own) : Type 0 where
+pub record AnswersSo (token : Token) (self : Option SidValue) (own : SelfMatch) : Type 0 where
   pub holds : own.holds ≡ answers_to_self Allow (first_holder token) self
   pub denies : own.denies ≡ answers_to_self Deny (first_holder token) self
   pub restricted : own.restricted ≡ answers_to_self Allow (second_holder token) self

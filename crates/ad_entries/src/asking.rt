@@ -42,12 +42,12 @@ pub struct Asked {
     pub named: Option<Vec<u32>>,
     /// The places of those that objects of each class show without storing them.
     pub computed: Vec<u32>,
-    pub apart: Apart,
+    pub apart: RequestedExtras,
 }
 
 /// Which of those that are asked for by their names alone a search asks for.
 #[derive(Clone, Copy)]
-pub struct Apart {
+pub struct RequestedExtras {
     pub descriptor: bool,
     /// The attributes that the token may write.
     pub attributes: bool,
@@ -163,10 +163,10 @@ fn computed(alloc: Global, schema: &Schema) -> Result<Vec<u32>, AllocError>
     Ok(places)
 }
 
-fn apart_of(sent: &[Bytes]) -> Apart
+fn apart_of(sent: &[Bytes]) -> RequestedExtras
     ensures { AreApart sent.now result }
 {
-    Apart {
+    RequestedExtras {
         descriptor: is_descriptor_asked(sent),
         attributes: is_sent(sent, ATTRIBUTES),
         children: is_sent(sent, CHILDREN),

@@ -10,7 +10,7 @@ ghost use Rattle.ad_entries.specs.Entry.{values_if, attributes_name, children_na
 ghost use Rattle.ad_entries.specs.Entry.{changing_attr, changing_attrs};
 ghost use Rattle.ad_entries.specs.Asked.{AreApart};
 
-use crate::asking::{Apart, Asking};
+use crate::asking::{RequestedExtras, Asking};
 use crate::entry::push_if;
 use ad_bytes::{Bytes, List};
 use ad_constructed_dir::{attributes_written, children_created, parts_written};
@@ -156,7 +156,7 @@ pub(crate) fn changing_attrs(
     alloc: Global,
     asking: &Asking<'_>,
     number: u32,
-    apart: Apart,
+    apart: RequestedExtras,
 ) -> Result<List<(Bytes, List<Bytes>)>, AllocError>
     requires live { is_live asking.now.dir.now.objects number ≡ true }
     requires apart { AreApart (search_seen asking.now.search.now).attrs apart }

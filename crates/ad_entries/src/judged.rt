@@ -16,7 +16,7 @@ ghost use Rattle.ad_entries.specs.Kinds.{IsOf};
 ghost use Rattle.ad_entries.specs.Places.{HasPlaces};
 ghost use Rattle.ad_entries.specs.Judged.{IsJudged, AreKinds};
 
-use crate::asking::{Apart, Asked, Asking, asked_of};
+use crate::asking::{RequestedExtras, Asked, Asking, asked_of};
 use crate::changing::changing_attrs;
 use crate::descriptor::{Descriptor, descriptor_given};
 use crate::entry::{Made, entry_of};
@@ -89,7 +89,7 @@ fn unjudged(
     alloc: Global,
     asking: &Asking<'_>,
     number: u32,
-    apart: Apart,
+    apart: RequestedExtras,
     kind: Kind,
 ) -> Result<Judged, AllocError>
     requires apart { AreApart (search_seen asking.now.search.now).attrs apart }
@@ -114,7 +114,7 @@ fn taken(
     alloc: Global,
     asking: &Asking<'_>,
     number: u32,
-    apart: Apart,
+    apart: RequestedExtras,
     judged: &mut Vec<Judged>,
 ) -> Result<Judged, AllocError>
     requires apart { AreApart (search_seen asking.now.search.now).attrs apart }

@@ -13,7 +13,7 @@ use ad_ids::{Sid, Token};
 
 /// How the principals of a token answer to the identifier that an object has of its own.
 #[derive(Clone, Copy)]
-pub struct Own {
+pub struct SelfMatch {
     /// The first holds it.
     pub holds: bool,
     /// The first denies by it.
@@ -28,7 +28,7 @@ pub struct Kind {
     /// The number of an object that has the descriptor.
     pub sample: u32,
     pub class: u32,
-    pub own: Own,
+    pub own: SelfMatch,
 }
 
 fn is_denied_by(token: &Token, sid: &Sid) -> bool
@@ -44,16 +44,16 @@ fn is_restricted_to(token: &Token, sid: &Sid) -> bool
 }
 
 // How the holders answer to an identifier, if there is one.
-fn answers(token: &Token, sid: Option<&Sid>) -> Own
+fn answers(token: &Token, sid: Option<&Sid>) -> SelfMatch
     ensures { AnswersSo token.now (option_copied sid.entry) result }
 {
     match sid {
-        Some(sid) => Own {
+        Some(sid) => SelfMatch {
             holds: token.holds(sid),
             denies: is_denied_by(token, sid),
             restricted: is_restricted_to(token, sid),
         },
-        None => Own {
+        None => SelfMatch {
             holds: false,
             denies: false,
             restricted: false,
@@ -74,7 +74,7 @@ pub(crate) fn kind_of(dir: &Dir, token: &Token, number: u32) -> Kind
     }
 }
 
-fn same_own(a: Own, b: Own) -> bool
+fn same_own(a: SelfMatch, b: SelfMatch) -> bool
     ensures { IsTrue result → (a.holds ≡ b.holds) × (a.denies ≡ b.denies)
         × (a.restricted ≡ b.restricted) }
 {

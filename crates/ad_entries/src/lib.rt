@@ -37,10 +37,10 @@ mod reading;
 mod rising;
 mod verdicts;
 
-pub use asking::{Apart, Asked, Asking};
+pub use asking::{RequestedExtras, Asked, Asking};
 pub use descriptor::Descriptor;
 pub use entry::Made;
 pub use judged::{Judged, Kinds, descriptor_judged, entry_judged, no_kinds, places_judged};
-pub use kinds::{Kind, Own};
+pub use kinds::{Kind, SelfMatch};
 pub use reading::{Sight, is_readable, values_named};
 pub use rising::rise;

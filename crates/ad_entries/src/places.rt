@@ -122,7 +122,7 @@ fn own_places(
         (search_seen asking.now.search.now) number one.new) }
 {
     let dir = asking.dir;
-    dir.stands();
+    dir.invariants();
     let object = live_object(dir, number);
     let naming = dir.schema().class_info(object.class).naming.0;
     let values = object.values.as_slice();

@@ -19,7 +19,7 @@ use Rattle.ad_value.specs.Sent.{pattern_of}
 use Rattle.ad_filter.specs.declared.outcome.Truth.{Truth}
 use Rattle.ad_filter.specs.declared.outcome.Truth.TheVariants as truth
 use Rattle.ad_filter.specs.declared.comparison.Comparison.{Comparison}
-use Rattle.ad_filter.specs.declared.kept.Values.{Values}
+use Rattle.ad_filter.specs.declared.value_cache.Values.{Values}
 use Rattle.ad_filter.specs.ThreeValues.{truth_of}
 use Rattle.ad_filter.specs.Filtering.{Readable, view_by, is_descriptor, known, attr_known, is_compared, of_known}
 use Rattle.ad_filter.specs.Filtering.{of_sent, of_pieces, some_value, says_pieces, says_present}

@@ -4,7 +4,7 @@ use Rattle.std.specs.Ordering.{is_lt, nat_cmp}
 use Rattle.std.specs.BTreeMap.{get, BTreeMap}
 use Rattle.ad_schema.specs.declared.info.AttrId.{AttrId}
 use Rattle.ad_value.specs.Value.{Value, key_order}
-use Rattle.ad_filter.specs.declared.kept.Values.{Values}
+use Rattle.ad_filter.specs.declared.value_cache.Values.{Values}
 use Rattle.ad_filter.specs.Filtering.{Readable}
 
 -- none has a key below that of the one before it

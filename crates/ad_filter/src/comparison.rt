@@ -10,7 +10,7 @@ ghost use Rattle.ad_filter.specs.Filtering.{is_compared, is_less, is_greater};
 ghost use Rattle.ad_filter.specs.Comparing.{passes, any_passes};
 ghost use Rattle.ad_filter.specs.Keeping.{IsInOrder, IsOrdered};
 
-use crate::kept::Values;
+use crate::value_cache::Values;
 use ad_value::{
     Pattern, Syntax, Value, ValueFault, equal, fits, keys_are_ordered, least_first, normal,
 };

@@ -12,7 +12,7 @@ ghost use Rattle.ad_filter.specs.Comparing.{is_asked_of, says_compared};
 ghost use Rattle.ad_filter.specs.Keeping.{IsOrdered, AreRead, IsKept, as_read};
 
 use crate::comparison::{Comparison, any_fits, any_kept_passes, value_of};
-use crate::kept::{Kept, Values, keep, values_at};
+use crate::value_cache::{ValueCache, Values, keep, values_at};
 use crate::outcome::Truth;
 use crate::readable::{Readable, attr_known};
 use ad_ldap::{Filter, what_is_seen_of_filters};
@@ -114,7 +114,7 @@ fn present_if(values: &Option<Values>) -> Truth
 fn attr_kept<V: Readable>(
     alloc: Global,
     view: &V,
-    kept: &mut Kept,
+    kept: &mut ValueCache,
     name: &[u8],
 ) -> Result<Option<AttrId>, AllocError>
     requires { AreRead (V.shown view.now) kept.old }
@@ -134,7 +134,7 @@ fn attr_kept<V: Readable>(
 fn of_comparison<V: Readable>(
     alloc: Global,
     view: &V,
-    kept: &mut Kept,
+    kept: &mut ValueCache,
     name: &[u8],
     comparison: Comparison,
     sent: &[u8],
@@ -153,7 +153,7 @@ fn of_comparison<V: Readable>(
 fn of_pieces<V: Readable>(
     alloc: Global,
     view: &V,
-    kept: &mut Kept,
+    kept: &mut ValueCache,
     name: &[u8],
     sent: &Pattern,
 ) -> Result<Truth, AllocError>
@@ -171,7 +171,7 @@ fn of_pieces<V: Readable>(
 fn of_presence<V: Readable>(
     alloc: Global,
     view: &V,
-    kept: &mut Kept,
+    kept: &mut ValueCache,
     name: &[u8],
 ) -> Result<Truth, AllocError>
     requires { AreRead (V.shown view.now) kept.old }
@@ -203,7 +203,7 @@ fn all_of<V: Readable>(
     alloc: Global,
     filters: &[Filter],
     view: &V,
-    kept: &mut Kept,
+    kept: &mut ValueCache,
 ) -> Result<Truth, AllocError>
     requires { AreRead (V.shown view.now) kept.old }
     ensures kept { OnOk result (AreRead (V.shown view.now) kept.new) }
@@ -227,7 +227,7 @@ fn some_of<V: Readable>(
     alloc: Global,
     filters: &[Filter],
     view: &V,
-    kept: &mut Kept,
+    kept: &mut ValueCache,
 ) -> Result<Truth, AllocError>
     requires { AreRead (V.shown view.now) kept.old }
     ensures kept { OnOk result (AreRead (V.shown view.now) kept.new) }
@@ -252,7 +252,7 @@ fn truth_by<V: Readable>(
     alloc: Global,
     filter: &Filter,
     view: &V,
-    kept: &mut Kept,
+    kept: &mut ValueCache,
 ) -> Result<Truth, AllocError>
     requires { AreRead (V.shown view.now) kept.old }
     ensures kept { OnOk result (AreRead (V.shown view.now) kept.new) }

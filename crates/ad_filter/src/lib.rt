@@ -25,10 +25,10 @@
 
 mod comparison;
 mod judging;
-mod kept;
 mod laws;
 mod outcome;
 mod readable;
+mod value_cache;
 
 pub use comparison::{has_equal, value_of};
 pub use judging::truth;

@@ -3,7 +3,7 @@ use Rattle.std.proofs.Common.{◌≡◌, ◌∙◌, ℕ, suc, ◌+◌, ◌*◌, 
 use Rattle.std.proofs.Common.{Some, Ok, refl, ap, arith, codes}
 use Rattle.ad_gen.specs.Frames.{in_domain, builtin_administrators}
 use Rattle.ad_load_objects.specs.Drafts.{Draft, naming_value}
-use Rattle.ad_load_objects.specs.Objects.{Kept, nothing_kept, parent_of, is_taken, is_sid_used, with_lines, draft_of}
+use Rattle.ad_load_objects.specs.Objects.{DraftValues, nothing_kept, parent_of, is_taken, is_sid_used, with_lines, draft_of}
 use Rattle.ad_load_objects.specs.Objects.{with_record}
 use Rattle.ad_gen_laws.specs.Plain.{Plain, fields_from, record_at}
 use Rattle.ad_gen_laws.specs.Base.{base_schema}
@@ -21,7 +21,7 @@ use Rattle.ad_gen_laws.proofs.Sids.{domain_has, system_sid, user_unused}
 use Rattle.ad_gen_laws.proofs.Free.{below_root, below_system, unit_free, administrators_free}
 use Rattle.ad_gen_laws.proofs.Found.{unit_found, user_free, none_among_units}
 
-made : (ds : List Draft) (k : ℕ) (p : Plain) (class parent : ℕ) (kept : Kept) → IsObject p → parent_of ds p.rdns
+made : (ds : List Draft) (k : ℕ) (p : Plain) (class parent : ℕ) (kept : DraftValues) → IsObject p → parent_of ds p.rdns
     ≡ Some parent
     → IsOfClass class p → is_taken ds parent (naming_value p.rdns) ≡ false → with_lines base_schema ds class
     (fields_from (k + 1) p.lines) ≡ Ok kept

@@ -21,7 +21,7 @@ use crate::field::{read_dn, read_field};
 use crate::logical::Logical;
 use crate::reading::{dn_line, exact, read_fields};
 use crate::record::LdifLine;
-use crate::repeated::{Decoded, Kept};
+use crate::repeated::{Decoded, LineCache};
 use ad_bytes::{Bytes, List};
 use std::alloc::Global;
 
@@ -30,7 +30,7 @@ use std::alloc::Global;
 fn read_openings<'a>(
     alloc: Global,
     at: &mut Cursor<'a>,
-    last: &mut Kept,
+    last: &mut LineCache,
     first: u32,
     controls: &mut List<LdifControl>,
 ) -> Result<(ChangeType, u32), LdifFault>
@@ -60,7 +60,7 @@ fn read_openings<'a>(
 
 /// That the record ends here.
 #[tactic(auto, unfolding(crate::specs::Changing::ended))]
-fn read_end<'a>(alloc: Global, at: &mut Cursor<'a>, last: &mut Kept) -> Result<(), LdifFault>
+fn read_end<'a>(alloc: Global, at: &mut Cursor<'a>, last: &mut LineCache) -> Result<(), LdifFault>
     ensures ended { Gives (λ u. u) result (ended (record_left at.old)) }
     ensures others { OnOk result (others_left at.old ≡ records_left at.new) }
 {
@@ -91,7 +91,7 @@ fn read_first(
 fn read_added<'a>(
     alloc: Global,
     at: &mut Cursor<'a>,
-    last: &mut Kept,
+    last: &mut LineCache,
     number: u32,
 ) -> Result<Vec<LdifLine>, LdifFault>
     ensures fields { Gives (λ v. map field_of v.items) result (added number (record_left at.old)) }
@@ -113,7 +113,7 @@ fn read_added<'a>(
 fn next_value<'a>(
     alloc: Global,
     at: &mut Cursor<'a>,
-    last: &mut Kept,
+    last: &mut LineCache,
     name: &[u8],
     number: u32,
 ) -> Result<(Bytes, u32), LdifFault>
@@ -136,7 +136,7 @@ fn next_value<'a>(
 fn next_flag<'a>(
     alloc: Global,
     at: &mut Cursor<'a>,
-    last: &mut Kept,
+    last: &mut LineCache,
     name: &[u8],
     number: u32,
 ) -> Result<(bool, u32), LdifFault>
@@ -159,7 +159,7 @@ fn next_flag<'a>(
 fn read_superior<'a>(
     alloc: Global,
     at: &mut Cursor<'a>,
-    last: &mut Kept,
+    last: &mut LineCache,
 ) -> Result<Option<Bytes>, LdifFault>
     ensures superior { Gives (λ s. s) result (superior_of (record_left at.old)) }
     ensures others { OnOk result (others_left at.old ≡ records_left at.new) }
@@ -176,7 +176,7 @@ fn read_superior<'a>(
 fn read_renamed<'a>(
     alloc: Global,
     at: &mut Cursor<'a>,
-    last: &mut Kept,
+    last: &mut LineCache,
     number: u32,
 ) -> Result<LdifOp, LdifFault>
     ensures op { Gives op_seen result (renamed number (record_left at.old)) }
@@ -196,7 +196,7 @@ fn read_renamed<'a>(
 fn read_values<'a>(
     alloc: Global,
     at: &mut Cursor<'a>,
-    last: &mut Kept,
+    last: &mut LineCache,
     first: u32,
     item: &mut LdifItem,
 ) -> Result<(), LdifFault>
@@ -226,7 +226,7 @@ fn read_values<'a>(
 fn read_items<'a>(
     alloc: Global,
     at: &mut Cursor<'a>,
-    last: &mut Kept,
+    last: &mut LineCache,
     items: &mut List<LdifItem>,
 ) -> Result<(), LdifFault>
     ensures items { Gives (λ _. items.new) result (items_behind items.old (record_left at.old)) }
@@ -245,7 +245,7 @@ fn read_items<'a>(
 fn read_op<'a>(
     alloc: Global,
     at: &mut Cursor<'a>,
-    last: &mut Kept,
+    last: &mut LineCache,
     kind: ChangeType,
     number: u32,
 ) -> Result<LdifOp, LdifFault>
@@ -272,7 +272,7 @@ fn read_op<'a>(
 fn read_change<'a>(
     alloc: Global,
     at: &mut Cursor<'a>,
-    last: &mut Kept,
+    last: &mut LineCache,
     first: Logical<'a>,
 ) -> Result<LdifChange, LdifFault>
     ensures change { Gives change_seen result
@@ -296,7 +296,7 @@ fn read_change<'a>(
 pub(crate) fn read_next_change<'a>(
     alloc: Global,
     at: &mut Cursor<'a>,
-    last: &mut Kept,
+    last: &mut LineCache,
 ) -> Result<Option<LdifChange>, LdifFault>
     ensures told { TellsChange (changes_in (records_left at.old)) result
         (changes_in (records_left at.new)) }

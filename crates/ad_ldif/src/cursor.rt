@@ -5,7 +5,7 @@ ghost use Rattle.std.specs.Prelude.{◌≡◌, ℕ, ◌+◌, ◌<◌, ◌≤◌,
 use crate::folded::{Folded, LastFolded, note};
 use crate::logical::{Logical, Text};
 use crate::physical::{begins_with, cut};
-use crate::repeated::Kept;
+use crate::repeated::LineCache;
 use std::alloc::{AllocError, Global};
 
 /// What is left of a text, from the beginning of a physical line on, and the number of that line.
@@ -114,7 +114,7 @@ impl<'a> Cursor<'a> {
     fn joined(
         &mut self,
         alloc: Global,
-        last: &mut Kept,
+        last: &mut LineCache,
         first: &'a [u8],
     ) -> Result<Text<'a>, AllocError>
         ensures text { IfOk result (λ t.
@@ -140,7 +140,7 @@ impl<'a> Cursor<'a> {
     fn next_line(
         &mut self,
         alloc: Global,
-        last: &mut Kept,
+        last: &mut LineCache,
     ) -> Result<Option<Logical<'a>>, AllocError>
         ensures lines { IfOk result (λ o. MatchOption o
             ((lines_left self.old ≡ []) × (lines_left self.new ≡ []))
@@ -169,7 +169,7 @@ impl<'a> Cursor<'a> {
     pub fn next_in_record(
         &mut self,
         alloc: Global,
-        last: &mut Kept,
+        last: &mut LineCache,
     ) -> Result<Option<Logical<'a>>, AllocError>
         ensures lines { IfOk result (λ o. MatchOption o
             (record_left self.old ≡ [])
@@ -193,7 +193,7 @@ impl<'a> Cursor<'a> {
     pub fn next_record(
         &mut self,
         alloc: Global,
-        last: &mut Kept,
+        last: &mut LineCache,
     ) -> Result<Option<Logical<'a>>, AllocError>
         ensures records { IfOk result (λ o. MatchOption o
             (records_left self.old ≡ [])

@@ -52,4 +52,4 @@ pub use laws::what_changes_have;
 pub use pieces::{end_of_records, line_ends};
 pub use reader::Reader;
 pub use record::{LdifLine, LdifRecord};
-pub use repeated::Kept;
+pub use repeated::LineCache;

@@ -6,7 +6,7 @@ use crate::cursor::Cursor;
 use crate::fault::{LdifFault, LdifKind};
 use crate::reading::read_next;
 use crate::record::LdifRecord;
-use crate::repeated::Kept;
+use crate::repeated::LineCache;
 use std::alloc::Global;
 use std::marker::Model;
 
@@ -17,7 +17,7 @@ pub struct Reader<'a> {
     at: Cursor<'a>,
     stop: Option<(u32, LdifKind)>,
     // The last long value, folded and decoded.
-    last: Kept,
+    last: LineCache,
 }
 
 impl<'a> Model for Reader<'a> {
@@ -52,12 +52,12 @@ impl<'a> Reader<'a> {
         Reader {
             at: Cursor::new(bytes, 1),
             stop: None,
-            last: Kept::nothing(),
+            last: LineCache::nothing(),
         }
     }
 
     /// A reader of a part of a text whose first physical line has this number, with what the reader before it kept.
-    pub fn behind(bytes: &'a [u8], line: u32, last: Kept) -> Reader<'a>
+    pub fn behind(bytes: &'a [u8], line: u32, last: LineCache) -> Reader<'a>
         requires { line + length bytes.now ≤ 67108865 }
         ensures { untold result ≡ story_from line bytes.now }
     {
@@ -69,7 +69,7 @@ impl<'a> Reader<'a> {
     }
 
     /// What it keeps, for the reader of what follows.
-    pub fn into_kept(self) -> Kept {
+    pub fn into_kept(self) -> LineCache {
         let Reader {
             at: _,
             stop: _,

@@ -13,7 +13,7 @@ use crate::fault::{LdifFault, LdifKind};
 use crate::field::{is_fixed, read_dn, read_field};
 use crate::logical::Logical;
 use crate::record::{LdifLine, LdifRecord};
-use crate::repeated::{Decoded, Kept};
+use crate::repeated::{Decoded, LineCache};
 use std::alloc::{AllocError, Global};
 
 /// Whether a line is `version: 1`.
@@ -48,7 +48,7 @@ fn is_changetype(alloc: Global, line: &Logical<'_>) -> Result<bool, LdifFault>
 pub(crate) fn read_fields<'a>(
     alloc: Global,
     at: &mut Cursor<'a>,
-    last: &mut Kept,
+    last: &mut LineCache,
     fields: &mut Vec<LdifLine>,
 ) -> Result<(), LdifFault>
     ensures fields { Gives (λ _. map field_of fields.new.items) result
@@ -97,7 +97,7 @@ pub(crate) fn exact(alloc: Global, lines: Vec<LdifLine>) -> Result<Vec<LdifLine>
 fn read_body<'a>(
     alloc: Global,
     at: &mut Cursor<'a>,
-    last: &mut Kept,
+    last: &mut LineCache,
 ) -> Result<Vec<LdifLine>, LdifFault>
     ensures fields { Gives (λ v. map field_of v.items) result (body_of (record_left at.old)) }
     ensures others { OnOk result (others_left at.old ≡ records_left at.new) }
@@ -115,7 +115,7 @@ fn read_body<'a>(
 pub(crate) fn dn_line<'a>(
     alloc: Global,
     at: &mut Cursor<'a>,
-    last: &mut Kept,
+    last: &mut LineCache,
     first: Logical<'a>,
 ) -> Result<Logical<'a>, LdifFault>
     ensures line { Gives (λ l. record { first = line_of l; others = record_left at.new }) result
@@ -139,7 +139,7 @@ pub(crate) fn dn_line<'a>(
 fn read_record<'a>(
     alloc: Global,
     at: &mut Cursor<'a>,
-    last: &mut Kept,
+    last: &mut LineCache,
     first: Logical<'a>,
 ) -> Result<LdifRecord, LdifFault>
     ensures entry { Gives entry_of result
@@ -160,7 +160,7 @@ fn read_record<'a>(
 pub(crate) fn read_next<'a>(
     alloc: Global,
     at: &mut Cursor<'a>,
-    last: &mut Kept,
+    last: &mut LineCache,
 ) -> Result<Option<LdifRecord>, LdifFault>
     ensures told { Tells (story_of (records_left at.old)) result (story_of (records_left at.new)) }
     ensures end { records_left at.old ≡ [] → result ≡ Ok None }

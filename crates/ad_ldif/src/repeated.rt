@@ -34,16 +34,16 @@ const FOLDED: usize = 8192;
 
 /// What a reader keeps of what mostly comes again: the last long value, folded and decoded, and the room of a
 /// folded line that was read. The reader of what follows may have it.
-pub struct Kept {
+pub struct LineCache {
     pub(crate) folded: LastFolded,
     pub(crate) decoded: Option<Decoded>,
     pub(crate) spare: Option<Vec<u8>>,
 }
 
 // Written out, so that where one is dropped a proof has a single step.
-impl Drop for Kept {
+impl Drop for LineCache {
     fn drop(self) {
-        let Kept {
+        let LineCache {
             folded,
             decoded,
             spare,
@@ -54,10 +54,10 @@ impl Drop for Kept {
     }
 }
 
-impl Kept {
+impl LineCache {
     /// Nothing so far.
-    pub fn nothing() -> Kept {
-        Kept {
+    pub fn nothing() -> LineCache {
+        LineCache {
             folded: LastFolded::none(),
             decoded: None,
             spare: None,

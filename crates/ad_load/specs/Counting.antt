@@ -3,7 +3,7 @@ use Rattle.std.specs.Prelude.{◌≡◌, ◌+◌, List, length, drop}
 use Rattle.std.specs.List.{list_all}
 use Rattle.ad_schema.specs.declared.line.SchemaRecord.{SchemaRecord}
 use Rattle.ad_load_objects.specs.Drafts.{Draft}
-use Rattle.ad_load.specs.declared.before.Counted.{Counted}
+use Rattle.ad_load.specs.declared.before_inheritance.Counted.{Counted}
 use Rattle.ad_load.specs.Links.{domain_of, root_rdns, next_rid, is_shallow}
 
 -- the counters, the name above the root, and whether no object is too deep

@@ -8,7 +8,7 @@ use Rattle.ad_dir_objects.specs.Seen.{object_seen, meta_seen, stored_seen}
 use Rattle.ad_schema.specs.declared.line.SchemaRecord.{SchemaRecord}
 use Rattle.ad_dir_model.specs.Directory.{Directory}
 use Rattle.ad_dir_model.specs.Object.{Stored, Held, Object}
-use Rattle.ad_load.specs.declared.before.Before.{Before}
+use Rattle.ad_load.specs.declared.before_inheritance.Before.{Before}
 
 -- an object with its descriptor
 abbrev pub entry_seen : HeldObject × Sd → Object

@@ -16,7 +16,7 @@ ghost use Rattle.ad_load.specs.Seen.{before_seen};
 ghost use Rattle.ad_load.specs.Settling.{made_of};
 ghost use Rattle.ad_load_records.specs.Records.{most_lines};
 
-use crate::before::{Before, link_all};
+use crate::before_inheritance::{Before, link_all};
 use crate::parts::Parts;
 use crate::settle::settle;
 use ad_dir::Dir;

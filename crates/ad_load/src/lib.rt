@@ -22,7 +22,7 @@
 //! is computed once, and what is inherited is kept from one child to the next.
 #![tactic(auto)]
 
-mod before;
+mod before_inheritance;
 mod by_attr;
 mod counters;
 mod descriptors;

@@ -4,7 +4,7 @@ ghost use Rattle.std.specs.Prelude.{◌≡◌, length, IfOk};
 ghost use Rattle.ad_dir_model.specs.Soundness.{IsSound};
 ghost use Rattle.ad_load.specs.Seen.{before_seen, parts_seen};
 
-use crate::before::Before;
+use crate::before_inheritance::Before;
 use ad_dir::{Dir, Meta, Object};
 use ad_schema::Schema;
 use ad_sd::NormalSd;

@@ -35,7 +35,7 @@ use Rattle.ad_load_objects.specs.Through.{through}
 use Rattle.ad_load_records.specs.Records.{Record}
 use Rattle.ad_load_records.specs.Good.{HasBytes, IsGoodRecord, ReadsBack}
 use Rattle.ad_load_objects.specs.Drafts.{Given, Draft, naming_value, is_given, first_given, draft_sid}
-use Rattle.ad_load_objects.specs.Objects.{Kept, nothing_kept, parent_of, is_taken, is_named_by, classes_named}
+use Rattle.ad_load_objects.specs.Objects.{DraftValues, nothing_kept, parent_of, is_taken, is_named_by, classes_named}
 use Rattle.ad_load_objects.specs.Objects.{class_of, is_sid_used, is_sid_taken}
 use Rattle.ad_schema_defaults.specs.NewClass.{is_structural, lowest_of}
 use Rattle.ad_load_objects.specs.Objects.{is_one_too_many, value_of, is_dropped, with_value, with_sd, with_ordinary}
@@ -154,7 +154,7 @@ unused_more schema drafts given g (Some p) before taken = elim (first_more given
 -- ---- the lines of one object
 
 -- what was kept is good
-pub record IsGoodKept (schema : List SchemaRecord) (drafts : List Draft) (kept : Kept) : Type 0 where
+pub record IsGoodKept (schema : List SchemaRecord) (drafts : List Draft) (kept : DraftValues) : Type 0 where
   pub given : AllByRecursion (IsGoodGiven schema) kept.given
   pub sid : used_by schema drafts kept.given (object_sid schema) ≡ false
 
@@ -165,7 +165,7 @@ taken_free : (schema : List SchemaRecord) (drafts : List Draft) (given : List Gi
 unfolding is_sid_taken
 taken_free schema drafts given g before free = unused_more schema drafts given g (object_sid schema) before free
 
-value_good : ReadsBack → (schema : List SchemaRecord) (drafts : List Draft) (kept next : Kept) (attr : ℕ)
+value_good : ReadsBack → (schema : List SchemaRecord) (drafts : List Draft) (kept next : DraftValues) (attr : ℕ)
     (field : Field) → attr < length (attrs_of schema) → HasBytes field → IsGoodKept schema drafts kept
     → with_value schema drafts kept attr field ≡ Ok next → IsGoodKept schema drafts next
 unfolding with_value
@@ -173,9 +173,9 @@ value_good reads schema drafts kept next attr field lt are good e =
     let a = bind_ok (value_of schema attr field) _ next e in
     let v : Value = a.0 in
     let g : Given = record { line = field.line; spelled = field.name; attr = attr; value = v } in
-    let made : Kept = record { given = kept.given ++ g ∷ []; sd = kept.sd } in
-    let last : Unit {0} → Result Kept LoadFault = λ (u : Unit {0}). Ok made in
-    let others : Unit {0} → Result Kept LoadFault = λ (u : Unit {0}). need
+    let made : DraftValues = record { given = kept.given ++ g ∷ []; sd = kept.sd } in
+    let last : Unit {0} → Result DraftValues LoadFault = λ (u : Unit {0}). Ok made in
+    let others : Unit {0} → Result DraftValues LoadFault = λ (u : Unit {0}). need
     (not (is_sid_taken schema drafts kept.given attr v)) (at field.line cause.Sid) >>= last in
     let b = need_ok (not (is_one_too_many schema kept.given attr v)) (at field.line (cause.Value field.name)) others
     next a.2 in
@@ -188,19 +188,19 @@ value_good reads schema drafts kept next attr field lt are good e =
       sid = taken_free schema drafts kept.given g good.sid free;
     })
 
-sd_good : (schema : List SchemaRecord) (drafts : List Draft) (kept next : Kept) (field : Field)
+sd_good : (schema : List SchemaRecord) (drafts : List Draft) (kept next : DraftValues) (field : Field)
     → IsGoodKept schema drafts kept → with_sd kept field ≡ Ok next → IsGoodKept schema drafts next
 unfolding with_sd
 sd_good schema drafts kept next field good e =
-    let others : Unit {0} → Result Kept LoadFault = λ (u : Unit {0}). or_fault (at field.line cause.Descriptor)
+    let others : Unit {0} → Result DraftValues LoadFault = λ (u : Unit {0}). or_fault (at field.line cause.Descriptor)
     (sd_of field.value) >>= λ (sd : Sd). Ok (record { given = kept.given; sd = Some sd }) in
     let a = need_ok (is_none kept.sd) (at field.line cause.Descriptor) others next e in
     let b = bind_ok (or_fault (at field.line cause.Descriptor) (sd_of field.value))
     (λ (sd : Sd). Ok (record { given = kept.given; sd = Some sd })) next a.1 in
-    let made : Kept = record { given = kept.given; sd = Some b.0 } in
+    let made : DraftValues = record { given = kept.given; sd = Some b.0 } in
     subst (IsGoodKept schema drafts) (load_is made next b.2) (record { given = good.given; sid = good.sid })
 
-ordinary_good : ReadsBack → (schema : List SchemaRecord) (drafts : List Draft) (class : ℕ) (kept next : Kept)
+ordinary_good : ReadsBack → (schema : List SchemaRecord) (drafts : List Draft) (class : ℕ) (kept next : DraftValues)
     (field : Field) → HasBytes field → IsGoodKept schema drafts kept
     → with_ordinary schema drafts class kept field ≡ Ok next → IsGoodKept schema drafts next
 unfolding with_ordinary
@@ -217,7 +217,7 @@ ordinary_good reads schema drafts class kept next field are good e =
     by true attr lt q = let same : kept ≡ next = cc in subst (IsGoodKept schema drafts) same good
     by false attr lt q = value_good reads schema drafts kept next attr field lt are good q
 
-line_good : ReadsBack → (schema : List SchemaRecord) (drafts : List Draft) (class : ℕ) (kept next : Kept)
+line_good : ReadsBack → (schema : List SchemaRecord) (drafts : List Draft) (class : ℕ) (kept next : DraftValues)
     (field : Field) → IsGoodKept schema drafts kept → HasBytes field
     → with_line schema drafts class kept field ≡ Ok next → IsGoodKept schema drafts next
 unfolding with_line
@@ -238,7 +238,7 @@ nothing_good schema drafts = record { given = tt; sid = none (object_sid schema)
     none (Some p) = refl
 
 lines_good : ReadsBack → (schema : List SchemaRecord) (drafts : List Draft) (class : ℕ) (fields : List Field)
-    (kept : Kept) → AllByRecursion HasBytes fields → with_lines schema drafts class fields ≡ Ok kept
+    (kept : DraftValues) → AllByRecursion HasBytes fields → with_lines schema drafts class fields ≡ Ok kept
     → IsGoodKept schema drafts kept
 unfolding with_lines
 lines_good reads schema drafts class fields kept are e =
@@ -284,7 +284,7 @@ draft_good reads schema drafts r d good e =
     b.2 in
     let f = need_ok (not (is_taken drafts parent (naming_value r.rdns))) (at r.line cause.NameTaken) _ d c.1 in
     let g = bind_ok (with_lines schema drafts class.0 r.fields) _ d f.1 in
-    let kept : Kept = g.0 in
+    let kept : DraftValues = g.0 in
     let lines = lines_good reads schema drafts class.0 r.fields kept good.bytes g.1 in
     let made : Draft = record { rdns = r.rdns; parent = parent; class = class.0; given = kept.given; sd = kept.sd } in
     subst (IsGoodDraft schema drafts) (load_is made d g.2) (record {

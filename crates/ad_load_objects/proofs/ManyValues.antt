@@ -15,8 +15,8 @@ use Rattle.std.proofs.lemmas.Map.Text.{is_eq-slice_cmp}
 use Rattle.ad_value.specs.declared.value.Key.{Key}
 use Rattle.ad_value.specs.declared.value.Key.TheVariants.{Bytes, Number}
 use Rattle.ad_value.specs.Value.{same_key, number_in}
-use Rattle.ad_load_objects.specs.declared.had.ValueKey.{ValueKey}
-use Rattle.ad_load_objects.specs.declared.had.Had.{Had}
+use Rattle.ad_load_objects.specs.declared.seen_values.ValueKey.{ValueKey}
+use Rattle.ad_load_objects.specs.declared.seen_values.SeenValues.{SeenValues}
 use Rattle.ad_load_objects.specs.Drafts.{Given, is_given}
 use Rattle.ad_load_objects.specs.Had.{key_cmp, bytes_of, IsKeyOf, has_key, AreHad}
 
@@ -71,7 +71,7 @@ any_last : (test : Given → Bool) (given : List Given) (g : Given) → cond (te
     ≡ list_any test (given ++ g ∷ [])
 any_last test given g = or_last (list_any test given) (test g) ∙ sym (list_any-append test given (g ∷ []))
 
-pub had_more : (given : List Given) (g : Given) (old new : Had) (one : ValueKey) → AreHad given old
+pub had_more : (given : List Given) (g : Given) (old new : SeenValues) (one : ValueKey) → AreHad given old
     → IsKeyOf g.attr g.value.key one
     → Updates nat_cmp old.attrs new.attrs g.attr true → Updates key_cmp old.values new.values one true
     → AreHad (given ++ g ∷ []) new

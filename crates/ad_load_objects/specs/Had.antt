@@ -11,8 +11,8 @@ use Rattle.ad_value.specs.declared.value.Key.{Key}
 use Rattle.ad_value.specs.declared.value.Key.TheVariants as variant
 use Rattle.ad_value.specs.Value.{same_key, number_in}
 use Rattle.ad_load_objects.specs.declared.drafts.Given.{Given as HeldGiven}
-use Rattle.ad_load_objects.specs.declared.had.ValueKey.{ValueKey}
-use Rattle.ad_load_objects.specs.declared.had.Had.{Had}
+use Rattle.ad_load_objects.specs.declared.seen_values.ValueKey.{ValueKey}
+use Rattle.ad_load_objects.specs.declared.seen_values.SeenValues.{SeenValues}
 use Rattle.ad_load_objects.specs.Drafts.{Given, is_given}
 use Rattle.ad_load_objects.specs.Objects.{is_same_given}
 use Rattle.ad_load_objects.specs.Seen.{given_seen}
@@ -38,7 +38,7 @@ abbrev pub has_key : ℕ → Key → Given → Bool
 has_key attr key g = g.attr == attr && same_key g.value.key key
 
 -- An attribute is among them exactly where a value is of it, and a key exactly where a value has it.
-pub record AreHad (given : List Given) (had : Had) : Type 0 where
+pub record AreHad (given : List Given) (had : SeenValues) : Type 0 where
   pub attrs : (attr : ℕ) → contains nat_cmp had.attrs attr ≡ list_any (is_given attr) given
   pub values : (attr : ℕ) (key : Key) (one : ValueKey) → IsKeyOf attr key one → contains key_cmp had.values one
       ≡ list_any (has_key attr key) given

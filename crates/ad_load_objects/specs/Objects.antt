@@ -97,15 +97,15 @@ class_of schema line fields = do
 -- ---- one line
 
 -- what the lines so far gave
-pub record Kept : Type 0 where
+pub record DraftValues : Type 0 where
   pub given : List Given
   pub sd : Option Sd
 
-abbrev pub nothing_kept : Kept
+abbrev pub nothing_kept : DraftValues
 nothing_kept = record { given = []; sd = None }
 
 -- a descriptor that can be read, and the first one
-unfoldable pub with_sd : Kept → Field → Result Kept LoadFault
+unfoldable pub with_sd : DraftValues → Field → Result DraftValues LoadFault
 with_sd kept field = do
   _ ← need (is_none kept.sd) (at field.line cause.Descriptor)
   sd ← or_fault (at field.line cause.Descriptor) (sd_of field.value)
@@ -145,7 +145,7 @@ is_sid_taken schema drafts given attr value =
     option_map_or (λ place. place == attr) (object_sid schema) false && not (list_any (is_given attr) given)
     && is_sid_used schema drafts (sid_of value.shown)
 
-unfoldable pub with_value : List SchemaRecord → List Draft → Kept → ℕ → Field → Result Kept LoadFault
+unfoldable pub with_value : List SchemaRecord → List Draft → DraftValues → ℕ → Field → Result DraftValues LoadFault
 with_value schema drafts kept attr field = do
   value ← value_of schema attr field
   _ ← need (not (is_one_too_many schema kept.given attr value)) (at field.line (cause.Value field.name))
@@ -157,18 +157,18 @@ with_value schema drafts kept attr field = do
   })
 
 -- a line of an attribute of the schema
-unfoldable pub with_ordinary : List SchemaRecord → List Draft → ℕ → Kept → Field → Result Kept LoadFault
+unfoldable pub with_ordinary : List SchemaRecord → List Draft → ℕ → DraftValues → Field → Result DraftValues LoadFault
 with_ordinary schema drafts class kept field = do
   attr ← ok_or (attr_place schema field.name) (at field.line (cause.Attribute field.name))
   if is_dropped schema class attr field.name then Ok kept else with_value schema drafts kept attr field
 
 -- nTSecurityDescriptor is no ordinary attribute, whether the schema names it or not.
-unfoldable pub with_line : List SchemaRecord → List Draft → ℕ → Kept → Field → Result Kept LoadFault
+unfoldable pub with_line : List SchemaRecord → List Draft → ℕ → DraftValues → Field → Result DraftValues LoadFault
 with_line schema drafts class kept field =
     if same_name field.name (codes "nTSecurityDescriptor") then with_sd kept field else with_ordinary schema drafts
     class kept field
 
-unfoldable pub with_lines : List SchemaRecord → List Draft → ℕ → List Field → Result Kept LoadFault
+unfoldable pub with_lines : List SchemaRecord → List Draft → ℕ → List Field → Result DraftValues LoadFault
 with_lines schema drafts class fields = through (with_line schema drafts class) nothing_kept fields
 
 -- ---- one object, after those before it

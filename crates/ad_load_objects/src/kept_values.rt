@@ -8,7 +8,7 @@ ghost use Rattle.ad_load_objects.specs.Objects.{is_same_given};
 ghost use Rattle.ad_load_objects.specs.Seen.{given_seen};
 
 use crate::drafts::Given;
-use crate::had::{Had, had_of_many, has_attr, note};
+use crate::seen_values::{SeenValues, had_of_many, has_attr, note};
 use ad_schema::AttrId;
 use ad_value::{Value, equal};
 use std::alloc::{AllocError, Global};
@@ -19,7 +19,7 @@ use std::marker::Model;
 pub(crate) struct Values {
     items: Vec<Given>,
     // What they are found by, once they are many.
-    had: Option<Had>,
+    had: Option<SeenValues>,
 }
 
 impl Model for Values {
@@ -86,7 +86,7 @@ fn push_few(items: &mut Vec<Given>, single: bool, one: Given) -> Result<Option<G
 fn push_known(
     alloc: Global,
     items: &mut Vec<Given>,
-    known: &mut Had,
+    known: &mut SeenValues,
     single: bool,
     one: Given,
 ) -> Result<Option<Given>, AllocError>
@@ -107,10 +107,10 @@ fn push_known(
 fn push_many(
     alloc: Global,
     items: &mut Vec<Given>,
-    known: Had,
+    known: SeenValues,
     single: bool,
     one: Given,
-) -> Result<(Option<Given>, Option<Had>), AllocError>
+) -> Result<(Option<Given>, Option<SeenValues>), AllocError>
     requires { AreHad (map given_seen items.old.items) known }
     ensures put { IfOk result (λ both. PutsOnce single (given_seen one) (map given_seen items.old.items)
         (map given_seen items.new.items) both.0) }
@@ -128,7 +128,7 @@ fn push_many(
 fn push(
     alloc: Global,
     items: &mut Vec<Given>,
-    had: &mut Option<Had>,
+    had: &mut Option<SeenValues>,
     single: bool,
     one: Given,
 ) -> Result<Option<Given>, AllocError>
@@ -151,7 +151,7 @@ fn push(
     }
 }
 
-fn is_of_one(items: &[Given], had: &Option<Had>, attr: AttrId) -> bool
+fn is_of_one(items: &[Given], had: &Option<SeenValues>, attr: AttrId) -> bool
     requires { IfSome had.now (AreHad (map given_seen items.now)) }
     ensures { result ≡ list_any (is_given attr.0) (map given_seen items.now) }
 {

@@ -27,12 +27,12 @@ mod attributes;
 mod classes;
 mod drafts;
 mod found;
-mod had;
 mod index;
 mod kept_values;
 mod objects;
 mod order;
 mod repeated;
+mod seen_values;
 mod values;
 
 pub use drafts::{Draft, Drafts, Given, draft_sid, naming_value};

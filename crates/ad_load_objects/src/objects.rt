@@ -22,7 +22,7 @@ use crate::found::{Found, none_found};
 use crate::index::{Keyed, is_taken, name_key, no_drafts, parent_of, place_key, push};
 use crate::order::{has_root, is_object, sort_by_parts};
 use crate::repeated::ReadSd;
-use crate::values::{Kept, take_lines};
+use crate::values::{DraftValues, take_lines};
 use ad_bytes::Bytes;
 use ad_dn::Dn;
 use ad_load_records::{LoadCause, LoadFault, Record, bad};
@@ -30,7 +30,7 @@ use ad_schema::{ClassId, Schema};
 use std::alloc::Global;
 
 // The draft that has what the lines gave.
-fn draft_with(dn: Dn, parent: u32, class: ClassId, kept: Kept) -> Draft
+fn draft_with(dn: Dn, parent: u32, class: ClassId, kept: DraftValues) -> Draft
     ensures { draft_seen result ≡ record {
       rdns = dn.rdns;
       parent = parent;
@@ -40,7 +40,7 @@ fn draft_with(dn: Dn, parent: u32, class: ClassId, kept: Kept) -> Draft
       sd = (kept_seen kept).sd;
     } }
 {
-    let Kept { given, sd } = kept;
+    let DraftValues { given, sd } = kept;
     Draft {
         dn,
         parent,

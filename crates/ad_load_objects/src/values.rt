@@ -37,7 +37,7 @@ use std::rc::Rc;
 
 /// What the lines so far gave.
 #[derive(Drop)]
-pub(crate) struct Kept {
+pub(crate) struct DraftValues {
     pub(crate) given: Values,
     pub(crate) sd: Option<Rc<NormalSd>>,
 }
@@ -85,7 +85,7 @@ fn read_descriptor(
 fn take_sd(
     alloc: Global,
     last: &mut Option<ReadSd>,
-    kept: &mut Kept,
+    kept: &mut DraftValues,
     field: &HeldLine,
 ) -> Result<(), LoadFault>
     ensures { GivesUnless is_memory (λ _. kept_seen kept.new) result
@@ -181,7 +181,7 @@ fn take_value(
     alloc: Global,
     schema: &Schema,
     drafts: &Drafts,
-    kept: &mut Kept,
+    kept: &mut DraftValues,
     attr: AttrId,
     field: HeldLine,
 ) -> Result<(), LoadFault>
@@ -218,7 +218,7 @@ fn take_ordinary(
     drafts: &Drafts,
     found: &mut Vec<Found>,
     class: ClassId,
-    kept: &mut Kept,
+    kept: &mut DraftValues,
     field: HeldLine,
 ) -> Result<(), LoadFault>
     requires class { class.0 < length (classes_of schema.now) }
@@ -255,7 +255,7 @@ fn take_line(
     last: &mut Option<ReadSd>,
     found: &mut Vec<Found>,
     class: ClassId,
-    kept: &mut Kept,
+    kept: &mut DraftValues,
     field: HeldLine,
 ) -> Result<(), LoadFault>
     requires class { class.0 < length (classes_of schema.now) }
@@ -273,10 +273,10 @@ fn take_line(
 }
 
 // Nothing yet, with room for so many values.
-fn nothing_kept(alloc: Global, room: usize) -> Result<Kept, AllocError>
+fn nothing_kept(alloc: Global, room: usize) -> Result<DraftValues, AllocError>
     ensures { IfOk result (λ kept. kept_seen kept ≡ nothing_kept) }
 {
-    Ok(Kept {
+    Ok(DraftValues {
         given: Values::with_room(alloc, room)?,
         sd: None,
     })
@@ -293,7 +293,7 @@ pub(crate) fn take_lines(
     found: &mut Vec<Found>,
     class: ClassId,
     fields: Vec<HeldLine>,
-) -> Result<Kept, LoadFault>
+) -> Result<DraftValues, LoadFault>
     requires class { class.0 < length (classes_of schema.now) }
     requires sids { HasSids schema.now drafts.now }
     requires found { AreFound schema.now found.old.items }

@@ -13,7 +13,7 @@ ghost use Rattle.ad_load_records.specs.Records.{most_lines};
 
 use crate::fault::{LoadCause, LoadFault};
 use crate::records::{MAX_TEXT, Record, read_all};
-use ad_ldif::{Kept, end_of_records, line_ends};
+use ad_ldif::{LineCache, end_of_records, line_ends};
 use std::alloc::{AllocError, Global};
 use std::marker::Model;
 use std::mem;
@@ -47,7 +47,7 @@ struct Front {
     line: u32,
     held: Vec<u8>,
     records: Vec<Record>,
-    kept: Kept,
+    kept: LineCache,
 }
 
 impl Front {
@@ -61,7 +61,7 @@ impl Front {
             line: 1,
             held: Vec::new(alloc),
             records: Vec::new(alloc),
-            kept: Kept::nothing(),
+            kept: LineCache::nothing(),
         }
     }
 
@@ -82,7 +82,7 @@ impl Front {
             → read_on (map seen self.old.records.items) self.old.line (self.old.held.items ++ rest)
             ≡ Err f) }
     {
-        let kept = mem::replace(&mut self.kept, Kept::nothing());
+        let kept = mem::replace(&mut self.kept, LineCache::nothing());
         let text = &self.held[..end];
         let lines = line_ends(text);
         self.kept = read_all(alloc, text, self.line, kept, &mut self.records)?;

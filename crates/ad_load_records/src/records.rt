@@ -14,7 +14,7 @@ ghost use Rattle.ad_load_records.specs.Records.{most_lines};
 
 use crate::fault::{LoadCause, LoadFault};
 use ad_dn::{Dn, DnFault, Rdn};
-use ad_ldif::{Kept, LdifFault, LdifKind, LdifLine as HeldLine, LdifRecord, Reader};
+use ad_ldif::{LineCache, LdifFault, LdifKind, LdifLine as HeldLine, LdifRecord, Reader};
 use ad_schema::SchemaKind;
 use ad_schema_classes::same_name;
 use std::alloc::Global;
@@ -164,9 +164,9 @@ pub(crate) fn read_all(
     alloc: Global,
     text: &[u8],
     line: u32,
-    kept: Kept,
+    kept: LineCache,
     records: &mut Vec<Record>,
-) -> Result<Kept, LoadFault>
+) -> Result<LineCache, LoadFault>
     requires { line + length text.now ≤ most_lines + 1 }
     ensures read { IfOk result (λ _. read_on (map seen records.old.items) line text.now
         ≡ Ok (map seen records.new.items)) }
@@ -192,6 +192,6 @@ pub fn records_in(alloc: Global, text: &[u8]) -> Result<Vec<Record>, LoadFault>
         });
     }
     let mut records = Vec::new(alloc);
-    read_all(alloc, text, 1, Kept::nothing(), &mut records)?;
+    read_all(alloc, text, 1, LineCache::nothing(), &mut records)?;
     Ok(records)
 }

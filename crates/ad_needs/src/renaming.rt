@@ -80,7 +80,7 @@ fn new_parent(dir: &Dir, number: u32, superior: Option<u32>) -> u32
     ensures parent { result ≡ parent_by dir.now number superior }
     ensures live { number ≢ root → is_live dir.now.objects result ≡ true }
 {
-    dir.stands();
+    dir.invariants();
     match superior {
         Some(above) => above,
         None => live_object(dir, number).parent,

@@ -214,7 +214,7 @@ fn full_name(alloc: Global, dir: &Dir, number: u32) -> Result<Vec<u8>, AllocErro
     ensures { IfOk result (λ full. full.items ≡ (object_at dir.now.objects number).name ++ dot
         ∷ domain_name dir.now) }
 {
-    dir.stands();
+    dir.invariants();
     let root = dir.dn(alloc, ROOT)?;
     let object = live_object(dir, number);
     dotted_name(alloc, object.name.as_slice(), root.rdns.as_slice())

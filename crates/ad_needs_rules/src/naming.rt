@@ -73,7 +73,7 @@ pub fn visible(alloc: Global, dir: &Dir, token: &Token, dn: &Dn) -> Result<Optio
     ensures live { IfOk result (λ found.
         IfSome found (λ number. is_live dir.now.objects number ≡ true)) }
 {
-    dir.stands();
+    dir.invariants();
     match dir.find(alloc, dn)? {
         Some(number) => Ok(if_visible(dir, token, number)),
         None => Ok(None),
@@ -94,7 +94,7 @@ fn levels_to_visible(alloc: Global, dir: &Dir, token: &Token, dn: &Dn) -> Result
     ensures nearest { IfOk result (λ levels. drop levels dn.now.rdns ≡ matched dir.now token.now
         dn.now.rdns) }
 {
-    dir.stands();
+    dir.invariants();
     let parts = dn.rdns.len();
     let above_root = dir.meta().suffix.rdns.len();
     if parts <= above_root {

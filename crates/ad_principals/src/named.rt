@@ -162,6 +162,6 @@ pub fn principal_named(alloc: Global, dir: &Dir, name: &[u8]) -> Result<u32, Nam
     ensures named { GivesUnless is_memory (λ number. number) result (named dir.now name.now) }
     ensures live { IfOk result (λ number. is_live dir.now.objects number ≡ true) }
 {
-    dir.stands();
+    dir.invariants();
     object_named(alloc, dir, name)
 }

@@ -63,7 +63,7 @@ pub(crate) fn take_groups_of(
     requires { AreMembersOf dir.now members.now }
     ensures { OnOk result (Takes (IsIn dir.now sid.now) taken.old.keys taken.new.keys) }
 {
-    dir.stands();
+    dir.invariants();
     match dir.with_sid(sid) {
         Some(number) => take_groups(taken, dir, members.groups_of(number)),
         None => Ok(()),

@@ -32,7 +32,7 @@ use Rattle.ad_rows.specs.Refusal as refused
 use Rattle.ad_rows_write.specs.Rows.{HasBody, Shows, AreRowsOf, IsOnlyOf}
 use Rattle.ad_rows.specs.Taking.{Parts, AreAll, HasBytes, no_parts, completed, with_rows, schema_among}
 use Rattle.ad_rows.specs.Taking as taking
-use Rattle.ad_rows.proofs.Codec.{IsKept, IsKeptHeld, IsReadAs}
+use Rattle.ad_rows.proofs.Codec.{IsStoredValue, IsKeptHeld, IsReadAs}
 use Rattle.ad_rows.proofs.Complete.{reads_schema, reads_all}
 use Rattle.ad_rows.proofs.Folding.{TakingSays, taking_says, split, form_there}
 use Rattle.ad_rows.proofs.Gathered.{IsKeptObject, Gathers, gathers}
@@ -43,7 +43,7 @@ use Rattle.ad_rows.proofs.Schemas.{knows, schema_there, schema_has}
 
 -- ---- the directory that was read
 
-by_bytes : (schema : List SchemaRecord) (attr : ℕ) (stored : Stored) → IsKept (Some schema) attr stored
+by_bytes : (schema : List SchemaRecord) (attr : ℕ) (stored : Stored) → IsStoredValue (Some schema) attr stored
     → IsByBytes schema attr stored
 by_bytes schema attr (plain value) kept = kept
 by_bytes schema attr (link number) kept = kept
@@ -51,7 +51,7 @@ by_bytes schema attr (link number) kept = kept
 held_by_row : (schema : List SchemaRecord) (held : Held) → IsKeptHeld (Some schema) held → IsHeldByRow schema held
 held_by_row schema held kept = record {
   some = kept.some;
-  each = all_as (IsKept (Some schema) held.attr)
+  each = all_as (IsStoredValue (Some schema) held.attr)
       (IsByBytes schema held.attr) (by_bytes schema held.attr) held.values kept.each;
 }
 

@@ -199,9 +199,9 @@ plain_of None attr bytes = as_shown bytes
 plain_of (Some schema) attr bytes = value_of schema attr bytes
 
 -- a value as it is read of its bytes
-abbrev pub IsKept : Option (List SchemaRecord) → ℕ → Stored → Type 0
-IsKept schema attr (plain value) = (is_link_in schema attr ≡ false) × (value ≡ plain_of schema attr value.shown)
-IsKept schema attr (link number) = is_link_in schema attr ≡ true
+abbrev pub IsStoredValue : Option (List SchemaRecord) → ℕ → Stored → Type 0
+IsStoredValue schema attr (plain value) = (is_link_in schema attr ≡ false) × (value ≡ plain_of schema attr value.shown)
+IsStoredValue schema attr (link number) = is_link_in schema attr ≡ true
 
 by_shown : (b : Bool) (syntax : Syntax) (bytes : List ℕ) → (value_by b syntax bytes).shown ≡ bytes
 by_shown true syntax bytes = refl
@@ -263,7 +263,7 @@ link_again number text s =
     rw read refl
 
 abbrev pub KeptStored : Option (List SchemaRecord) → ℕ → Stored → List ℕ → Type 0
-KeptStored schema attr stored text = IsKept schema attr stored × SpellsStored stored text
+KeptStored schema attr stored text = IsStoredValue schema attr stored × SpellsStored stored text
 
 module _ (schema : Option (List SchemaRecord)) (attr : ℕ) where
   any_takes : (shown : List ℕ) (stored : Stored) (text : List ℕ) → IsBytes text → any_stored_of schema attr shown
@@ -315,7 +315,7 @@ module _ (schema : Option (List SchemaRecord)) (attr : ℕ) where
       (taken_as SpellsText (KeptStored schema attr) bytes shown.0 s shown.1 fits
       (λ text are spelled. any_takes shown.0 s text are e3 spelled) (text_takes bytes shown.0 shown.1 fits e1))))
 
-  any_again : (stored : Stored) (bytes : List ℕ) → IsKept schema attr stored
+  any_again : (stored : Stored) (bytes : List ℕ) → IsStoredValue schema attr stored
       → (stored ≡ plain (plain_of schema attr bytes)) → is_link_in schema attr ≡ false → any_stored_of schema attr
       bytes ≡ Ok stored
   any_again stored bytes kept same is = any_stored_is schema attr bytes ∙ ap (read_as schema attr bytes) is
@@ -349,7 +349,7 @@ module _ (schema : Option (List SchemaRecord)) (attr : ℕ) where
 
 pub record IsKeptHeld (schema : Option (List SchemaRecord)) (held : Held) : Type 0 where
   pub some : 0 < length held.values
-  pub each : AllByRecursion (IsKept schema held.attr) held.values
+  pub each : AllByRecursion (IsStoredValue schema held.attr) held.values
 
 abbrev pub KeptHeld : Option (List SchemaRecord) → Held → List ℕ → Type 0
 KeptHeld schema held text = IsKeptHeld schema held × SpellsHeld held text
@@ -414,7 +414,7 @@ module _ (schema : Option (List SchemaRecord)) where
       (taken_as (λ (ys : List Stored). StartsWith (SpellsBe 4) attr.0 (Listed ys)) (KeptHeld schema) bytes values.0
       one values.1 fits
       (λ text _ s.
-      let parts = list_parts (IsKept schema attr.0) SpellsStored values.0 s.behind s.follows.1 in (
+      let parts = list_parts (IsStoredValue schema attr.0) SpellsStored values.0 s.behind s.follows.1 in (
         record { some = s.follows.0; each = parts.0 },
         record
             { front = s.front; behind = s.behind; parts = s.parts; spelled = s.spelled; follows = parts.1 },
@@ -429,7 +429,7 @@ module _ (schema : Option (List SchemaRecord)) where
       rw (
         again_first (SpellsBe 4) (be_at 4) (be_reader 4) held.attr (SpellsList SpellsStored held.values) text rest f,
         values_again held.attr held.values f.behind rest s.0.some
-            (list_with (IsKept schema held.attr) SpellsStored held.values f.behind s.0.each f.follows),
+            (list_with (IsStoredValue schema held.attr) SpellsStored held.values f.behind s.0.each f.follows),
       ) refl
 
   held_reader : IsReaderOf (KeptHeld schema) (held_at schema)

@@ -25,7 +25,7 @@ use Rattle.ad_rows.specs.Form.{meta_form, record_form}
 use Rattle.ad_rows.specs.Parsing.{attrs_rise, object_in, queue_in, meta_in, record_in}
 use Rattle.ad_rows.specs.Taking.{Parts, bad_row, fault_of, stands_as, body_of, number_of, with_object, with_pending}
 use Rattle.ad_rows.specs.Taking.{with_meta, with_record, with_any}
-use Rattle.ad_rows.proofs.Codec.{is_link_in, plain_of, plain_shown, IsKept, IsKeptHeld, IsReadAs, object_takes}
+use Rattle.ad_rows.proofs.Codec.{is_link_in, plain_of, plain_shown, IsStoredValue, IsKeptHeld, IsReadAs, object_takes}
 use Rattle.ad_rows.proofs.Codec.{object_again}
 use Rattle.ad_rows.proofs.Growing.{rises}
 use Rattle.ad_rows.proofs.Reread.{all_as, rise_is, queue_takes, queue_read, meta_takes, meta_read, record_takes}
@@ -79,7 +79,7 @@ all_map f P Q so (x ∷ xs) all = (so x all.0, all_map f P Q so xs all.1)
 module _ (table : Table) (schema : Option (List SchemaRecord)) (knows : Knows table schema) where
   -- ---- a body that was read is of the form
 
-  stored_form : (attr : ℕ) (stored : Stored) → IsKept schema attr stored → IsOfKind (CountsAsLink table attr) stored
+  stored_form : (attr : ℕ) (stored : Stored) → IsStoredValue schema attr stored → IsOfKind (CountsAsLink table attr) stored
   stored_form attr (plain value) kept = λ counts.
       absurd (let clash : true ≡ false = sym (knows.back attr counts) ∙ kept.0 in cc clash)
   stored_form attr (link number) kept = knows.links attr kept
@@ -87,7 +87,7 @@ module _ (table : Table) (schema : Option (List SchemaRecord)) (knows : Knows ta
   held_form : (held : Held) → IsKeptHeld schema held → IsHeldForm (CountsAsLink table) held
   held_form held kept = record {
     some = kept.some;
-    each = all_as (IsKept schema held.attr)
+    each = all_as (IsStoredValue schema held.attr)
         (IsOfKind (CountsAsLink table held.attr)) (stored_form held.attr) held.values kept.each;
   }
 
@@ -104,7 +104,7 @@ module _ (table : Table) (schema : Option (List SchemaRecord)) (knows : Knows ta
   -- ---- a body of the form is read
 
   stored_kept : (attr : ℕ) (stored : Stored) → IsOfKind (CountsAsLink table attr) stored
-      → IsKept schema attr (kept_stored schema attr stored)
+      → IsStoredValue schema attr (kept_stored schema attr stored)
   stored_kept attr (plain value) form = (
     not_true (is_link_in schema attr) (λ is. form (knows.links attr is)),
     ap
@@ -121,7 +121,7 @@ module _ (table : Table) (schema : Option (List SchemaRecord)) (knows : Knows ta
   held_kept : (held : Held) → IsHeldForm (CountsAsLink table) held → IsKeptHeld schema (kept_held schema held)
   held_kept held form = record {
     some = subst (λ (n : ℕ). 0 < n) (sym (length-map held.values (kept_stored schema held.attr))) form.some;
-    each = all_map (kept_stored schema held.attr) (IsOfKind (CountsAsLink table held.attr)) (IsKept schema held.attr)
+    each = all_map (kept_stored schema held.attr) (IsOfKind (CountsAsLink table held.attr)) (IsStoredValue schema held.attr)
         (stored_kept held.attr) held.values form.each;
   }
 

@@ -41,7 +41,7 @@ use Rattle.ad_rows.specs.Form.{value_kept, value_by}
 use Rattle.ad_rows.specs.Parsing.{ended, text_at, attrs_rise, sd_of, object_in, pending_at, queue_in, canonical_of}
 use Rattle.ad_rows.specs.Parsing.{suffix_of, meta_in, kind_of, line_at, record_in}
 use Rattle.ad_rows.proofs.Codec.{taken_as, taken_whole, from_ended, number_takes, text_takes, text_reader}
-use Rattle.ad_rows.proofs.Codec.{counted_takes, count_again, each_again, IsKept, IsKeptHeld, IsReadAs, object_again}
+use Rattle.ad_rows.proofs.Codec.{counted_takes, count_again, each_again, IsStoredValue, IsKeptHeld, IsReadAs, object_again}
 
 pub sd_not : (text : List ℕ) → IsBytes text → ((sd : Sd) → SpellsNormal sd text → ⊥) → sd_of text ≡ Err Bad
 sd_not text fits none = by (is_normal text) refl
@@ -57,7 +57,7 @@ value_is true syntax v is = is.1
 value_is false syntax v is = sym (ap (value_kept v.shown) is)
 
 kept_stored : (schema : List SchemaRecord) (attr : ℕ) → attr < length (attrs_of schema) → (stored : Stored)
-    → IsStored schema attr stored → IsKept (Some schema) attr stored
+    → IsStored schema attr stored → IsStoredValue (Some schema) attr stored
 kept_stored schema attr within (plain value) is = (
   is.0,
   value_is (is_named schema (codes "unicodePwd") attr) (syntax_at schema attr) value is.1
@@ -75,7 +75,7 @@ kept_held : (schema : List SchemaRecord) (held : Held) → IsHeld schema held �
 kept_held schema held is = record {
   some = is.some;
   each = all_as (IsStored schema held.attr)
-      (IsKept (Some schema) held.attr) (kept_stored schema held.attr is.of_schema) held.values is.each;
+      (IsStoredValue (Some schema) held.attr) (kept_stored schema held.attr is.of_schema) held.values is.each;
 }
 
 pub rise_is : (least : ℕ) (values : List Held) → AttrsRiseFrom least values → attrs_rise least values ≡ true

@@ -136,7 +136,7 @@ fn put_all<R: RowList>(alloc: Global, none: R, dir: &Dir) -> Result<R, AllocErro
     ensures rows { IfOk result (λ rows. AreRowsOf dir.now (table_of (R.rows rows))) }
     ensures listed { IfOk result (λ rows. AreListed (R.rows rows)) }
 {
-    dir.stands();
+    dir.invariants();
     let objects = put_objects(alloc, none, dir)?;
     let pending = entries_of(alloc, dir.queue())?;
     put_rest(

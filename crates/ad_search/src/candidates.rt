@@ -49,7 +49,7 @@ fn greater(a: u32, b: u32) -> u32
 fn next_of_one(dir: &Dir, leaf: &Leaf, above: u32) -> Option<u32>
     ensures { IsNextOf dir.now (λ number. Shows dir.now number leaf.now) above result }
 {
-    dir.stands();
+    dir.invariants();
     match &leaf.sought {
         Some(sought) => next_shown(dir, sought, above),
         None => after(above),
@@ -60,7 +60,7 @@ fn next_of_one(dir: &Dir, leaf: &Leaf, above: u32) -> Option<u32>
 fn next_of_some(dir: &Dir, above: u32) -> Option<u32>
     ensures { (need : Needed) → IsNextOf dir.now (λ number. IsMet dir.now number need) above result }
 {
-    dir.stands();
+    dir.invariants();
     after(above)
 }
 
@@ -81,7 +81,7 @@ fn next_of_any(dir: &Dir, needs: &[Need], above: u32) -> Option<u32>
 fn next_of_all(dir: &Dir, needs: &[Need], above: u32) -> Option<u32>
     ensures { IsNextOf dir.now (λ number. AreMet dir.now number needs.now) above result }
 {
-    dir.stands();
+    dir.invariants();
     let Some(mut next) = after(above) else {
         return None;
     };
@@ -212,7 +212,7 @@ fn found_by(
     ensures { IfOk result (λ found.
         IfSome found (λ left. IsLeftOfAll dir.now (search_seen search.now) left.items)) }
 {
-    dir.stands();
+    dir.invariants();
     let mut left = Vec::new(alloc);
     let mut above = 0u32;
     let mut rounds = 0usize;

@@ -52,7 +52,7 @@ pub(crate) fn seen_named(
     ensures live { IfOk result (λ found.
         IfSome found (λ number. is_live dir.now.objects number ≡ true)) }
 {
-    dir.stands();
+    dir.invariants();
     let Some(number) = dir.find(alloc, dn)? else {
         return Ok(None);
     };
@@ -77,7 +77,7 @@ fn is_there(
     requires rdns { AreRdns rdns.now }
     ensures { IfOk result (λ is. is ≡ is_there (view dir.now token.now) rdns.now) }
 {
-    dir.stands();
+    dir.invariants();
     if !dir.is_live(number) {
         return Ok(false);
     }
@@ -98,7 +98,7 @@ fn levels_to_seen(alloc: Global, dir: &Dir, token: &Token, dn: &Dn) -> Result<us
     ensures nearest { IfOk result (λ levels. rdns_text (drop levels dn.now.rdns)
         ≡ matched (view dir.now token.now) dn.now.rdns) }
 {
-    dir.stands();
+    dir.invariants();
     let parts = dn.rdns.len();
     let above_root = dir.meta().suffix.rdns.len();
     if parts <= above_root {

@@ -112,7 +112,7 @@ pub(crate) fn lesser(a: Option<u32>, b: Option<u32>) -> Option<u32>
 pub(crate) fn next_shown(dir: &Dir, sought: &Sought, above: u32) -> Option<u32>
     ensures { IsNextShown dir.now sought.now above result }
 {
-    dir.stands();
+    dir.invariants();
     if sought.is_name {
         return dir.next_named(&sought.key, above);
     }

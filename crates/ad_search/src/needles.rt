@@ -121,7 +121,7 @@ pub(crate) fn may_show(dir: &Dir, number: u32, needle: &Needle, steps: &mut usiz
     ensures { IsFalse result → IsPlain dir.now.schema needle.now.attr.0
         → has_key needle.now.value.key (shown dir.now number needle.now.attr.0) ≡ false }
 {
-    dir.stands();
+    dir.invariants();
     let object = live_object(dir, number);
     if is_naming(dir.schema(), object.class, needle.attr) {
         return true;
@@ -144,7 +144,7 @@ pub(crate) fn may_show_some(dir: &Dir, number: u32, attr: AttrId, steps: &mut us
     requires live { is_live dir.now.objects number ≡ true }
     ensures { IsFalse result → IsPlain dir.now.schema attr.0 → shown dir.now number attr.0 ≡ [] }
 {
-    dir.stands();
+    dir.invariants();
     let object = live_object(dir, number);
     if is_naming(dir.schema(), object.class, attr) {
         return true;

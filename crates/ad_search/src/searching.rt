@@ -204,7 +204,7 @@ fn answer_at(alloc: Global, asking: &Asking<'_>, base: &Dn) -> Result<Vec<u8>, A
 {
     let dir = asking.dir;
     let search = asking.search;
-    dir.stands();
+    dir.invariants();
     match seen_named(alloc, dir, asking.token, base)? {
         Some(number) => match indexed_of(alloc, dir, search, number)? {
             Some(found) => entries(alloc, asking, found.as_slice(), base),

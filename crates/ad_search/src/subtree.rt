@@ -64,7 +64,7 @@ pub(crate) fn subtree(alloc: Global, dir: &Dir, base: u32) -> Result<Vec<u32>, A
     requires { is_live dir.now.objects base ≡ true }
     ensures { IfOk result (λ numbers. numbers.items ≡ subtree dir.now base) }
 {
-    dir.stands();
+    dir.invariants();
     let mut numbers = by_levels(alloc, dir, base)?;
     rise(&mut numbers);
     Ok(numbers)

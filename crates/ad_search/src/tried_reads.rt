@@ -294,7 +294,7 @@ fn reads_at(alloc: Global, asking: &Asking<'_>, base: &Dn) -> Result<Vec<Tried>,
         (search_seen asking.now.search.now) asking.now.flags (Some base.now)) }
 {
     let dir = asking.dir;
-    dir.stands();
+    dir.invariants();
     match seen_named(alloc, dir, asking.token, base)? {
         Some(number) => {
             let numbers = objects_asked(alloc, dir, asking.search.scope, number)?;

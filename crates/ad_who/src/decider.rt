@@ -9,7 +9,7 @@ ghost use Rattle.ad_sd.specs.Seen.{seen};
 ghost use Rattle.ad_types.specs.Path.{guids_of};
 ghost use Rattle.ad_access.specs.Holder.{first_holder};
 ghost use Rattle.ad_access.specs.Matching.{is_inherit_only};
-ghost use Rattle.ad_access.specs.Grant.{decides, sets_owner_rights, is_of_owners, granted_as_owner};
+ghost use Rattle.ad_access.specs.Grant.{decides, sets_owner_rights, is_implicit_owner_right, granted_as_owner};
 ghost use Rattle.ad_dir_model.specs.Objects.{is_live};
 ghost use Rattle.ad_access_dir.specs.Sight.{is_granted};
 ghost use Rattle.ad_who.specs.Decider.{by_kind, deciding_from, decider_for, decider, grants, decider_at};
@@ -143,8 +143,8 @@ fn has_owner_rights(view: &SdView<'_>) -> bool
 }
 
 // Whether the right is one that owners have.
-fn is_of_owners(bit: u32) -> bool
-    ensures { result ≡ is_of_owners bit }
+fn is_implicit_owner_right(bit: u32) -> bool
+    ensures { result ≡ is_implicit_owner_right bit }
 {
     bit == 17 || bit == 18
 }
@@ -155,7 +155,7 @@ fn granted_as_owner(view: &SdView<'_>, owner: &Sid, token: &Token, bit: u32) -> 
     ensures { result ≡ granted_as_owner owner.now (seen view.now).dacl.entries
         (first_holder token.now) bit }
 {
-    is_of_owners(bit) && token.holds(owner) && !has_owner_rights(view)
+    is_implicit_owner_right(bit) && token.holds(owner) && !has_owner_rights(view)
 }
 
 // ---- all

@@ -17,7 +17,7 @@ use Rattle.sd_pool.specs.Pool.{is_live, with_bytes, extent_of, inserted, IsLeast
 use Rattle.sd_pool.specs.Slots.{is_used, bytes_of, extent_in, live_from, AreWithin, AreUsedBelow, dropped, with_sharers}
 use Rattle.sd_pool.specs.Holes.{AreHoles, fit, taken, given}
 use Rattle.sd_pool.specs.Tallies.{Tallies, hash, has_hash, count_in, count_of_hash}
-use Rattle.sd_pool.specs.Kept.{live_of, pool_of, IsLaid, IsKept, IsHeldAt, IsReady}
+use Rattle.sd_pool.specs.Kept.{live_of, pool_of, IsLaid, IsStoredPool, IsHeldAt, IsReady}
 use Rattle.sd_pool.proofs.Covering.{size, some_blocks, apart-inserted, distinct-inserted, count-inserted}
 use Rattle.sd_pool.proofs.Covering.{length-inserted}
 use Rattle.sd_pool.proofs.Sharing.{covered-sharers, apart-sharers, distinct-sharers, count-sharers, length-sharers}
@@ -33,7 +33,7 @@ self_id id = omega arith
 
 -- ---- the slot of a live id
 
-pub slot_inside : (old : Parts) (id : ℕ) (slot : Slot) → IsKept old → is_live (live_of old) id ≡ true → slot
+pub slot_inside : (old : Parts) (id : ℕ) (slot : Slot) → IsStoredPool old → is_live (live_of old) id ≡ true → slot
     ≡ get_or old.slots.items id slot → slot.block + blocks_for slot.len ≤ old.blocks
 slot_inside old id slot kept live is =
     let lt = slot_within id old.region.items old.slots.items live in
@@ -41,7 +41,7 @@ slot_inside old id slot kept live is =
     (within_at old.blocks id old.slots.items slot kept.laid.within lt
     (slot_used id old.region.items old.slots.items slot live))
 
-pub slot_fits : (old : Parts) (id : ℕ) (slot : Slot) → IsKept old → is_live (live_of old) id ≡ true → slot
+pub slot_fits : (old : Parts) (id : ℕ) (slot : Slot) → IsStoredPool old → is_live (live_of old) id ≡ true → slot
     ≡ get_or old.slots.items id slot → 64 * slot.block + slot.len ≤ length old.region.items
 slot_fits old id slot kept live is =
     let inside : slot.block + blocks_for slot.len ≤ old.blocks = slot_inside old id slot kept live is in
@@ -58,14 +58,14 @@ pub slot_is_found : (old : Parts) (id : ℕ) (slot : Slot) → is_live (live_of 
 slot_is_found old id slot live is = slot_found id old.region.items old.slots.items slot live
     ∙ ap (λ (s : Slot). Some (extent_in old.region.items id s)) (sym is)
 
-pub some_live : (old : Parts) (id : ℕ) (slot : Slot) → IsKept old → is_live (live_of old) id ≡ true → slot
+pub some_live : (old : Parts) (id : ℕ) (slot : Slot) → IsStoredPool old → is_live (live_of old) id ≡ true → slot
     ≡ get_or old.slots.items id slot → 1 ≤ old.live
 some_live old id slot kept live is =
     let fewer : length (live_of old) ≡ suc (length (dropped id (live_of old)))
     = length-dropped id (extent_in old.region.items id slot) (live_of old) (slot_is_found old id slot live is) in
     omega (arith, fewer, kept.laid.count)
 
-pub some_of_hash : (old : Parts) (id : ℕ) (slot : Slot) → IsKept old → is_live (live_of old) id ≡ true → slot
+pub some_of_hash : (old : Parts) (id : ℕ) (slot : Slot) → IsStoredPool old → is_live (live_of old) id ≡ true → slot
     ≡ get_or old.slots.items id slot → 0 < count_in (get nat_cmp old.tallies (hash (bytes_of old.region.items slot)))
 some_of_hash old id slot kept live is =
     let e : Extent = extent_in old.region.items id slot in
@@ -85,7 +85,7 @@ some_of_hash old id slot kept live is =
     positive n = omega arith
 
 -- the slot that a search found
-pub holder_found : (old : Parts) (bytes : List ℕ) (id : ℕ) → IsKept old → IsHeldAt old.region.items old.slots.items
+pub holder_found : (old : Parts) (bytes : List ℕ) (id : ℕ) → IsStoredPool old → IsHeldAt old.region.items old.slots.items
     bytes id → with_bytes (live_of old) bytes
     ≡ Some (extent_in old.region.items id (get_or old.slots.items id (record { block = 0; len = 0; sharers = 0 })))
 holder_found old bytes id kept h = held id 0 id old.region.items old.slots.items
@@ -121,10 +121,10 @@ live-sharers old slots id n d live some is =
     (slot_within id old.region.items old.slots.items live) (slot_used id old.region.items old.slots.items d live)
     some
 
-pub kept-sharers : (old : Parts) (slots : Vec Slot Global) (id n : ℕ) (d : Slot) → IsKept old
+pub kept-sharers : (old : Parts) (slots : Vec Slot Global) (id n : ℕ) (d : Slot) → IsStoredPool old
     → is_live (live_of old) id ≡ true → not (n == 0) ≡ true → slots.items
     ≡ set old.slots.items id (record (get_or old.slots.items id d) { sharers = n })
-    → IsKept (record old { slots = slots })
+    → IsStoredPool (record old { slots = slots })
 kept-sharers old slots id n d kept live some is =
     let same = live-sharers old slots id n d live some is in
     let new : Slot = record (get_or old.slots.items id d) { sharers = n } in
@@ -164,7 +164,7 @@ live-dropped old slots id d new live unused is =
     unused
 
 pub kept-dropped : (old : Parts) (slots : Vec Slot Global) (holes : Vec Hole Global) (tallies : Tallies)
-    (lowest left id : ℕ) (d slot new : Slot) → IsKept old → is_live (live_of old) id ≡ true
+    (lowest left id : ℕ) (d slot new : Slot) → IsStoredPool old → is_live (live_of old) id ≡ true
     → get_or old.slots.items id d ≡ slot
     → is_used new ≡ false → slots.items ≡ set old.slots.items id new → lowest ≤ old.lowest → lowest ≤ id → left + 1
     ≡ old.live
@@ -172,7 +172,7 @@ pub kept-dropped : (old : Parts) (slots : Vec Slot Global) (holes : Vec Hole Glo
     ≡ vec_capacity old.holes → length holes.items ≤ length old.holes.items + 1
     → ((h : ℕ) → (if hash (bytes_of old.region.items slot) == h then 1 else 0) + count_in (get nat_cmp tallies h)
     ≡ count_in (get nat_cmp old.tallies h))
-    → IsKept (record old { slots = slots; holes = holes; tallies = tallies; lowest = lowest; live = left })
+    → IsStoredPool (record old { slots = slots; holes = holes; tallies = tallies; lowest = lowest; live = left })
 kept-dropped old slots holes tallies lowest left id d slot new kept live at unused is low_old low_id left_is holes_are
     cap_is more counted =
     let region : List ℕ = old.region.items in
@@ -296,7 +296,7 @@ module _ (old : Parts) (region : Vec ℕ Global) (slots : Vec Slot Global) (hole
   size_is = sym n.ready.count
 
   pub kept-new : ((h : ℕ) → count_in (get nat_cmp old.tallies h) ≡ (if hash bytes == h then 1 else 0)
-      + count_of_hash h (live_of old)) → IsKept
+      + count_of_hash h (live_of old)) → IsStoredPool
       (record old { region = region; slots = slots; holes = holes; blocks = blocks; live = old.live + 1 })
   kept-new counted =
       let new : Slot = record { block = spot.block; len = length bytes; sharers = 1 } in

@@ -13,7 +13,7 @@ use Rattle.sd_pool.specs.Pool.{AreApart, AreDistinct}
 use Rattle.sd_pool.specs.Slots.{is_used, live_from, AreWithin, AreUsedBelow}
 use Rattle.sd_pool.specs.Holes.{AreHoles}
 use Rattle.sd_pool.specs.Tallies.{count_of_hash}
-use Rattle.sd_pool.specs.Kept.{live_of, pool_of, IsKept, FirstUnused, with_slot}
+use Rattle.sd_pool.specs.Kept.{live_of, pool_of, IsStoredPool, FirstUnused, with_slot}
 use Rattle.sd_pool.proofs.Slotted.{push_unused, within-push, used-push, all_used}
 use Rattle.sd_pool.proofs.Regions.{live_longer}
 
@@ -49,7 +49,7 @@ with_one id old new is = by_test (id == length old) refl is
 -- what changes while room is made
 pub record IsRoomier (old : Parts) (region : Vec ℕ Global) (slots : Vec Slot Global) (holes : Vec Hole Global)
     (id : ℕ) : Type 0 where
-  pub kept : IsKept old
+  pub kept : IsStoredPool old
   pub few : old.live < 2 ^ 32 - 1
   pub front : take (length old.region.items) region.items ≡ old.region.items
   pub longer : length old.region.items ≤ length region.items
@@ -125,7 +125,7 @@ module _ (old : Parts) (region : Vec ℕ Global) (slots : Vec Slot Global) (hole
           let lt : length old.slots.items < 2 ^ 32 - 1 = few_slots more.0 in
           subst (λ (n : ℕ). n ≤ 2 ^ 32 - 1) (sym (ap length more.1)) (omega (arith, one, lt))
 
-  pub still_kept : IsKept (record old { region = region; slots = slots; lowest = id; holes = holes })
+  pub still_kept : IsStoredPool (record old { region = region; slots = slots; lowest = id; holes = holes })
   still_kept = record {
     laid = record {
       region = omega (arith, r.longer, r.kept.laid.region);

@@ -31,7 +31,7 @@ pub record IsLaid (parts : Parts) : Type 0 where
   -- room for the hole that each give-back may add
   pub room : length parts.holes.items + parts.live ≤ vec_capacity parts.holes
 
-pub record IsKept (parts : Parts) : Type 0 where
+pub record IsStoredPool (parts : Parts) : Type 0 where
   pub laid : IsLaid parts
   pub tallied : AreTallied parts.tallies (live_of parts)
 

@@ -7,7 +7,7 @@ ghost use Rattle.sd_pool.specs.declared.slot.Slot.{Slot as SlotOf};
 ghost use Rattle.sd_pool.specs.Pool.{with_bytes, extent_of, is_live};
 ghost use Rattle.sd_pool.specs.Slots.{bytes_of, AreWithin};
 ghost use Rattle.sd_pool.specs.Tallies as Tallies;
-ghost use Rattle.sd_pool.specs.Kept.{live_of, IsKept, IsHeldAt, FindsHolder, FindsOrHashes};
+ghost use Rattle.sd_pool.specs.Kept.{live_of, IsStoredPool, IsHeldAt, FindsHolder, FindsOrHashes};
 
 use crate::parts::{BLOCK, Parts};
 use crate::slot::Slot;
@@ -58,7 +58,7 @@ fn scanned(parts: &Parts, bytes: &[u8]) -> Option<usize>
 
 // A used slot with these bytes, whose hash this is.
 fn holder_of(parts: &Parts, bytes: &[u8], hash: u128) -> Option<usize>
-    requires kept { IsKept parts.now }
+    requires kept { IsStoredPool parts.now }
     requires hash { hash ≡ Tallies.hash bytes.now }
     ensures { FindsHolder parts.now.region.items parts.now.slots.items bytes.now result }
 {
@@ -73,7 +73,7 @@ fn holder_of(parts: &Parts, bytes: &[u8], hash: u128) -> Option<usize>
 
 /// A used slot with these bytes, or else their hash. The one slot is looked at before any hash is made.
 pub(crate) fn holder_or_hash(parts: &Parts, bytes: &[u8], recent: usize) -> Result<usize, u128>
-    requires { IsKept parts.now }
+    requires { IsStoredPool parts.now }
     ensures { FindsOrHashes parts.now.region.items parts.now.slots.items bytes.now result }
 {
     if is_held_at(parts, bytes, recent) {
@@ -88,7 +88,7 @@ pub(crate) fn holder_or_hash(parts: &Parts, bytes: &[u8], recent: usize) -> Resu
 
 /// The live id that has the bytes. None exactly where none has. The one slot is looked at first.
 pub(crate) fn find(parts: &Parts, bytes: &[u8], recent: usize) -> Option<u32>
-    requires { IsKept parts.now }
+    requires { IsStoredPool parts.now }
     ensures { result ≡ option_map (λ extent. extent.id) (with_bytes (live_of parts.now) bytes.now) }
 {
     match holder_or_hash(parts, bytes, recent) {
@@ -99,7 +99,7 @@ pub(crate) fn find(parts: &Parts, bytes: &[u8], recent: usize) -> Option<u32>
 
 /// The bytes of a live id.
 pub(crate) fn bytes(parts: &Parts, id: u32) -> &[u8]
-    requires kept { IsKept parts.now }
+    requires kept { IsStoredPool parts.now }
     requires live { is_live (live_of parts.now) id ≡ true }
     ensures { ForSome (extent_of (live_of parts.now) id) (λ extent. result.now ≡ extent.bytes) }
 {
@@ -109,7 +109,7 @@ pub(crate) fn bytes(parts: &Parts, id: u32) -> &[u8]
 
 /// How many share the bytes of a live id.
 pub(crate) fn sharers(parts: &Parts, id: u32) -> u32
-    requires kept { IsKept parts.now }
+    requires kept { IsStoredPool parts.now }
     requires live { is_live (live_of parts.now) id ≡ true }
     ensures { ForSome (extent_of (live_of parts.now) id) (λ extent. result ≡ extent.sharers) }
 {

@@ -13,7 +13,7 @@ ghost use Rattle.sd_pool.specs.Blocks.{blocks_for};
 ghost use Rattle.sd_pool.specs.Pool.{IsPool, with_bytes, extent_of, is_live, with_live, IsPut, shared, given_back};
 ghost use Rattle.sd_pool.specs.Slots.{AreUsedBelow};
 ghost use Rattle.sd_pool.specs.Tallies as Tallies;
-ghost use Rattle.sd_pool.specs.Kept.{live_of, pool_of, IsLaid, IsKept, FirstUnused, with_slot, IsReady};
+ghost use Rattle.sd_pool.specs.Kept.{live_of, pool_of, IsLaid, IsStoredPool, FirstUnused, with_slot, IsReady};
 
 use crate::fault::PoolFault;
 use crate::holes::{self, Hole};
@@ -45,7 +45,7 @@ pub(crate) struct Parts {
 
 /// Nothing. It takes no memory.
 pub(crate) fn empty(alloc: Global) -> Parts
-    ensures kept { IsKept result }
+    ensures kept { IsStoredPool result }
     ensures live { live_of result ≡ [] }
     ensures blocks { result.blocks ≡ 0 }
 {
@@ -76,17 +76,17 @@ fn set_slot(slots: &mut Vec<Slot>, id: usize, slot: Slot)
 
 /// What holds of every pool.
 pub(crate) fn is_one(parts: &Parts)
-    requires { IsKept parts.now }
+    requires { IsStoredPool parts.now }
     ensures { IsPool (pool_of parts.now) }
 {}
 
 /// One sharer more of a live id.
 pub(crate) fn share(parts: &mut Parts, id: u32)
-    requires kept { IsKept parts.old }
+    requires kept { IsStoredPool parts.old }
     requires live { is_live (live_of parts.old) id ≡ true }
     requires few { IfSome (extent_of (live_of parts.old) id)
         (λ extent. extent.sharers < 2 ^ 32 - 1) }
-    ensures kept { IsKept parts.new }
+    ensures kept { IsStoredPool parts.new }
     ensures live { live_of parts.new ≡ shared id (live_of parts.old) }
     ensures blocks { parts.new.blocks ≡ parts.old.blocks }
 {
@@ -101,9 +101,9 @@ pub(crate) fn share(parts: &mut Parts, id: u32)
 
 /// One sharer less of a live id. With the last the id is free, and its blocks are a hole. It takes no memory.
 pub(crate) fn give_back(parts: &mut Parts, id: u32)
-    requires kept { IsKept parts.old }
+    requires kept { IsStoredPool parts.old }
     requires live { is_live (live_of parts.old) id ≡ true }
-    ensures kept { IsKept parts.new }
+    ensures kept { IsStoredPool parts.new }
     ensures live { live_of parts.new ≡ given_back id (live_of parts.old) }
     ensures blocks { parts.new.blocks ≡ parts.old.blocks }
 {
@@ -117,11 +117,11 @@ pub(crate) fn give_back(parts: &mut Parts, id: u32)
 
 // One of several sharers goes.
 fn take_one_off(parts: &mut Parts, id: usize, slot: Slot)
-    requires kept { IsKept parts.old }
+    requires kept { IsStoredPool parts.old }
     requires live { is_live (live_of parts.old) id ≡ true }
     requires slot { (d : SlotOf) → slot ≡ get_or parts.old.slots.items id d }
     requires more { (slot.sharers == 1) ≡ false }
-    ensures kept { IsKept parts.new }
+    ensures kept { IsStoredPool parts.new }
     ensures live { live_of parts.new ≡ given_back id (live_of parts.old) }
     ensures blocks { parts.new.blocks ≡ parts.old.blocks }
 {
@@ -135,11 +135,11 @@ fn take_one_off(parts: &mut Parts, id: usize, slot: Slot)
 
 // The last sharer goes.
 fn drop_last(parts: &mut Parts, id: usize, slot: Slot)
-    requires kept { IsKept parts.old }
+    requires kept { IsStoredPool parts.old }
     requires live { is_live (live_of parts.old) id ≡ true }
     requires slot { (d : SlotOf) → slot ≡ get_or parts.old.slots.items id d }
     requires last { slot.sharers ≡ 1 }
-    ensures kept { IsKept parts.new }
+    ensures kept { IsStoredPool parts.new }
     ensures live { live_of parts.new ≡ given_back id (live_of parts.old) }
     ensures blocks { parts.new.blocks ≡ parts.old.blocks }
 {
@@ -242,10 +242,10 @@ pub(crate) struct Spot {
 ///
 /// `Full` exactly where all ids are live and none has the bytes, and `Memory`. The pool stays as it was.
 pub(crate) fn put(parts: &mut Parts, bytes: &[u8], recent: usize) -> Result<SdId, PoolFault>
-    requires kept { IsKept parts.old }
+    requires kept { IsStoredPool parts.old }
     requires few { IfSome (with_bytes (live_of parts.old) bytes.now)
         (λ extent. extent.sharers < 2 ^ 32 - 1) }
-    ensures kept { IsKept parts.new }
+    ensures kept { IsStoredPool parts.new }
     ensures again { (extent : Extent) → with_bytes (live_of parts.old) bytes.now ≡ Some extent
         → IsOkAnd result (λ id. id.0 ≡ extent.id) × (pool_of parts.new
         ≡ with_live (shared extent.id (live_of parts.old)) (pool_of parts.old)) }
@@ -267,10 +267,10 @@ pub(crate) fn put(parts: &mut Parts, bytes: &[u8], recent: usize) -> Result<SdId
 
 // Puts bytes that no live id has.
 fn put_own(parts: &mut Parts, bytes: &[u8], hash: u128) -> Result<SdId, PoolFault>
-    requires kept { IsKept parts.old }
+    requires kept { IsStoredPool parts.old }
     requires hash { hash ≡ Tallies.hash bytes.now }
     requires new { with_bytes (live_of parts.old) bytes.now ≡ None }
-    ensures kept { IsKept parts.new }
+    ensures kept { IsStoredPool parts.new }
     ensures put { IfOk result (λ id. IsPut (pool_of parts.old) (pool_of parts.new) id.0 bytes.now) }
     ensures full { IsErrOf result PoolFault.Full ↔ (length (live_of parts.old) ≡ 2 ^ 32 - 1) }
     ensures err { OnErr result (pool_of parts.new ≡ pool_of parts.old) }
@@ -283,11 +283,11 @@ fn put_own(parts: &mut Parts, bytes: &[u8], hash: u128) -> Result<SdId, PoolFaul
 
 // Puts bytes that no live id has, while an id is free.
 fn put_new(parts: &mut Parts, bytes: &[u8], hash: u128) -> Result<u32, AllocError>
-    requires kept { IsKept parts.old }
+    requires kept { IsStoredPool parts.old }
     requires hash { hash ≡ Tallies.hash bytes.now }
     requires new { with_bytes (live_of parts.old) bytes.now ≡ None }
     requires free { parts.old.live < 2 ^ 32 - 1 }
-    ensures kept { IsKept parts.new }
+    ensures kept { IsStoredPool parts.new }
     ensures put { IfOk result (λ id. IsPut (pool_of parts.old) (pool_of parts.new) id bytes.now) }
     ensures err { OnErr result (pool_of parts.new ≡ pool_of parts.old) }
 {
@@ -300,9 +300,9 @@ fn put_new(parts: &mut Parts, bytes: &[u8], hash: u128) -> Result<u32, AllocErro
 
 // Makes room for so many bytes, and a slot. Nothing of it is seen.
 fn make_room(parts: &mut Parts, len: usize) -> Result<Spot, AllocError>
-    requires kept { IsKept parts.old }
+    requires kept { IsStoredPool parts.old }
     requires free { parts.old.live < 2 ^ 32 - 1 }
-    ensures kept { IsKept parts.new }
+    ensures kept { IsStoredPool parts.new }
     ensures same { pool_of parts.new ≡ pool_of parts.old }
     ensures live { parts.new.live ≡ parts.old.live }
     ensures ok { IfOk result (IsReady parts.new len) }
@@ -331,7 +331,7 @@ fn put_at(parts: &mut Parts, bytes: &[u8], spot: Spot)
         (live_of parts.old) }
     requires new { with_bytes (live_of parts.old) bytes.now ≡ None }
     requires ready { IsReady parts.old (length bytes.now) spot }
-    ensures kept { IsKept parts.new }
+    ensures kept { IsStoredPool parts.new }
     ensures put { IsPut (pool_of parts.old) (pool_of parts.new) spot.id bytes.now }
 {
     holes::take(&mut parts.holes, spot.place, spot.count);

@@ -25,13 +25,13 @@ pub struct SdPool {
 
 impl Model for SdPool {
     ghost use Rattle.sd_pool.specs.Pool.{Pool};
-    ghost use Rattle.sd_pool.specs.Kept.{pool_of, IsKept};
+    ghost use Rattle.sd_pool.specs.Kept.{pool_of, IsStoredPool};
 
     ghost Value = { Pool };
 
     ghost view = { λ pool. pool_of pool.parts };
 
-    ghost invariant = { λ pool. IsKept pool.parts };
+    ghost invariant = { λ pool. IsStoredPool pool.parts };
 }
 
 // The id that was put, or else this one.

@@ -33,7 +33,7 @@ fn has_own_name(alloc: Global, dir: &Dir, object: &Object) -> Result<bool, Alloc
     if !is_value(object.name.as_slice()) {
         return Ok(false);
     }
-    dir.stands();
+    dir.invariants();
     match dir.child(alloc, object.parent, object.name.as_slice())? {
         Some(number) => Ok(number == object.number),
         None => Ok(true),
@@ -45,7 +45,7 @@ fn has_own_sid(dir: &Dir, object: &Object) -> bool
     ensures { (sd : SdValue) → IsTrue result → HasOwnSid dir.now.schema dir.now.objects
         (object_seen object.now sd) }
 {
-    dir.stands();
+    dir.invariants();
     let Some(sid) = object_sid(dir.schema(), object) else {
         return true;
     };

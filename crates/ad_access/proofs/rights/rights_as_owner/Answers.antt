@@ -5,17 +5,17 @@ use Rattle.ad_acl.specs.Mask.{has_bit}
 use Rattle.ad_acl.proofs.MaskLaws.{has_bit-and}
 use Rattle.ad_access.specs.Holder.{holds}
 use Rattle.ad_access.specs.Rank.{holder_of}
-use Rattle.ad_access.specs.Grant.{is_of_owners}
+use Rattle.ad_access.specs.Grant.{is_implicit_owner_right}
 use Rattle.ad_access.proofs.BitTests.{none_of, has_bit-of_owners}
 use Rattle.ad_access.proofs.rights.rights_as_owner.Goals as goal
 
 -- the wanted rights that are owners' rights
 of_owners : (want bit : ℕ) (held : Bool) → bit < 32 → has_bit (bit_and want 0x6_0000) bit && held ≡ has_bit want bit
-    && (is_of_owners bit && held)
+    && (is_implicit_owner_right bit && held)
 of_owners want bit held lt =
     ap (λ (b : Bool). b && held) (has_bit-and want 0x6_0000 bit ∙ ap (λ (b : Bool). has_bit want bit && b)
     (has_bit-of_owners bit lt))
-    ∙ and_assoc (has_bit want bit) (is_of_owners bit) held
+    ∙ and_assoc (has_bit want bit) (is_implicit_owner_right bit) held
 
 pub returns-then-rights-eq0 : goal.returns-then-rights-eq0
 returns-then-rights-eq0 c = λ bit lt.

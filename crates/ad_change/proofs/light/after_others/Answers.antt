@@ -9,10 +9,10 @@ use Rattle.ad_change.proofs.light.after_others.Goals as goal
 
 pub each-init : goal.each-init
 each-init c = ap (λ (os : List Object). left_of c.args.left (others_weight c.args.dir.now.schema c.args.but os))
-    (all_behind 0 0 c.args.dir.now.objects c.stands.ensures.rise (omega arith))
+    (all_behind 0 0 c.args.dir.now.objects c.invariants.ensures.rise (omega arith))
 
 pub after_other-requires : goal.after_other-requires
-after_other-requires c = (next_at 0 c.each.above c.in-Some.number c.args.dir.now.objects c.stands.ensures.rise
+after_other-requires c = (next_at 0 c.each.above c.in-Some.number c.args.dir.now.objects c.invariants.ensures.rise
     (sym c.in-Some.ensures)).live
 
 pub returns-in-None : goal.returns-in-None
@@ -20,7 +20,7 @@ returns-in-None c =
     let dir = c.args.dir.now in
     let n = c.in-Some.number in
     sym (ap (left_of c.each.left) (others_next dir.schema c.args.but dir.objects c.each.above n
-    (next_at 0 c.each.above n dir.objects c.stands.ensures.rise (sym c.in-Some.ensures)))
+    (next_at 0 c.each.above n dir.objects c.invariants.ensures.rise (sym c.in-Some.ensures)))
     ∙ too_heavy c.each.left (other_weight dir.schema c.args.but (object_at dir.objects n))
     (others_weight dir.schema c.args.but (behind n dir.objects)) (sym c.in-None.ensures))
     ∙ c.each.invariant
@@ -29,14 +29,14 @@ pub each-smaller : goal.each-smaller
 each-smaller c =
     let dir = c.args.dir.now in
     fewer_behind dir.objects c.each.above c.in-Some.number
-    (next_at 0 c.each.above c.in-Some.number dir.objects c.stands.ensures.rise (sym c.in-Some.ensures))
+    (next_at 0 c.each.above c.in-Some.number dir.objects c.invariants.ensures.rise (sym c.in-Some.ensures))
 
 pub each-preserved : goal.each-preserved
 each-preserved c =
     let dir = c.args.dir.now in
     let n = c.in-Some.number in
     sym (ap (left_of c.each.left) (others_next dir.schema c.args.but dir.objects c.each.above n
-    (next_at 0 c.each.above n dir.objects c.stands.ensures.rise (sym c.in-Some.ensures)))
+    (next_at 0 c.each.above n dir.objects c.invariants.ensures.rise (sym c.in-Some.ensures)))
     ∙ spent c.each.left (other_weight dir.schema c.args.but (object_at dir.objects n))
     (others_weight dir.schema c.args.but (behind n dir.objects))
     c.in-Some-after_other.less (sym c.in-Some-after_other.ensures))

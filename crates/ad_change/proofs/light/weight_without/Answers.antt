@@ -17,7 +17,7 @@ returns-in-Some-after_object c =
     let dir = c.args.dir.now in
     let old : Object = object_seen c.in-Some.object.now (sd_at dir.objects c.args.number) in
     λ known. c.less.ensures _ (less_one dir c.args.number c.args.all c.in-Some-after_object.left old
-    c.stands.ensures.rise (sym c.in-Some.ensures)
+    c.invariants.ensures.rise (sym c.in-Some.ensures)
     (ap (λ (s : List SchemaRecord). left_of 268435456 (object_weight s old)) (sym c.schema.ensures)
     ∙ sym (c.in-Some-after_object.ensures (sd_at dir.objects c.args.number))) known)
 

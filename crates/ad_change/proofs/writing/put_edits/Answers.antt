@@ -8,7 +8,7 @@ use Rattle.ad_change.proofs.writing.put_edits.Goals as goal
 pub returns-then-is_there : goal.returns-then-is_there
 returns-then-is_there c =
     put_stood c.args.dir.now (object_seen c.args.object (seen c.args.sd)) c.is_there.result c.new.result
-    c.stands.ensures.rise c.requires
+    c.invariants.ensures.rise c.requires
     (c.is_there.ensures (seen c.args.sd) c.as_bytes.ensures) c.if-is_there.true c.new.ensures
 
 pub returns : goal.returns

@@ -9,7 +9,7 @@ pub returns-then-is_there : goal.returns-then-is_there
 returns-then-is_there c =
     let dir = c.args.dir.now in
     let o = object_seen c.args.object (seen c.args.own) in
-    write_stood dir o c.is_there.result c.new.result c.stands.ensures.rise c.requires.live
+    write_stood dir o c.is_there.result c.new.result c.invariants.ensures.rise c.requires.live
     (c.is_there.ensures (whole_at dir o) (
       c.in_ok-bytes.ensures.0,
       c.as_slice.ensures.value

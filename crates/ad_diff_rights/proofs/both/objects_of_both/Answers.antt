@@ -17,5 +17,5 @@ returns-clause-live c =
     (λ all are. subst (All (IsLiveBoth c.args.before.now c.args.after.now))
     (sym (are ∙ ap (both_among c.args.before.now c.args.after.now) (c.as_slice.ensures.value
     ∙ c.in_ok-numbers.ensures)))
-    (all_live c.args.before.now c.args.after.now c.stands.ensures.rise))
+    (all_live c.args.before.now c.args.after.now c.invariants.ensures.rise))
     c.both_among.ensures

@@ -6,11 +6,11 @@ use Rattle.ad_dir.proofs.names.has_rdn.Goals as goal
 
 pub is_of_rdn-requires-clause-class : goal.is_of_rdn-requires-clause-class
 is_of_rdn-requires-clause-class c = class_within c.args.dir.now c.schema.result.now c.args.number
-    c.live_object-object.result.now c.stands.ensures c.requires.live c.schema.ensures c.live_object-object.ensures
+    c.live_object-object.result.now c.invariants.ensures c.requires.live c.schema.ensures c.live_object-object.ensures
 
 pub is_of_rdn-requires-clause-name : goal.is_of_rdn-requires-clause-name
 is_of_rdn-requires-clause-name c = (name_is_value c.args.dir.now c.args.number c.live_object-object.result.now
-    c.as_slice.result.now c.stands.ensures c.requires.live c.live_object-object.ensures c.as_slice.ensures).utf8
+    c.as_slice.result.now c.invariants.ensures c.requires.live c.live_object-object.ensures c.as_slice.ensures).utf8
 
 pub returns : goal.returns
 returns c =

@@ -10,5 +10,5 @@ setting_at-requires c =
     let dir = c.args.dir.now in
     let o = object_at dir.objects c.args.number in
     subst IsUtf8 (sym c.shown.ensures) (heuristics_text dir.schema o c.in-Some.value.now
-    (c.stands.ensures.content c.args.number o (of-live dir.objects c.args.number c.requires))
+    (c.invariants.ensures.content c.args.number o (of-live dir.objects c.args.number c.requires))
     (sym c.in-Some.ensures))

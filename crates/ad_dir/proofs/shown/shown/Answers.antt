@@ -12,11 +12,11 @@ use Rattle.ad_dir.proofs.shown.shown.Goals as goal
 
 pub class_values-requires : goal.class_values-requires
 class_values-requires c = class_within c.args.dir.now c.schema-schema.result.now c.args.number
-    c.live_object-object.result.now c.stands.ensures c.requires c.schema-schema.ensures c.live_object-object.ensures
+    c.live_object-object.result.now c.invariants.ensures c.requires c.schema-schema.ensures c.live_object-object.ensures
 
 pub is_naming-requires : goal.is_naming-requires
 is_naming-requires c = class_within c.args.dir.now c.schema-schema.result.now c.args.number
-    c.live_object-object.result.now c.stands.ensures c.requires c.schema-schema.ensures c.live_object-object.ensures
+    c.live_object-object.result.now c.invariants.ensures c.requires c.schema-schema.ensures c.live_object-object.ensures
 
 pub returns-then-is_named : goal.returns-then-is_named
 returns-then-is_named c =
@@ -66,7 +66,7 @@ stored_values-requires c =
     ∙ ap (λ (values : List (AttrId × List StoredIn)). stored_in (map held_seen values) c.args.attr.0)
     c.as_slice-2.ensures ∙ ap (λ (o : Object). stored_in o.values c.args.attr.0) c.live_object-object.ensures))
     (stored_live dir.objects o.values c.args.attr.0
-    (c.stands.ensures.links c.args.number o (of-live dir.objects c.args.number c.requires)))
+    (c.invariants.ensures.links c.args.number o (of-live dir.objects c.args.number c.requires)))
 
 pub returns : goal.returns
 returns c =

@@ -5,7 +5,7 @@ use Rattle.ad_sd.specs.declared.parts.Sd.{Sd}
 use Rattle.ad_sd.specs.Normal.{SpellsNormal}
 use Rattle.sd_pool.specs.Sharers.{bytes_at}
 use Rattle.sd_pool.proofs.SharerLaws.{shared_live}
-use Rattle.ad_dir_table.specs.declared.kept.Kept.{Kept}
+use Rattle.ad_dir_table.specs.declared.stored_object.StoredObject.{StoredObject}
 use Rattle.ad_dir_table.specs.Entry.{objects_in}
 use Rattle.ad_dir_table.specs.Fields.{count_of, entries_of, object_kept}
 use Rattle.ad_dir_table.proofs.Entries.{found_with}
@@ -19,7 +19,7 @@ returns-in-Some-clause-live c =
     let kept = c.in-Some.kept.now in
     shared_live c.args.parts.now.pool.live kept.id.0
     (subst (λ (n : ℕ). 0 < n) (sym (c.requires.shared kept.id.0))
-    (found_with (λ (k : Kept). 0 < count_of k.id.0 entries) (is_at (nat_cmp c.args.number)) entries kept
+    (found_with (λ (k : StoredObject). 0 < count_of k.id.0 entries) (is_at (nat_cmp c.args.number)) entries kept
     (all_counted entries) (sym c.in-Some.ensures.at)))
 
 pub returns-in-Some-clause-bytes : goal.returns-in-Some-clause-bytes

@@ -2,7 +2,7 @@ use Rattle.std.proofs.Common.{◌∙◌, ℕ, List, Option, sym, ap, subst}
 use Rattle.std.specs.BTreeMap.{insert_entry}
 use Rattle.std.specs.Ordering.{nat_cmp}
 use Rattle.sd_pool.specs.declared.id.SdId.{SdId}
-use Rattle.ad_dir_table.specs.declared.kept.Kept.{Kept}
+use Rattle.ad_dir_table.specs.declared.stored_object.StoredObject.{StoredObject}
 use Rattle.ad_dir_table.specs.Entry.{HaveTheirSids}
 use Rattle.ad_dir_table.specs.Fields.{AllKept, AreKeyed, HasNormal, entries_kept}
 use Rattle.ad_dir_table.proofs.Keeping.{Shares, SharesBut, but_live, normal_same, seen_same}
@@ -26,7 +26,7 @@ pub give_back_if-requires : goal.give_back_if-requires
 give_back_if-requires c =
     let parts = c.args.parts.now in
     let live = c.put.new.pool.live in
-    let new : List (ℕ × Kept) = insert_entry nat_cmp parts.kept.entries c.of.result.object.number c.of.result in
+    let new : List (ℕ × StoredObject) = insert_entry nat_cmp parts.kept.entries c.of.result.object.number c.of.result in
     but_live live new c.in-Ok.was
     (subst (λ (was : Option SdId). SharesBut live new was) (sym c.in-Ok.ensures.was)
     (shares_but parts.pool.live parts.kept.entries c.requires.kept.keyed c.requires.kept.ordered

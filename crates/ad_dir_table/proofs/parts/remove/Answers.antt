@@ -1,7 +1,7 @@
 use Rattle.std.proofs.Common.{ℕ, List, Option, sym, subst}
 use Rattle.std.specs.Map.{remove_entry}
 use Rattle.sd_pool.specs.declared.id.SdId.{SdId}
-use Rattle.ad_dir_table.specs.declared.kept.Kept.{Kept}
+use Rattle.ad_dir_table.specs.declared.stored_object.StoredObject.{StoredObject}
 use Rattle.std.specs.BTreeMap.{is_at}
 use Rattle.std.specs.Ordering.{nat_cmp}
 use Rattle.ad_dir_table.proofs.Keeping.{SharesBut, but_live, removed_shares}
@@ -12,7 +12,7 @@ pub give_back_if-requires : goal.give_back_if-requires
 give_back_if-requires c =
     let parts = c.args.parts.now in
     let test = is_at (nat_cmp c.args.number) in
-    let left : List (ℕ × Kept) = remove_entry test parts.kept.entries in
+    let left : List (ℕ × StoredObject) = remove_entry test parts.kept.entries in
     but_live parts.pool.live left c.take-was.result
     (subst (λ (was : Option SdId). SharesBut parts.pool.live left was) (sym c.take-was.ensures.was)
     (removed_shares parts.pool.live parts.kept.entries test c.requires.kept.shared))

@@ -32,7 +32,7 @@ returns-in-Hidden c =
 pub missing-requires : goal.missing-requires
 missing-requires c =
     c.a_missing_need_names_live_objects.ensures c.args.dir.now c.args.token.now (op_seen c.args.message.now.op)
-    c.args.settings.now c.in-Missing.need c.stands.ensures
+    c.args.settings.now c.in-Missing.need c.invariants.ensures
     (sym c.in_ok-act.ensures ∙ c.in-Missing.is)
 
 pub returns-in-Missing : goal.returns-in-Missing

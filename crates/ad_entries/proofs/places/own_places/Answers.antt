@@ -17,7 +17,7 @@ use Rattle.ad_entries.proofs.places.own_places.Goals as goal
 pub class_info-requires : goal.class_info-requires
 class_info-requires c =
     class_within c.args.asking.now.dir.now c.schema.result.now c.args.number c.live_object-object.result.now
-    c.stands.ensures c.requires.live c.schema.ensures c.live_object-object.ensures
+    c.invariants.ensures c.requires.live c.schema.ensures c.live_object-object.ensures
 
 pub returns-clause-places : goal.returns-clause-places
 returns-clause-places c =

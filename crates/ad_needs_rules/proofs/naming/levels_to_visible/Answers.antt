@@ -38,7 +38,7 @@ returns-in_default-clause-nearest c =
 
 pub is_visible-seen-requires-clause-live : goal.is_visible-seen-requires-clause-live
 is_visible-seen-requires-clause-live c =
-    found_live c.args.dir.now c.in_ok-above.above.rdns c.in-Some.number c.stands.ensures.rise
+    found_live c.args.dir.now c.in_ok-above.above.rdns c.in-Some.number c.invariants.ensures.rise
     (sym (rw c.in-Some.is at c.in_ok-number.ensures.found))
 
 pub each-preserved : goal.each-preserved

@@ -11,8 +11,8 @@ pub returns-in-Some : goal.returns-in-Some
 returns-in-Some c =
     on_ok_weaker c.take_groups.result
     (groups_are c.args.dir.now c.args.sid.now c.in-Some.number c.groups_of.result.now c.args.taken.now.keys
-    c.take_groups.new.taken.keys c.stands.ensures
-    (with_sid_has c.args.dir.now c.args.sid.now c.in-Some.number c.stands.ensures (sym c.in-Some.ensures))
+    c.take_groups.new.taken.keys c.invariants.ensures
+    (with_sid_has c.args.dir.now c.args.sid.now c.in-Some.number c.invariants.ensures (sym c.in-Some.ensures))
     (λ group. ap (λ (ns : List ℕ). has ns group) c.groups_of.ensures ∙ c.requires c.in-Some.number group))
     c.take_groups.ensures
 

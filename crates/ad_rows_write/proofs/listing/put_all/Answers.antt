@@ -21,7 +21,7 @@ returns g c =
     = λ i. dir_of (records i) dir.objects (pending i) (c.meta.ensures i) in
     let all = IfOk-weaker c.put_rest.result _ (λ put. AreAllOf dir (rows put))
     (λ put stand. subst (λ (d : Directory). AreAllOf d (rows put)) same
-    (stand dir.objects c.stands.ensures.rise objects)) c.put_rest.ensures in
+    (stand dir.objects c.invariants.ensures.rise objects)) c.put_rest.ensures in
     record {
       rows = IfOk-weaker c.put_rest.result _ _ (λ put are. are.0) all;
       listed = IfOk-weaker c.put_rest.result _ _ (λ put are. are.1) all;

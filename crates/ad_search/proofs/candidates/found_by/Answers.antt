@@ -6,7 +6,7 @@ use Rattle.ad_search.proofs.candidates.found_by.Goals as goal
 
 pub each-init : goal.each-init
 each-init c = none_yet c.args.dir.now (search_seen c.args.search.now).filter c.new-left.result.items
-    c.stands.ensures.rise c.new-left.ensures.items
+    c.invariants.ensures.rise c.new-left.ensures.items
 
 pub each-preserved : goal.each-preserved
 each-preserved c =
@@ -26,7 +26,7 @@ returns c =
     let dir = c.args.dir.now in
     let search = search_seen c.args.search.now in
     let need = c.args.need.now in
-    left_of_all dir search c.each.above c.each.left.items c.stands.ensures.rise
+    left_of_all dir search c.each.above c.each.left.items c.invariants.ensures.rise
     (next_for dir search.filter need c.each.above _ c.requires.needed
     (subst (IsNextOf dir (λ (n : ℕ). IsMet dir n need) c.each.above) c.in_default.is c.next_of.ensures))
     c.each.invariant

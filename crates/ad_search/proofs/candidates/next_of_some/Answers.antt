@@ -5,5 +5,5 @@ use Rattle.ad_search.proofs.candidates.next_of_some.Goals as goal
 
 pub returns : goal.returns
 returns c = λ need.
-    next_after c.args.dir.now (λ (n : ℕ). IsMet c.args.dir.now n need) c.args.above c.after.result c.stands.ensures
+    next_after c.args.dir.now (λ (n : ℕ). IsMet c.args.dir.now n need) c.args.above c.after.result c.invariants.ensures
     c.after.ensures.above c.after.ensures.nearest

@@ -12,7 +12,7 @@ pub returns-then-parts-above_root-clause-nearest : goal.returns-then-parts-above
 returns-then-parts-above_root-clause-nearest c =
     let above : c.len-above_root.result ≡ length c.args.dir.now.meta.suffix = c.len-above_root.ensures
     ∙ ap (λ (m : Meta). length m.suffix) c.meta.ensures in
-    starts c.args.dir.now c.args.token.now c.args.dn.now.rdns c.len-parts.result 1 c.stands.ensures
+    starts c.args.dir.now c.args.token.now c.args.dn.now.rdns c.len-parts.result 1 c.invariants.ensures
     (omega (arith, c.len-parts.ensures)) (omega (arith, c.len-parts.ensures, c.if-parts-above_root.true, above))
 
 pub each-init : goal.each-init
@@ -23,7 +23,7 @@ each-init c =
       omega (arith, c.len-parts.ensures, c.if-parts-above_root.false, above),
       omega (arith, c.len-parts.ensures),
       starts c.args.dir.now c.args.token.now c.args.dn.now.rdns c.len-parts.result
-          (c.len-parts.result - c.len-above_root.result) c.stands.ensures
+          (c.len-parts.result - c.len-above_root.result) c.invariants.ensures
           (omega (arith, c.len-parts.ensures)) (omega (arith, c.len-parts.ensures, above)),
     )
 
@@ -33,7 +33,7 @@ returns-in_default-clause-nearest c =
     ap (λ (d : Dn). found c.args.dir.now d.rdns) (sym c.in_ok-above.ensures)
     ∙ sym (rw c.in_default.is at c.in_ok-number.ensures.found) in
     stops c.args.dir.now c.args.token.now c.args.dn.now.rdns c.each.levels
-    (rdns_text (drop c.each.nearest c.args.dn.now.rdns)) c.stands.ensures
+    (rdns_text (drop c.each.nearest c.args.dn.now.rdns)) c.invariants.ensures
     (omega (arith, c.each-test.true)) c.each.invariant.1 none c.each.invariant.3
 
 pub each-preserved : goal.each-preserved

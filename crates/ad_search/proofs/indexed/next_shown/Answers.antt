@@ -10,7 +10,7 @@ returns-then-sought c =
     record {
       is_above = c.next_named.ensures.is_above;
       none = λ n live more before ordinary name named.
-          name_shown dir sought.attr.0 sought.key c.args.above c.stands.ensures c.next_named.result n
+          name_shown dir sought.attr.0 sought.key c.args.above c.invariants.ensures c.next_named.result n
           c.next_named.ensures ordinary (name ∙ c.if-sought.true)
           (subst (λ (b : Bool). IsNamedBy dir.schema sought.attr.0 b sought.by_name) c.if-sought.true named) live more
           before;
@@ -24,7 +24,7 @@ returns-then-sought-2 c =
       is_above = c.lesser.ensures.above c.args.above c.next_with-stores.ensures.is_above
           c.next_named-then-sought-2.ensures.is_above;
       none = λ n live more before ordinary name named.
-          named_shown dir sought.attr.0 sought.key c.args.above c.stands.ensures c.next_with-stores.result
+          named_shown dir sought.attr.0 sought.key c.args.above c.invariants.ensures c.next_with-stores.result
           c.next_named-then-sought-2.result n c.next_with-stores.ensures c.next_named-then-sought-2.ensures ordinary
           (subst (IsNamedBy dir.schema sought.attr.0 false) c.if-sought-2.true
           (subst (λ (b : Bool). IsNamedBy dir.schema sought.attr.0 b sought.by_name) c.if-sought.false named)) live more
@@ -38,7 +38,7 @@ returns c =
     record {
       is_above = c.next_with-stores.ensures.is_above;
       none = λ n live more before ordinary name named.
-          stored_shown dir sought.attr.0 sought.key c.args.above c.stands.ensures c.next_with-stores.result n
+          stored_shown dir sought.attr.0 sought.key c.args.above c.invariants.ensures c.next_with-stores.result n
           c.next_with-stores.ensures ordinary (name ∙ c.if-sought.false)
           (subst (IsNamedBy dir.schema sought.attr.0 false) c.if-sought-2.false
           (subst (λ (b : Bool). IsNamedBy dir.schema sought.attr.0 b sought.by_name) c.if-sought.false named)) live more

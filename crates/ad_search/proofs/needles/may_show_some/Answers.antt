@@ -12,7 +12,7 @@ use Rattle.ad_search.proofs.needles.may_show_some.Goals as goal
 
 pub is_naming-requires : goal.is_naming-requires
 is_naming-requires c = class_within c.args.dir.now c.schema.result.now c.args.number c.live_object-object.result.now
-    c.stands.ensures c.requires.live c.schema.ensures c.live_object-object.ensures
+    c.invariants.ensures c.requires.live c.schema.ensures c.live_object-object.ensures
 
 pub returns : goal.returns
 returns c = λ none ordinary.

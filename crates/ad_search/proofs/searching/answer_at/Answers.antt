@@ -45,7 +45,7 @@ returns-in_ok-numbers-in-None-2 c =
     (entries_among dir token id search flags base ns))
     c.in_ok-asked-in-None-2.ensures.asked
     ∙ answered dir token id search flags base c.in-Some.number
-    c.stands.ensures (rw c.in-Some.is at c.in_ok-number.ensures.live)
+    c.invariants.ensures (rw c.in-Some.is at c.in_ok-number.ensures.live)
     (rw c.in-Some.is at c.in_ok-number.ensures.found))
     c.entries-in-None-2.ensures
 

@@ -20,7 +20,7 @@ returns-in_ok-numbers-in-Some c =
     (found_among dir token search base ns))
     (c.as_slice.ensures.value ∙ c.in_ok-numbers-in-Some.ensures.asked)
     ∙ read_of_base dir token id search flags base c.in-Some.number
-    c.stands.ensures (rw c.in-Some.is at c.in_ok-number.ensures.live)
+    c.invariants.ensures (rw c.in-Some.is at c.in_ok-number.ensures.live)
     (rw c.in-Some.is at c.in_ok-number.ensures.found))
     c.reads_among.ensures
 

@@ -13,7 +13,7 @@ returns-in-Some c sd t =
     let os = c.args.dir.now.objects in
     let same = ap (λ (name : List ℕ). option_map (λ (x : Object). x.number)
     (child_named os c.args.object.now.parent name)) c.as_slice-2.ensures in
-    own_name c.args.dir.now.schema os (object_seen c.args.object.now sd) (Some c.in-Some.number) c.stands.ensures
+    own_name c.args.dir.now.schema os (object_seen c.args.object.now sd) (Some c.in-Some.number) c.invariants.ensures
     (sym c.in-Some.is ∙ c.in_ok-number.ensures.child ∙ same)
     (λ n e. sym (same_Some c.in-Some.number n e) ∙ eqb-true c.in-Some.number c.args.object.now.number t)
 
@@ -22,5 +22,5 @@ returns-in-None c sd t =
     let os = c.args.dir.now.objects in
     let same = ap (λ (name : List ℕ). option_map (λ (x : Object). x.number)
     (child_named os c.args.object.now.parent name)) c.as_slice-2.ensures in
-    own_name c.args.dir.now.schema os (object_seen c.args.object.now sd) None c.stands.ensures
+    own_name c.args.dir.now.schema os (object_seen c.args.object.now sd) None c.invariants.ensures
     (sym c.in-None.is ∙ c.in_ok-number.ensures.child ∙ same) (λ n e. absurd (none-some n e))

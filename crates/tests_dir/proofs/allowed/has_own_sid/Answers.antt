@@ -9,7 +9,7 @@ use Rattle.tests_dir.proofs.allowed.has_own_sid.Goals as goal
 pub returns-in-Some-with_sid : goal.returns-in-Some-with_sid
 returns-in-Some-with_sid c sd t =
     let o = object_seen c.args.object.now sd in
-    own_sid c.args.dir.now o c.in-Some.sid (Some c.in-Some-with_sid.number) c.stands.ensures
+    own_sid c.args.dir.now o c.in-Some.sid (Some c.in-Some-with_sid.number) c.invariants.ensures
     (sym (subst (λ (s : _). Some c.in-Some.sid ≡ sid_in s o) c.schema.ensures (c.in-Some.ensures sd)))
     c.in-Some-with_sid.ensures
     (λ n e. sym (same_Some c.in-Some-with_sid.number n e) ∙ eqb-true c.in-Some-with_sid.number
@@ -18,6 +18,6 @@ returns-in-Some-with_sid c sd t =
 pub returns-in-None : goal.returns-in-None
 returns-in-None c sd t =
     let o = object_seen c.args.object.now sd in
-    own_sid c.args.dir.now o c.in-Some.sid None c.stands.ensures
+    own_sid c.args.dir.now o c.in-Some.sid None c.invariants.ensures
     (sym (subst (λ (s : _). Some c.in-Some.sid ≡ sid_in s o) c.schema.ensures (c.in-Some.ensures sd)))
     c.in-None.ensures (λ n e. absurd (none-some n e))

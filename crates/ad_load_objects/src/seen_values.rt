@@ -24,7 +24,7 @@ pub(crate) struct ValueKey {
 
 /// The attributes that values are of, and what the values are found by.
 #[derive(Drop)]
-pub(crate) struct Had {
+pub(crate) struct SeenValues {
     attrs: BTreeSet<u32>,
     values: BTreeSet<ValueKey>,
 }
@@ -55,10 +55,10 @@ fn key_of(alloc: Global, attr: AttrId, value: &Value) -> Result<ValueKey, AllocE
 }
 
 // Of no values.
-fn nothing_had(alloc: Global) -> Had
+fn nothing_had(alloc: Global) -> SeenValues
     ensures { AreHad [] result }
 {
-    Had {
+    SeenValues {
         attrs: BTreeSet::new(alloc),
         values: BTreeSet::new(alloc),
     }
@@ -67,7 +67,7 @@ fn nothing_had(alloc: Global) -> Had
 /// Notes one more value, and tells whether it is new: its attribute where one value is all, else the value.
 pub(crate) fn note(
     alloc: Global,
-    had: &mut Had,
+    had: &mut SeenValues,
     single: bool,
     one: &Given,
 ) -> Result<bool, AllocError>
@@ -83,7 +83,7 @@ pub(crate) fn note(
 }
 
 // What is to be kept of these values.
-fn had_of(alloc: Global, items: &[Given]) -> Result<Had, AllocError>
+fn had_of(alloc: Global, items: &[Given]) -> Result<SeenValues, AllocError>
     ensures { IfOk result (AreHad (map given_seen items.now)) }
 {
     let mut had = nothing_had(alloc);
@@ -97,7 +97,7 @@ fn had_of(alloc: Global, items: &[Given]) -> Result<Had, AllocError>
 const MANY: usize = 128;
 
 /// What is to be kept of these values, where they are many.
-pub(crate) fn had_of_many(alloc: Global, items: &[Given]) -> Result<Option<Had>, AllocError>
+pub(crate) fn had_of_many(alloc: Global, items: &[Given]) -> Result<Option<SeenValues>, AllocError>
     ensures { IfOk result (λ had. IfSome had (AreHad (map given_seen items.now))) }
 {
     if items.len() < MANY {
@@ -107,7 +107,7 @@ pub(crate) fn had_of_many(alloc: Global, items: &[Given]) -> Result<Option<Had>,
 }
 
 /// Whether one of these values is of the attribute.
-pub(crate) fn has_attr(had: &Had, attr: AttrId) -> bool
+pub(crate) fn has_attr(had: &SeenValues, attr: AttrId) -> bool
     ensures { (given : List drafts.Given) → AreHad given had.now
         → result ≡ list_any (is_given attr.0) given }
 {

@@ -24,7 +24,7 @@ pub(crate) struct Values {
 }
 
 /// What was read of attributes, by their numbers: none of one that may not be read.
-pub(crate) type Kept = BTreeMap<u32, Option<Values>>;
+pub(crate) type ValueCache = BTreeMap<u32, Option<Values>>;
 
 // Puts many values in order by their keys, and says whether it did.
 fn put_in_order(values: &mut Vec<Value>) -> bool
@@ -68,7 +68,7 @@ fn read<V: Readable>(alloc: Global, view: &V, attr: AttrId) -> Result<Option<Val
 pub(crate) fn keep<V: Readable>(
     alloc: Global,
     view: &V,
-    kept: &mut Kept,
+    kept: &mut ValueCache,
     attr: AttrId,
 ) -> Result<(), AllocError>
     requires { AreRead (V.shown view.now) kept.old }
@@ -84,7 +84,7 @@ pub(crate) fn keep<V: Readable>(
 }
 
 /// What was read of an attribute.
-pub(crate) fn values_at(kept: &Kept, attr: AttrId) -> &Option<Values>
+pub(crate) fn values_at(kept: &ValueCache, attr: AttrId) -> &Option<Values>
     requires { IsSome (get nat_cmp kept.now attr.0) }
     ensures { get nat_cmp kept.entry.now attr.0 ≡ Some result.now }
 {

@@ -3,7 +3,7 @@
 ghost use Rattle.std.specs.Prelude.{◌≡◌, IfOk};
 ghost use Rattle.ad_dir_table.specs.Fields.{with_id};
 
-use crate::kept::Kept;
+use crate::stored_object::StoredObject;
 use sd_pool::SdId;
 use std::alloc::{AllocError, Global};
 use std::boxed::Box;
@@ -11,28 +11,28 @@ use std::marker::Model;
 
 /// What is kept of an object, in memory of its own. A contract sees what is kept.
 #[derive(Drop)]
-pub(crate) struct Shelf {
-    kept: Box<Kept>,
+pub(crate) struct ObjectSlot {
+    kept: Box<StoredObject>,
 }
 
-impl Model for Shelf {
-    ghost use Rattle.ad_dir_table.specs.declared.kept.Kept.{Kept};
+impl Model for ObjectSlot {
+    ghost use Rattle.ad_dir_table.specs.declared.stored_object.StoredObject.{StoredObject};
 
-    ghost Value = { Kept };
+    ghost Value = { StoredObject };
 
     ghost view = { λ shelf. shelf.kept.value };
 }
 
-impl Shelf {
-    pub fn of(alloc: Global, kept: Kept) -> Result<Shelf, AllocError>
+impl ObjectSlot {
+    pub fn of(alloc: Global, kept: StoredObject) -> Result<ObjectSlot, AllocError>
         ensures { IfOk result (λ shelf. shelf ≡ kept) }
     {
-        Ok(Shelf {
+        Ok(ObjectSlot {
             kept: Box::new(alloc, kept)?,
         })
     }
 
-    pub fn kept(&self) -> &Kept
+    pub fn kept(&self) -> &StoredObject
         ensures { result.now ≡ self.now }
     {
         &self.kept

@@ -16,7 +16,7 @@ ghost use Rattle.ad_dir_table.specs.Listing.{next_number};
 ghost use Rattle.ad_dir_table.specs.Fields.{AllKept, AreKeyed, HasNormal, entry_kept, kept_sid, object_kept};
 ghost use Rattle.ad_dir_table.specs.Fields.{objects_kept, with_id};
 
-use crate::shelf::Shelf;
+use crate::object_slot::ObjectSlot;
 use ad_dir_objects::{Object, object_sid};
 use ad_ids::Sid;
 use ad_schema::Schema;
@@ -27,28 +27,28 @@ use std::ops::Bound;
 
 /// An object with the id of its descriptor, and its identifier if it has one.
 #[derive(Drop)]
-pub(crate) struct Kept {
+pub(crate) struct StoredObject {
     pub object: Object,
     pub id: SdId,
     pub has_sid: bool,
     pub sid: Sid,
 }
 
-impl Kept {
+impl StoredObject {
     /// The object with the identifier that it has.
-    pub fn of(schema: &Schema, object: Object, id: SdId) -> Kept
+    pub fn of(schema: &Schema, object: Object, id: SdId) -> StoredObject
         ensures object { result.object ≡ object }
         ensures id { result.id ≡ id }
         ensures sid { (sd : SdValue) → kept_sid result ≡ sid_in schema.now (object_seen object sd) }
     {
         match object_sid(schema, &object) {
-            Some(sid) => Kept {
+            Some(sid) => StoredObject {
                 object,
                 id,
                 has_sid: true,
                 sid,
             },
-            None => Kept {
+            None => StoredObject {
                 object,
                 id,
                 has_sid: false,
@@ -59,13 +59,13 @@ impl Kept {
 }
 
 /// The identifier of an object.
-pub(crate) fn sid_of(kept: &Kept) -> Option<&Sid>
+pub(crate) fn sid_of(kept: &StoredObject) -> Option<&Sid>
     ensures { option_copied result ≡ kept_sid kept.now }
 {
     if kept.has_sid { Some(&kept.sid) } else { None }
 }
 
-fn kept_in(found: Option<&Shelf>) -> Option<&Kept>
+fn kept_in(found: Option<&ObjectSlot>) -> Option<&StoredObject>
     ensures { option_copied result ≡ option_copied found.entry }
 {
     match found {
@@ -75,7 +75,7 @@ fn kept_in(found: Option<&Shelf>) -> Option<&Kept>
 }
 
 /// The object of a number.
-pub(crate) fn kept_of(objects: &BTreeMap<u32, Shelf>, number: u32) -> Option<&Kept>
+pub(crate) fn kept_of(objects: &BTreeMap<u32, ObjectSlot>, number: u32) -> Option<&StoredObject>
     requires { AreKeyed objects.now.entries }
     ensures at { option_copied result ≡ lookup (is_at (nat_cmp number)) objects.now.entries }
     ensures found { (live : List Extent)
@@ -91,7 +91,7 @@ pub(crate) fn kept_of(objects: &BTreeMap<u32, Shelf>, number: u32) -> Option<&Ke
 }
 
 /// The least number above one.
-pub(crate) fn next_number(objects: &BTreeMap<u32, Shelf>, above: u32) -> Option<u32>
+pub(crate) fn next_number(objects: &BTreeMap<u32, ObjectSlot>, above: u32) -> Option<u32>
     requires { AreKeyed objects.now.entries }
     ensures { (live : List Extent) → result ≡ next_number (objects_kept live objects.now.entries)
         above }
@@ -106,7 +106,7 @@ pub(crate) fn next_number(objects: &BTreeMap<u32, Shelf>, above: u32) -> Option<
 }
 
 /// The numbers, rising.
-pub(crate) fn numbers(alloc: Global, objects: &BTreeMap<u32, Shelf>) -> Result<Vec<u32>, AllocError>
+pub(crate) fn numbers(alloc: Global, objects: &BTreeMap<u32, ObjectSlot>) -> Result<Vec<u32>, AllocError>
     ensures { (live : List Extent) → IfOk result
         (λ all. all.items ≡ numbers (objects_kept live objects.now.entries)) }
 {
@@ -117,7 +117,7 @@ pub(crate) fn numbers(alloc: Global, objects: &BTreeMap<u32, Shelf>) -> Result<V
     Ok(all)
 }
 
-fn id_of(was: Option<Shelf>) -> Option<SdId>
+fn id_of(was: Option<ObjectSlot>) -> Option<SdId>
     ensures { result ≡ option_map (λ kept. kept.id) was }
 {
     match was {
@@ -130,8 +130,8 @@ fn id_of(was: Option<Shelf>) -> Option<SdId>
 /// the one before has named.
 pub(crate) fn put(
     alloc: Global,
-    objects: &mut BTreeMap<u32, Shelf>,
-    kept: Kept,
+    objects: &mut BTreeMap<u32, ObjectSlot>,
+    kept: StoredObject,
 ) -> Result<Option<SdId>, AllocError>
     ensures entries { OnOk result (objects.new.entries ≡ insert_entry nat_cmp objects.old.entries
         kept.object.number kept) }
@@ -142,7 +142,7 @@ pub(crate) fn put(
     ensures ordered { IsOrdered nat_cmp objects.old → IsOrdered nat_cmp objects.new }
 {
     let number = kept.object.number;
-    let shelf = Shelf::of(alloc, kept)?;
+    let shelf = ObjectSlot::of(alloc, kept)?;
     match objects.insert(number, shelf) {
         Ok(was) => Ok(id_of(was)),
         Err(_) => Err(AllocError),
@@ -151,7 +151,7 @@ pub(crate) fn put(
 
 /// Gives the object of a number another id of its descriptor. Answers the one before, and none where there is no
 /// object of the number.
-pub(crate) fn set_id(objects: &mut BTreeMap<u32, Shelf>, number: u32, id: SdId) -> Option<SdId>
+pub(crate) fn set_id(objects: &mut BTreeMap<u32, ObjectSlot>, number: u32, id: SdId) -> Option<SdId>
     ensures entries { MatchOption (lookup (is_at (nat_cmp number)) objects.old.entries)
         (objects.new.entries ≡ objects.old.entries)
         (λ kept. objects.new.entries ≡ insert_entry nat_cmp objects.old.entries number
@@ -167,7 +167,7 @@ pub(crate) fn set_id(objects: &mut BTreeMap<u32, Shelf>, number: u32, id: SdId) 
 }
 
 /// Removes the object of a number out. Answers the id that it has named.
-pub(crate) fn take(objects: &mut BTreeMap<u32, Shelf>, number: u32) -> Option<SdId>
+pub(crate) fn take(objects: &mut BTreeMap<u32, ObjectSlot>, number: u32) -> Option<SdId>
     ensures entries { objects.new.entries ≡ remove_entry (is_at (nat_cmp number))
         objects.old.entries }
     ensures was { result ≡ option_map (λ k. k.id)
