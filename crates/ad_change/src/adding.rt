@@ -62,7 +62,12 @@ fn too_many(schema: &Schema, attr: AttrId, sent: &[Bytes]) -> bool
 }
 
 // The checks of one attribute, and its values as they are stored.
-fn judge_attr(alloc: Global, dir: &Dir, attr: AttrId, sent: &[Bytes]) -> Result<OneOrMany<Stored>, Stop>
+fn judge_attr(
+    alloc: Global,
+    dir: &Dir,
+    attr: AttrId,
+    sent: &[Bytes],
+) -> Result<OneOrMany<Stored>, Stop>
     requires { attr.0 < length (attrs_of dir.now.schema) }
     ensures { Judges (add.attr_checks dir.now (attr, sent.now))
         (λ stored. map stored_seen stored ≡ all_stored dir.now attr.0 sent.now) result }

@@ -37,7 +37,10 @@ pub(crate) fn count_of(counts: &Counts, attr: AttrId) -> usize
 }
 
 /// How many values each attribute has.
-pub(crate) fn counts_of(alloc: Global, held: &[(AttrId, OneOrMany<Stored>)]) -> Result<Counts, AllocError>
+pub(crate) fn counts_of(
+    alloc: Global,
+    held: &[(AttrId, OneOrMany<Stored>)],
+) -> Result<Counts, AllocError>
     ensures { IfOk result (λ counts. (attr : ℕ) → count_in counts attr
         ≡ length (stored_in (map held_seen held.now) attr)) }
 {

@@ -46,7 +46,11 @@ fn place_above(held: &[(AttrId, OneOrMany<Stored>)], attr: AttrId) -> Option<usi
 }
 
 /// Puts the values of an attribute that isn't held where its number belongs, if there are any.
-pub fn put_stored(held: &mut Held, attr: AttrId, stored: OneOrMany<Stored>) -> Result<(), AllocError>
+pub fn put_stored(
+    held: &mut Held,
+    attr: AttrId,
+    stored: OneOrMany<Stored>,
+) -> Result<(), AllocError>
     requires { HoldsNone attr.0 (map held_seen held.old.items) }
     ensures { OnOk result (map held_seen held.new.items
         ≡ modify.with_these attr.0 (map stored_seen stored) (map held_seen held.old.items)) }

@@ -171,7 +171,12 @@ fn judge_kept(
 }
 
 // All checks of an item on the values of its attribute, and its values as they are stored.
-fn judge_item(alloc: Global, dir: &Dir, stored: &Pile, item: &ActItem) -> Result<OneOrMany<Stored>, Stop>
+fn judge_item(
+    alloc: Global,
+    dir: &Dir,
+    stored: &Pile,
+    item: &ActItem,
+) -> Result<OneOrMany<Stored>, Stop>
     requires { item.now.attr.0 < length (attrs_of dir.now.schema) }
     ensures { Judges (checks_on dir.now (map stored_seen stored.now) item.now)
         (λ new. map stored_seen new ≡ all_stored dir.now item.now.attr.0 item.now.values) result }
@@ -206,7 +211,12 @@ fn taken_from(alloc: Global, stored: Pile, gone: &[Stored]) -> Result<Pile, Allo
 }
 
 #[tactic(auto, unfolding(crate::specs::Items::values_after))]
-fn values_after(alloc: Global, op: u8, new: OneOrMany<Stored>, stored: Pile) -> Result<Pile, AllocError>
+fn values_after(
+    alloc: Global,
+    op: u8,
+    new: OneOrMany<Stored>,
+    stored: Pile,
+) -> Result<Pile, AllocError>
     ensures { IfOk result (λ after. map stored_seen after
         ≡ modify.values_after op (map stored_seen new) (map stored_seen stored)) }
 {

@@ -98,7 +98,10 @@ fn has_in(
     }
 }
 
-fn joined(first: OneOrMany<Stored>, second: OneOrMany<Stored>) -> Result<OneOrMany<Stored>, AllocError>
+fn joined(
+    first: OneOrMany<Stored>,
+    second: OneOrMany<Stored>,
+) -> Result<OneOrMany<Stored>, AllocError>
     ensures { IfOk result (λ all. all ≡ first ++ second) }
 {
     let mut all = first.into_vec()?;
@@ -140,7 +143,10 @@ fn with_in(
     }
 }
 
-fn without_these(stored: OneOrMany<Stored>, gone: &[Stored]) -> Result<OneOrMany<Stored>, AllocError>
+fn without_these(
+    stored: OneOrMany<Stored>,
+    gone: &[Stored],
+) -> Result<OneOrMany<Stored>, AllocError>
     ensures { IfOk result (λ left. left ≡ filter (not_among gone.now) stored) }
 {
     let mut left = stored.into_vec()?;

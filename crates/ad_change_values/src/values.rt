@@ -142,7 +142,12 @@ pub fn has_no_empty_password(schema: &Schema, attr: AttrId, sent: &[Bytes]) -> b
 // ---- storing
 
 // The links that the values of an attribute of links are: 19 where one names no object.
-fn links_to(alloc: Global, dir: &Dir, attr: AttrId, sent: &[Bytes]) -> Result<OneOrMany<Stored>, Stop>
+fn links_to(
+    alloc: Global,
+    dir: &Dir,
+    attr: AttrId,
+    sent: &[Bytes],
+) -> Result<OneOrMany<Stored>, Stop>
     requires { attr_is_link dir.now.schema attr.0 ≡ true }
     ensures { Judges (or_code (list_all (values.leads dir.now attr.0) sent.now) 19 ∷ [])
         (λ stored. map stored_seen stored ≡ values.all_stored dir.now attr.0 sent.now) result }

@@ -86,7 +86,11 @@ fn after_held(schema: &Schema, left: usize, held: &(AttrId, OneOrMany<Stored>)) 
     }
 }
 
-fn after_all_held(schema: &Schema, left: usize, values: &[(AttrId, OneOrMany<Stored>)]) -> Option<usize>
+fn after_all_held(
+    schema: &Schema,
+    left: usize,
+    values: &[(AttrId, OneOrMany<Stored>)],
+) -> Option<usize>
     ensures { result ≡ left_of left (all_held_weight schema.now (map held_seen values.now)) }
 {
     let mut left = left;

@@ -16,8 +16,8 @@ ghost use Rattle.ad_dir_table.specs.Entry.{objects_in, HaveTheirSids};
 ghost use Rattle.ad_dir_table.specs.Listing.{next_number, descriptor_count};
 ghost use Rattle.ad_dir_table.specs.Pooled.{IsPoolOf};
 
-use crate::stored_object;
 use crate::parts::{self, Parts};
+use crate::stored_object;
 use ad_dir_objects::Object;
 use ad_ids::Sid;
 use ad_schema::Schema;

@@ -18,9 +18,9 @@ ghost use Rattle.ad_dir_table.specs.Listing.{descriptor_count};
 ghost use Rattle.ad_dir_table.specs.Pooled.{IsPoolOf};
 ghost use Rattle.ad_dir_table.specs.Fields.{entries_of, IsTable};
 
-use crate::stored_object::{self, StoredObject, kept_of};
-use crate::pooled;
 use crate::object_slot::ObjectSlot;
+use crate::pooled;
+use crate::stored_object::{self, StoredObject, kept_of};
 use ad_dir_objects::Object;
 use ad_ids::Sid;
 use ad_schema::Schema;
@@ -149,7 +149,11 @@ pub(crate) fn put(
 {
     parts.pool.is_one();
     let id = pooled::put(&mut parts.pool, bytes)?;
-    match stored_object::put(parts.alloc, &mut parts.kept, StoredObject::of(schema, object, id)) {
+    match stored_object::put(
+        parts.alloc,
+        &mut parts.kept,
+        StoredObject::of(schema, object, id),
+    ) {
         Ok(was) => {
             pooled::give_back_if(&mut parts.pool, was);
             Ok(())

@@ -106,7 +106,10 @@ pub(crate) fn next_number(objects: &BTreeMap<u32, ObjectSlot>, above: u32) -> Op
 }
 
 /// The numbers, rising.
-pub(crate) fn numbers(alloc: Global, objects: &BTreeMap<u32, ObjectSlot>) -> Result<Vec<u32>, AllocError>
+pub(crate) fn numbers(
+    alloc: Global,
+    objects: &BTreeMap<u32, ObjectSlot>,
+) -> Result<Vec<u32>, AllocError>
     ensures { (live : List Extent) → IfOk result
         (λ all. all.items ≡ numbers (objects_kept live objects.now.entries)) }
 {

@@ -10,7 +10,7 @@ ghost use Rattle.ad_entries.specs.Entry.{values_if, attributes_name, children_na
 ghost use Rattle.ad_entries.specs.Entry.{changing_attr, changing_attrs};
 ghost use Rattle.ad_entries.specs.Asked.{AreApart};
 
-use crate::asking::{RequestedExtras, Asking};
+use crate::asking::{Asking, RequestedExtras};
 use crate::entry::push_if;
 use ad_bytes::{Bytes, List};
 use ad_constructed_dir::{attributes_written, children_created, parts_written};

@@ -16,7 +16,7 @@ ghost use Rattle.ad_entries.specs.Kinds.{IsOf};
 ghost use Rattle.ad_entries.specs.Places.{HasPlaces};
 ghost use Rattle.ad_entries.specs.Judged.{IsJudged, AreKinds};
 
-use crate::asking::{RequestedExtras, Asked, Asking, asked_of};
+use crate::asking::{Asked, Asking, RequestedExtras, asked_of};
 use crate::changing::changing_attrs;
 use crate::descriptor::{Descriptor, descriptor_given};
 use crate::entry::{Made, entry_of};

@@ -37,7 +37,7 @@ mod reading;
 mod rising;
 mod verdicts;
 
-pub use asking::{RequestedExtras, Asked, Asking};
+pub use asking::{Asked, Asking, RequestedExtras};
 pub use descriptor::Descriptor;
 pub use entry::Made;
 pub use judged::{Judged, Kinds, descriptor_judged, entry_judged, no_kinds, places_judged};

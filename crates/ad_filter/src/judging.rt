@@ -12,9 +12,9 @@ ghost use Rattle.ad_filter.specs.Comparing.{is_asked_of, says_compared};
 ghost use Rattle.ad_filter.specs.Keeping.{IsOrdered, AreRead, IsKept, as_read};
 
 use crate::comparison::{Comparison, any_fits, any_kept_passes, value_of};
-use crate::value_cache::{ValueCache, Values, keep, values_at};
 use crate::outcome::Truth;
 use crate::readable::{Readable, attr_known};
+use crate::value_cache::{ValueCache, Values, keep, values_at};
 use ad_ldap::{Filter, what_is_seen_of_filters};
 use ad_schema::AttrId;
 use ad_value::{Pattern, Syntax, sent_pattern};

@@ -14,7 +14,7 @@ ghost use Rattle.ad_load_records.specs.Records.{most_lines};
 
 use crate::fault::{LoadCause, LoadFault};
 use ad_dn::{Dn, DnFault, Rdn};
-use ad_ldif::{LineCache, LdifFault, LdifKind, LdifLine as HeldLine, LdifRecord, Reader};
+use ad_ldif::{LdifFault, LdifKind, LdifLine as HeldLine, LdifRecord, LineCache, Reader};
 use ad_schema::SchemaKind;
 use ad_schema_classes::same_name;
 use std::alloc::Global;

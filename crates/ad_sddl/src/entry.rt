@@ -5,7 +5,7 @@ ghost use Rattle.std.specs.Option.{option_copied};
 ghost use Rattle.ad_bytes.specs.Reading.{Reads};
 ghost use Rattle.ad_sddl.specs.Reading.{shape, type_at, entry_at};
 
-use crate::fault::{SddlKind, ParseError};
+use crate::fault::{ParseError, SddlKind};
 use crate::field::{read_end, read_flags, read_guid, read_rights, takes};
 use crate::numeric::read_sid;
 use ad_acl::{Ace, AceKind};

@@ -11,7 +11,7 @@ ghost use Rattle.ad_sddl.specs.Reading.{end_at, code_at, field_at, digits_at, di
 ghost use Rattle.ad_sddl.specs.Reading.{present_guid_at, guid_at};
 ghost use Rattle.ad_sddl.specs.Calls.{with_rest};
 
-use crate::fault::{SddlKind, ParseError};
+use crate::fault::{ParseError, SddlKind};
 use crate::numeric::skip;
 use crate::words::find;
 use ad_acl::{Code, flag_codes, right_codes};

@@ -49,7 +49,11 @@ fn read_list_flags(input: &mut Input<'_>) -> bool
 }
 
 // Reads entries as long as one begins.
-fn read_entries(alloc: Global, input: &mut Input<'_>, domain: Option<&Sid>) -> Result<Aces, ParseError>
+fn read_entries(
+    alloc: Global,
+    input: &mut Input<'_>,
+    domain: Option<&Sid>,
+) -> Result<Aces, ParseError>
     ensures read { ReadsUnless is_memory (λ a. a) result input.new
         (all_entries (option_copied domain.entry) input.old) }
     ensures left { OnOk result (length input.new ≤ length input.old) }

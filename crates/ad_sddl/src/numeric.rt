@@ -6,7 +6,7 @@ ghost use Rattle.ad_bytes.specs.Reading.{Reads};
 ghost use Rattle.ad_sddl.specs.Words.{meant_by};
 ghost use Rattle.ad_sddl.specs.Reading.{alias_at, sid_at};
 
-use crate::fault::{SddlKind, ParseError};
+use crate::fault::{ParseError, SddlKind};
 use crate::words::{Base, alias_table, find_alias};
 use ad_bytes::Input;
 use ad_ids::Sid;

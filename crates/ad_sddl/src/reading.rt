@@ -10,7 +10,7 @@ ghost use Rattle.ad_sddl.specs.Reading.{sid_at, list_at, once_at, part_at, parts
 ghost use Rattle.ad_sddl.specs.Reading.{read_of};
 ghost use Rattle.ad_sddl.specs.Calls.{is_memory, ReadsParts, ReadsAll};
 
-use crate::fault::{SddlFault, SddlKind, ParseError};
+use crate::fault::{ParseError, SddlFault, SddlKind};
 use crate::field::takes;
 use crate::list::read_list;
 use crate::numeric::read_sid;

@@ -55,6 +55,8 @@ fn three(rt: &(impl Abort + AllocGlobal)) -> OneOrMany<u8> {
 fn a_few_values_stand_in_their_order(rt: HostRuntime) {
     let few = three(&rt);
     assert!(rt; few.as_slice() == [1, 2, 3].as_slice());
-    let one = OneOrMany::one(rt.alloc(), 9u8).into_vec().expect(&rt, "memory");
+    let one = OneOrMany::one(rt.alloc(), 9u8)
+        .into_vec()
+        .expect(&rt, "memory");
     assert!(rt; one.as_slice() == [9].as_slice());
 }
