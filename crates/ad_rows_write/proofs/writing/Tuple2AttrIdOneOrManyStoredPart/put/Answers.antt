@@ -4,7 +4,7 @@ use Rattle.ad_bytes.specs.Numbers.{SpellsBe}
 use Rattle.ad_dir_objects.specs.Seen.{stored_seen}
 use Rattle.ad_rows_write.specs.Body.{SpellsList, SpellsStored}
 use Rattle.ad_rows_write.proofs.Putting.{puts_mapped, puts_then}
-use Rattle.ad_rows_write.proofs.writing.Tuple2AttrIdFewStoredPart.put.Goals as goal
+use Rattle.ad_rows_write.proofs.writing.Tuple2AttrIdOneOrManyStoredPart.put.Goals as goal
 
 pub returns : goal.returns
 returns c =
