@@ -18,7 +18,7 @@ ghost use Rattle.ad_dir_model.specs.Directory.{parents};
 ghost use Rattle.ad_dir_model.specs.Names.{child_named};
 ghost use Rattle.ad_dir_model.specs.Changes.{new_sid};
 ghost use Rattle.ad_dir_model.specs.Soundness.{IsSound};
-ghost use Rattle.ad_needs.specs.Verdicts.{Resolves};
+ghost use Rattle.ad_needs_rules.specs.Verdicts.{Resolves};
 ghost use Rattle.ad_change.specs.Adding as add;
 ghost use Rattle.ad_change.specs.Creating.{IsNewObject, all_read, sent_checks};
 ghost use Rattle.ad_change_values.specs.Judging.{Judges};
@@ -62,7 +62,12 @@ fn too_many(schema: &Schema, attr: AttrId, sent: &[Bytes]) -> bool
 }
 
 // The checks of one attribute, and its values as they are stored.
-fn judge_attr(alloc: Global, dir: &Dir, attr: AttrId, sent: &[Bytes]) -> Result<OneOrMany<Stored>, Stop>
+fn judge_attr(
+    alloc: Global,
+    dir: &Dir,
+    attr: AttrId,
+    sent: &[Bytes],
+) -> Result<OneOrMany<Stored>, Stop>
     requires { attr.0 < length (attrs_of dir.now.schema) }
     ensures { Judges (add.attr_checks dir.now (attr, sent.now))
         (λ stored. map stored_seen stored ≡ all_stored dir.now attr.0 sent.now) result }

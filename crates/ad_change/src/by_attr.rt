@@ -88,7 +88,10 @@ fn put_last(
 }
 
 // Moves the values of the first attribute after those of all before it.
-fn move_first(values: &mut BTreeMap<u32, OneOrMany<Stored>>, all: &mut Held) -> Result<(), AllocError>
+fn move_first(
+    values: &mut BTreeMap<u32, OneOrMany<Stored>>,
+    all: &mut Held,
+) -> Result<(), AllocError>
     ensures moved { OnOk result (map held_seen all.new.items ++ by_attr values.new.entries
         ≡ map held_seen all.old.items ++ by_attr values.old.entries) }
     ensures fewer { OnOk result (btree_map_len values.new ≡ btree_map_len values.old - 1) }
