@@ -49,9 +49,9 @@ use Rattle.ad_dir_model.proofs.Adding.{new_sid_is, added_sound}
 use Rattle.ad_needs_rules.specs.Checks.{first_failing}
 use Rattle.ad_needs_rules.specs.Requests.{parts_in, is_descriptor}
 use Rattle.ad_schema_defaults.specs.NewClass.{is_structural, if_structural, lowest_of, classes_named, class_by_names}
-use Rattle.ad_needs.specs.Adding.{first_part, new_part, has_parts, parent_named, parent_number}
-use Rattle.ad_needs.specs.Adding.{all_naming_checks, sent, new_class, class_number, new_sd, ordinary}
-use Rattle.ad_needs.specs.Adding.{all_ordinary, is_kept_back, own_checks, is_value, by_id, new_values, add_checks}
+use Rattle.ad_needs_rules.specs.Adding.{first_part, new_part, has_parts, parent_named, parent_number}
+use Rattle.ad_needs_rules.specs.Adding.{all_naming_checks, sent, new_class, class_number, new_sd, ordinary}
+use Rattle.ad_needs_rules.specs.Adding.{all_ordinary, is_kept_back, own_checks, is_value, by_id, new_values, add_checks}
 use Rattle.ad_needs_rules.proofs.FirstFailing.{head_holds, both_hold, each_holds}
 use Rattle.ad_needs_rules.proofs.Named.{live_or}
 use Rattle.ad_change_values.specs.Values.{all_stored}

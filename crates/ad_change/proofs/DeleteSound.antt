@@ -7,7 +7,7 @@ use Rattle.ad_dir_model.specs.Soundness.{IsSound}
 use Rattle.ad_dir_model.proofs.Deleting.{deleted_sound}
 use Rattle.ad_needs_rules.specs.Checks.{first_failing}
 use Rattle.ad_needs_rules.specs.Requests.{number_named}
-use Rattle.ad_needs.specs.Deleting.{delete_checks}
+use Rattle.ad_needs_rules.specs.Deleting.{delete_checks}
 use Rattle.ad_change.proofs.Resolved.{deletion_of}
 
 pub delete_is_sound : (dir : Directory) (token : Token) (dn : List ℕ) (below : Bool) → IsSound dir

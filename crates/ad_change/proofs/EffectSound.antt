@@ -11,11 +11,11 @@ use Rattle.ad_dir_objects.specs.declared.act.Act.{Act}
 use Rattle.ad_dir_model.specs.Directory.{Directory}
 use Rattle.ad_dir_model.specs.Soundness.{IsSound}
 use Rattle.ad_needs_rules.specs.Checks.{Refusal, code, hidden, missing, first_failing, refused, by_checks}
-use Rattle.ad_needs.specs.Adding.{add_checks, add_act}
-use Rattle.ad_needs.specs.Deleting.{delete_checks, delete_act}
-use Rattle.ad_needs.specs.Renaming.{rename_checks, rename_act}
-use Rattle.ad_needs.specs.Modifying.{modify_checks, modify_act}
-use Rattle.ad_needs.specs.Verdicts.{verdict_of}
+use Rattle.ad_needs_rules.specs.Adding.{add_checks, add_act}
+use Rattle.ad_needs_rules.specs.Deleting.{delete_checks, delete_act}
+use Rattle.ad_needs_rules.specs.Renaming.{rename_checks, rename_act}
+use Rattle.ad_needs_rules.specs.Modifying.{modify_checks, modify_act}
+use Rattle.ad_needs_rules.specs.Verdicts.{verdict_of}
 use Rattle.ad_change.specs.Effects.{later_checks, made, changes_to, told, by_later, by_verdict, effect}
 use Rattle.ad_change.proofs.Contents.{ReadsBack}
 use Rattle.ad_change.proofs.NewSid.{SidsRead, HasDomain}

@@ -36,8 +36,8 @@ use Rattle.ad_dir_model.proofs.AdminCount.{place_within}
 use Rattle.ad_dir_model.proofs.Writing.{changed_sound, written_sound}
 use Rattle.ad_needs_rules.specs.Checks.{first_failing}
 use Rattle.ad_needs_rules.specs.Requests.{number_named, is_descriptor, has_place}
-use Rattle.ad_needs.specs.Modifying.{is_unwritable, ordinary_checks, item_checks, act_item, act_items, written_sd}
-use Rattle.ad_needs.specs.Modifying.{modify_checks}
+use Rattle.ad_needs_rules.specs.Modifying.{is_unwritable, ordinary_checks, item_checks, act_item, act_items, written_sd}
+use Rattle.ad_needs_rules.specs.Modifying.{modify_checks}
 use Rattle.ad_needs_rules.proofs.FirstFailing.{head_holds, both_hold, each_holds}
 use Rattle.ad_needs_rules.proofs.Named.{named_live}
 use Rattle.ad_change_values.specs.Values.{all_stored, is_among}

@@ -25,7 +25,7 @@ use Rattle.ad_dir_model.proofs.Placing.{all_live_more}
 use Rattle.ad_dir_model.proofs.Renaming.{renamed_sound}
 use Rattle.ad_needs_rules.specs.Checks.{first_failing}
 use Rattle.ad_needs_rules.specs.Requests.{number_named, no_rdn}
-use Rattle.ad_needs.specs.Renaming.{new_rdn, new_parent, rename_checks}
+use Rattle.ad_needs_rules.specs.Renaming.{new_rdn, new_parent, rename_checks}
 use Rattle.ad_needs_rules.proofs.FirstFailing.{head_holds}
 use Rattle.ad_change.specs.Tree.{depth_of, is_shallow_with, is_light_with}
 use Rattle.ad_change.specs.Renaming.{is_free, rename_later}

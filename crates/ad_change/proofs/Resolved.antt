@@ -26,12 +26,12 @@ use Rattle.ad_dir_model.proofs.ScratchLaws.{below_at}
 use Rattle.ad_needs_rules.specs.declared.outcome.Verdict.TheVariants.{Granted, Refused}
 use Rattle.ad_needs_rules.specs.Checks.{Refusal, code, hidden, missing, first_failing, refused, by_checks}
 use Rattle.ad_needs_rules.specs.Requests.{number_named, no_rdn}
-use Rattle.ad_needs.specs.Adding.{add_act}
-use Rattle.ad_needs.specs.Deleting.{delete_checks, delete_act}
-use Rattle.ad_needs.specs.Renaming.{one_part, new_rdn, new_parent, superior_seen, superior_outside, rename_checks}
-use Rattle.ad_needs.specs.Renaming.{rename_act}
-use Rattle.ad_needs.specs.Modifying.{modify_act}
-use Rattle.ad_needs.specs.Verdicts.{verdict_of, IsChange, Resolves}
+use Rattle.ad_needs_rules.specs.Adding.{add_act}
+use Rattle.ad_needs_rules.specs.Deleting.{delete_checks, delete_act}
+use Rattle.ad_needs_rules.specs.Renaming.{one_part, new_rdn, new_parent, superior_seen, superior_outside, rename_checks}
+use Rattle.ad_needs_rules.specs.Renaming.{rename_act}
+use Rattle.ad_needs_rules.specs.Modifying.{modify_act}
+use Rattle.ad_needs_rules.specs.Verdicts.{verdict_of, IsChange, Resolves}
 use Rattle.ad_needs_rules.proofs.FirstFailing.{head_holds, both_hold}
 use Rattle.ad_needs_rules.proofs.Named.{named_live}
 

@@ -29,13 +29,14 @@ use Rattle.ad_dir_model.specs.Soundness.{IsSound}
 use Rattle.ad_needs_rules.specs.declared.outcome.Verdict.TheVariants.{Granted}
 use Rattle.ad_needs_rules.specs.Checks.{first_failing}
 use Rattle.ad_needs_rules.specs.Requests.{parts_in, number_named, is_descriptor}
-use Rattle.ad_needs.specs.Adding.{new_part, parent_named, parent_number, all_naming_checks, sent, new_class}
-use Rattle.ad_needs.specs.Adding.{class_number}
-use Rattle.ad_needs.specs.Adding.{all_ordinary, own_checks, new_values, by_id, is_value, ordinary, add_checks, add_act}
-use Rattle.ad_needs.specs.Deleting.{delete_act}
-use Rattle.ad_needs.specs.Renaming.{rename_act}
-use Rattle.ad_needs.specs.Modifying.{item_checks, act_item, act_items, modify_checks, modify_act}
-use Rattle.ad_needs.specs.Verdicts.{verdict_of, IsChange, Resolves}
+use Rattle.ad_needs_rules.specs.Adding.{new_part, parent_named, parent_number, all_naming_checks, sent, new_class}
+use Rattle.ad_needs_rules.specs.Adding.{class_number}
+use Rattle.ad_needs_rules.specs.Adding.{all_ordinary, own_checks, new_values, by_id, is_value, ordinary, add_checks}
+use Rattle.ad_needs_rules.specs.Adding.{add_act}
+use Rattle.ad_needs_rules.specs.Deleting.{delete_act}
+use Rattle.ad_needs_rules.specs.Renaming.{rename_act}
+use Rattle.ad_needs_rules.specs.Modifying.{item_checks, act_item, act_items, modify_checks, modify_act}
+use Rattle.ad_needs_rules.specs.Verdicts.{verdict_of, IsChange, Resolves}
 use Rattle.ad_needs_rules.proofs.FirstFailing.{head_holds, both_hold, each_holds}
 use Rattle.ad_needs_rules.proofs.Named.{live_or, named_live}
 use Rattle.ad_change.proofs.Contents.{all_of_filter_map}

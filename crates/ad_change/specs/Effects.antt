@@ -11,7 +11,7 @@ use Rattle.ad_needs_rules.specs.declared.outcome.Verdict.{Verdict}
 use Rattle.ad_needs_rules.specs.declared.outcome.Verdict.TheVariants.{Granted, Refused, Hidden, Missing}
 use Rattle.ad_needs_rules.specs.Needs.{need_text}
 use Rattle.ad_needs_rules.specs.Checks.{Check, Refusal, first_failing, refused}
-use Rattle.ad_needs.specs.Verdicts.{verdict_of}
+use Rattle.ad_needs_rules.specs.Verdicts.{verdict_of}
 use Rattle.ad_change.specs.Adding.{add_later, add_made}
 use Rattle.ad_change.specs.Deleting.{delete_later, delete_made}
 use Rattle.ad_change.specs.Renaming.{rename_later, rename_made}

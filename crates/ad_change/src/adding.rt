@@ -18,7 +18,7 @@ ghost use Rattle.ad_dir_model.specs.Directory.{parents};
 ghost use Rattle.ad_dir_model.specs.Names.{child_named};
 ghost use Rattle.ad_dir_model.specs.Changes.{new_sid};
 ghost use Rattle.ad_dir_model.specs.Soundness.{IsSound};
-ghost use Rattle.ad_needs.specs.Verdicts.{Resolves};
+ghost use Rattle.ad_needs_rules.specs.Verdicts.{Resolves};
 ghost use Rattle.ad_change.specs.Adding as add;
 ghost use Rattle.ad_change.specs.Creating.{IsNewObject, all_read, sent_checks};
 ghost use Rattle.ad_change_values.specs.Judging.{Judges};

@@ -9,7 +9,7 @@ ghost use Rattle.ad_dir_model.specs.Tree.{root};
 ghost use Rattle.ad_dir_model.specs.Directory.{put_object, remove_object};
 ghost use Rattle.ad_dir_model.specs.Changes.{goes_with};
 ghost use Rattle.ad_dir_model.specs.Soundness.{IsSound};
-ghost use Rattle.ad_needs.specs.Verdicts.{Resolves};
+ghost use Rattle.ad_needs_rules.specs.Verdicts.{Resolves};
 ghost use Rattle.ad_dir.specs.Conditions.{AreEdits};
 ghost use Rattle.ad_change.specs.Plans.{IsPlan};
 ghost use Rattle.ad_change.specs.Removing.{AddsEdits, AreGoing, IsLeaving, losing_among, removal_edits, unlinked_at};

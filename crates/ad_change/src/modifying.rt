@@ -11,7 +11,7 @@ ghost use Rattle.ad_dir_objects.specs.Seen.{held_seen, object_seen};
 ghost use Rattle.ad_dir_model.specs.Objects.{is_live, sd_at};
 ghost use Rattle.ad_dir_model.specs.Tree.{root};
 ghost use Rattle.ad_dir_model.specs.Soundness.{AttrsRiseFrom, IsSound};
-ghost use Rattle.ad_needs.specs.Verdicts.{Resolves};
+ghost use Rattle.ad_needs_rules.specs.Verdicts.{Resolves};
 ghost use Rattle.ad_change_values.specs.Items.{after_items};
 ghost use Rattle.ad_change_values.specs.Judging.{Judges, value_checks};
 ghost use Rattle.ad_change.specs.Modifying as modify;

@@ -2,7 +2,7 @@
 
 ghost use Rattle.std.specs.Prelude.{IfOk};
 ghost use Rattle.ad_dir_model.specs.Soundness.{IsSound};
-ghost use Rattle.ad_needs.specs.Verdicts.{Resolves};
+ghost use Rattle.ad_needs_rules.specs.Verdicts.{Resolves};
 ghost use Rattle.ad_change.specs.Plans.{IsPlan};
 
 use crate::adding::{Adding, add_plan};

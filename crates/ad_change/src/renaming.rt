@@ -9,7 +9,7 @@ ghost use Rattle.ad_dir_model.specs.Objects.{is_live, object_at, sd_at};
 ghost use Rattle.ad_dir_model.specs.Changes.{renamed_object};
 ghost use Rattle.ad_dir_model.specs.Edits as edit_lists;
 ghost use Rattle.ad_dir_model.specs.Soundness.{IsSound};
-ghost use Rattle.ad_needs.specs.Verdicts.{Resolves};
+ghost use Rattle.ad_needs_rules.specs.Verdicts.{Resolves};
 ghost use Rattle.ad_change_values.specs.Judging.{Judges};
 ghost use Rattle.ad_change.specs.Judging.{AreNeeded};
 ghost use Rattle.ad_change.specs.Plans.{IsPlan};

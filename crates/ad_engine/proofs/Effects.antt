@@ -11,7 +11,7 @@ use Rattle.ad_needs_rules.specs.declared.need.Need.{Need}
 use Rattle.ad_needs_rules.specs.declared.outcome.Verdict.TheVariants.{Granted, Refused, Hidden, Missing}
 use Rattle.ad_needs_rules.specs.Checks.{code, first_failing}
 use Rattle.ad_needs_rules.specs.Needs.{need_text}
-use Rattle.ad_needs.specs.Verdicts.{verdict_of}
+use Rattle.ad_needs_rules.specs.Verdicts.{verdict_of}
 use Rattle.ad_change.specs.Effects.{answered, changes_to, later_checks, made, by_later, by_verdict, effect}
 
 pub refused_first : (dir : Directory) (token : Token) (op : OpValue) (s : Settings) (n : ℕ) → verdict_of dir token op

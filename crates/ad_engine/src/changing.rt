@@ -9,7 +9,7 @@ ghost use Rattle.ad_ldap.specs.MessageValue.{op_seen, message_seen};
 ghost use Rattle.ad_ldap.specs.Settings.{settings_of};
 ghost use Rattle.ad_ldap.specs.ResultCodes.{no_such_object, insufficient_access_rights};
 ghost use Rattle.ad_needs_rules.specs.Needs.{need_text};
-ghost use Rattle.ad_needs.specs.Verdicts.{IsChange, verdict_of};
+ghost use Rattle.ad_needs_rules.specs.Verdicts.{IsChange, verdict_of};
 ghost use Rattle.ad_needs_rules.specs.declared.outcome.Verdict.TheVariants.{Granted as IsGranted};
 ghost use Rattle.ad_change.specs.Effects.{changes_to, effect};
 ghost use Rattle.ad_engine.specs.Decided.{IsDecided, AreEditsTo};

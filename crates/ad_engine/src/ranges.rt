@@ -11,7 +11,7 @@ ghost use Rattle.ad_ldap.specs.MessageValue.{op_seen};
 ghost use Rattle.ad_dir_model.specs.Directory.{Directory};
 ghost use Rattle.ad_dir_model.specs.Identity.{domain_sid};
 ghost use Rattle.ad_dir_model.specs.Soundness.{IsSound};
-ghost use Rattle.ad_needs.specs.Verdicts.{IsChange};
+ghost use Rattle.ad_needs_rules.specs.Verdicts.{IsChange};
 ghost use Rattle.ad_change.specs.Effects.{changes_to, effect};
 
 use ad_bytes::{Bytes, List, are_bytes};

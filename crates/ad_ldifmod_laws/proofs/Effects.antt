@@ -26,8 +26,8 @@ use Rattle.ad_needs_rules.specs.Checks.{Refusal, code, hidden, missing, first_fa
 use Rattle.ad_needs_rules.specs.Descriptors.{asked_parts}
 use Rattle.ad_needs_rules.specs.Requests.{parts_in, object_named, number_named, or_hidden, is_name}
 use Rattle.ad_needs_rules.proofs.FirstFailing.{head_holds}
-use Rattle.ad_needs.specs.Modifying.{written_sd, modify_needs, modify_checks, act_items, modify_act}
-use Rattle.ad_needs.specs.Verdicts.{verdict_of}
+use Rattle.ad_needs_rules.specs.Modifying.{written_sd, modify_needs, modify_checks, act_items, modify_act}
+use Rattle.ad_needs_rules.specs.Verdicts.{verdict_of}
 use Rattle.ad_change_values.specs.Items.{after_items, all_item_checks, final_checks, is_item_named}
 use Rattle.ad_change_values.specs.Values.{all_attrs}
 use Rattle.ad_change.specs.Modifying.{modify_later, modify_made}

@@ -24,13 +24,13 @@ use Rattle.ad_needs_rules.specs.Checks.{Check, first_failing, or_code, all_met}
 use Rattle.ad_needs_rules.specs.Descriptors.{sd_in_one, asked_parts}
 use Rattle.ad_schema_defaults.specs.NewClass.{is_schema_class, classes_named, lowest_of, is_structural, if_structural}
 use Rattle.ad_schema_defaults.specs.NewClass.{class_by_names}
-use Rattle.ad_needs.specs.Renaming.{is_typed}
-use Rattle.ad_needs.specs.Adding.{ordinary, first_part, new_part, has_parts, is_root_named, parent_seen}
-use Rattle.ad_needs.specs.Adding.{parent_number, add_act, brings_sacl, sacl_needs, parent_named, sent}
-use Rattle.ad_needs.specs.Adding.{all_naming_checks, new_class, class_number, descriptor_reads, new_sd}
-use Rattle.ad_needs.specs.Adding.{all_ordinary, own_checks, new_values, add_needs, add_checks}
+use Rattle.ad_needs_rules.specs.Renaming.{is_typed}
+use Rattle.ad_needs_rules.specs.Adding.{ordinary, first_part, new_part, has_parts, is_root_named, parent_seen}
+use Rattle.ad_needs_rules.specs.Adding.{parent_number, add_act, brings_sacl, sacl_needs, parent_named, sent}
+use Rattle.ad_needs_rules.specs.Adding.{all_naming_checks, new_class, class_number, descriptor_reads, new_sd}
+use Rattle.ad_needs_rules.specs.Adding.{all_ordinary, own_checks, new_values, add_needs, add_checks}
 use Rattle.ad_needs.specs.Additions.{sd_sent, class_checks, act_of, class_judged, below_judged}
-use Rattle.ad_needs.specs.Verdicts.{verdict_of}
+use Rattle.ad_needs_rules.specs.Verdicts.{verdict_of}
 use Rattle.ad_needs_rules.specs.Judged.{refusal_of}
 use Rattle.ad_needs_rules.proofs.Refusing.{passes, goes_on, stops, refuses, grants, same_judged}
 use Rattle.ad_needs_rules.proofs.NameChecks.{coded, holds, parts_read}

@@ -15,8 +15,8 @@ use Rattle.ad_needs_rules.specs.declared.outcome.Verdict.{Verdict}
 use Rattle.ad_needs_rules.specs.declared.outcome.Verdict.TheVariants.{Granted, Refused, Hidden}
 use Rattle.ad_needs_rules.specs.Checks.{Check, or_code, all_met}
 use Rattle.ad_needs_rules.specs.Requests.{number_named, or_hidden}
-use Rattle.ad_needs.specs.Deleting.{delete_needs, delete_checks, delete_act}
-use Rattle.ad_needs.specs.Verdicts.{verdict_of}
+use Rattle.ad_needs_rules.specs.Deleting.{delete_needs, delete_checks, delete_act}
+use Rattle.ad_needs_rules.specs.Verdicts.{verdict_of}
 use Rattle.ad_needs_rules.specs.Judged.{refusal_of}
 use Rattle.ad_needs_rules.proofs.Refusing.{refuses, grants}
 use Rattle.ad_needs_rules.proofs.NameChecks.{coded, holds, unread, reads, number_read, unseen, seen}

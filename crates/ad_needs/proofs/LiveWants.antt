@@ -36,17 +36,17 @@ use Rattle.ad_needs_rules.specs.Requests.{number_named, object_named, or_hidden,
 use Rattle.ad_access_dir.specs.Passwords.{is_password}
 use Rattle.ad_needs_rules.specs.Requests.{class_path}
 use Rattle.ad_needs_rules.specs.Descriptors.{has_owner_or_group}
-use Rattle.ad_needs.specs.Adding.{all_naming_checks, own_checks, all_ordinary, parent_named, parent_number}
-use Rattle.ad_needs.specs.Adding.{class_number, new_part, new_sd, brings_sacl, sacl_needs, add_needs, add_checks}
-use Rattle.ad_needs.specs.Deleting.{to_leave, delete_needs, delete_checks}
-use Rattle.ad_needs.specs.Renaming.{new_parent, superior_seen, move_needs, to_write, name_needs, rename_needs}
-use Rattle.ad_needs.specs.Renaming.{rename_checks}
-use Rattle.ad_needs.specs.Modifying.{item_checks, ordinary_checks, descriptor_checks, written_sd, need_if}
-use Rattle.ad_needs.specs.Modifying.{descriptor_needs, items_of, is_item_of}
-use Rattle.ad_needs.specs.Modifying.{password_needs, or_validated, ordinary_needs, item_needs, needs_behind}
-use Rattle.ad_needs.specs.Modifying.{modify_needs, modify_checks}
+use Rattle.ad_needs_rules.specs.Adding.{all_naming_checks, own_checks, all_ordinary, parent_named, parent_number}
+use Rattle.ad_needs_rules.specs.Adding.{class_number, new_part, new_sd, brings_sacl, sacl_needs, add_needs, add_checks}
+use Rattle.ad_needs_rules.specs.Deleting.{to_leave, delete_needs, delete_checks}
+use Rattle.ad_needs_rules.specs.Renaming.{new_parent, superior_seen, move_needs, to_write, name_needs, rename_needs}
+use Rattle.ad_needs_rules.specs.Renaming.{rename_checks}
+use Rattle.ad_needs_rules.specs.Modifying.{item_checks, ordinary_checks, descriptor_checks, written_sd, need_if}
+use Rattle.ad_needs_rules.specs.Modifying.{descriptor_needs, items_of, is_item_of}
+use Rattle.ad_needs_rules.specs.Modifying.{password_needs, or_validated, ordinary_needs, item_needs, needs_behind}
+use Rattle.ad_needs_rules.specs.Modifying.{modify_needs, modify_checks}
 use Rattle.ad_needs_rules.specs.Validated.{validated_write}
-use Rattle.ad_needs.specs.Verdicts.{verdict_of}
+use Rattle.ad_needs_rules.specs.Verdicts.{verdict_of}
 use Rattle.ad_needs_rules.proofs.FirstFailing.{head_passes, head_fails}
 use Rattle.ad_needs_rules.proofs.Named.{named_live, live_or}
 

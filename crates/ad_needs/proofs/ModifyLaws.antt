@@ -24,10 +24,10 @@ use Rattle.ad_needs_rules.specs.Needs.{Alternative, needs, is_met}
 use Rattle.ad_needs_rules.specs.Checks.{Check, hidden, or_code, or_missing, all_met, first_failing, by_checks}
 use Rattle.ad_needs_rules.specs.Requests.{object_named}
 use Rattle.ad_needs_rules.specs.Descriptors.{has_owner_or_group}
-use Rattle.ad_needs.specs.Modifying.{need_if, parts_needs}
-use Rattle.ad_needs.specs.Modifying.{is_item_of, ordinary_checks, item_checks, needs_behind, modify_needs}
-use Rattle.ad_needs.specs.Modifying.{modify_checks}
-use Rattle.ad_needs.specs.Verdicts.{verdict_of}
+use Rattle.ad_needs_rules.specs.Modifying.{need_if, parts_needs}
+use Rattle.ad_needs_rules.specs.Modifying.{is_item_of, ordinary_checks, item_checks, needs_behind, modify_needs}
+use Rattle.ad_needs_rules.specs.Modifying.{modify_checks}
+use Rattle.ad_needs_rules.specs.Verdicts.{verdict_of}
 use Rattle.ad_needs_rules.specs.Judged.{refusal_of}
 use Rattle.ad_needs.specs.ItemWords.{placed_checks, needs_if, named_needs, act_at, verdict_at, verdict_found}
 use Rattle.ad_needs.specs.ItemWords.{verdict_named}

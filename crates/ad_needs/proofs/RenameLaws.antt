@@ -24,11 +24,11 @@ use Rattle.ad_needs_rules.specs.declared.outcome.Verdict.TheVariants.{Refused, H
 use Rattle.ad_needs_rules.specs.Needs.{Alternative, needs}
 use Rattle.ad_needs_rules.specs.Checks.{first_failing, or_code, or_missing, all_met}
 use Rattle.ad_needs_rules.specs.Requests.{object_named, class_at, class_path}
-use Rattle.ad_needs.specs.Deleting.{to_leave}
-use Rattle.ad_needs.specs.Renaming.{new_rdn, new_parent, is_typed, move_needs, to_write, name_needs, rename_needs}
-use Rattle.ad_needs.specs.Renaming.{rename_checks}
+use Rattle.ad_needs_rules.specs.Deleting.{to_leave}
+use Rattle.ad_needs_rules.specs.Renaming.{new_rdn, new_parent, is_typed, move_needs, to_write, name_needs, rename_needs}
+use Rattle.ad_needs_rules.specs.Renaming.{rename_checks}
 use Rattle.ad_needs.specs.Moves.{parent_by, is_outside, rename_rest, rename_judged, in_place_judged, moved_judged}
-use Rattle.ad_needs.specs.Verdicts.{verdict_of}
+use Rattle.ad_needs_rules.specs.Verdicts.{verdict_of}
 use Rattle.ad_needs_rules.specs.Judged.{refusal_of}
 use Rattle.ad_needs_rules.proofs.Refusing.{goes_on, stops}
 use Rattle.ad_needs_rules.proofs.NameChecks.{coded, holds}

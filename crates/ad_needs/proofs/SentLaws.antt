@@ -14,8 +14,8 @@ use Rattle.ad_dir_model.specs.Attributes.{attr_place}
 use Rattle.ad_needs_rules.specs.declared.outcome.Verdict.{Verdict}
 use Rattle.ad_needs_rules.specs.declared.outcome.Verdict.TheVariants.{Refused}
 use Rattle.ad_needs_rules.specs.Checks.{Check, or_code, first_failing}
-use Rattle.ad_needs.specs.Adding.{is_of, is_kept_back, naming_checks, all_naming_checks, ordinary, own_checks}
-use Rattle.ad_needs.specs.Adding.{is_value, by_id}
+use Rattle.ad_needs_rules.specs.Adding.{is_of, is_kept_back, naming_checks, all_naming_checks, ordinary, own_checks}
+use Rattle.ad_needs_rules.specs.Adding.{is_value, by_id}
 use Rattle.ad_needs.specs.Additions.{checks_of, unplaced_checks}
 use Rattle.ad_needs_rules.specs.Judged.{refusal_of}
 use Rattle.ad_needs_rules.proofs.Refusing.{none_of, goes_on_if, stops_if}

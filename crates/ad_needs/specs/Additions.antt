@@ -15,10 +15,11 @@ use Rattle.ad_needs_rules.specs.Checks.{Check, first_failing, or_code, all_met, 
 use Rattle.ad_needs_rules.specs.Requests.{is_descriptor}
 use Rattle.ad_needs_rules.specs.Descriptors.{sd_in_one}
 use Rattle.ad_schema_defaults.specs.NewClass.{is_schema_class}
-use Rattle.ad_needs.specs.Renaming.{is_typed}
-use Rattle.ad_needs.specs.Adding.{is_of, sent, all_naming_checks, new_class, class_number, descriptor_reads, new_sd}
-use Rattle.ad_needs.specs.Adding.{ordinary}
-use Rattle.ad_needs.specs.Adding.{all_ordinary, own_checks, new_values, add_needs}
+use Rattle.ad_needs_rules.specs.Renaming.{is_typed}
+use Rattle.ad_needs_rules.specs.Adding.{is_of, sent, all_naming_checks, new_class, class_number, descriptor_reads}
+use Rattle.ad_needs_rules.specs.Adding.{new_sd}
+use Rattle.ad_needs_rules.specs.Adding.{ordinary}
+use Rattle.ad_needs_rules.specs.Adding.{all_ordinary, own_checks, new_values, add_needs}
 use Rattle.ad_ldap.specs.ResultCodes.{undefined_attribute_type, attribute_or_value_exists, unwilling_to_perform}
 use Rattle.ad_ldap.specs.ResultCodes.{naming_violation, constraint_violation, object_class_violation}
 

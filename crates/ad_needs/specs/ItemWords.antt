@@ -23,8 +23,8 @@ use Rattle.ad_needs_rules.specs.Needs.{Alternative}
 use Rattle.ad_needs_rules.specs.Checks.{Check, or_code, all_met, first_failing, by_checks}
 use Rattle.ad_needs_rules.specs.Requests.{is_descriptor, class_at}
 use Rattle.ad_access_dir.specs.Passwords.{is_password}
-use Rattle.ad_needs.specs.Modifying.{items_of, is_forced, is_changed, item_checks, modify_needs}
-use Rattle.ad_needs.specs.Modifying.{written_sd, descriptor_needs, password_needs, ordinary_needs, act_items}
+use Rattle.ad_needs_rules.specs.Modifying.{items_of, is_forced, is_changed, item_checks, modify_needs}
+use Rattle.ad_needs_rules.specs.Modifying.{written_sd, descriptor_needs, password_needs, ordinary_needs, act_items}
 use Rattle.ad_ldap.specs.ResultCodes.{object_class_mods_prohibited, not_allowed_on_rdn, unwilling_to_perform}
 
 -- ---- checks

@@ -12,7 +12,7 @@ use Rattle.ad_access_dir.specs.Sight.{visible_of, matched}
 use Rattle.ad_needs_rules.specs.declared.outcome.Verdict.{Verdict}
 use Rattle.ad_needs_rules.specs.Checks.{Check, hidden, first_failing, or_code, all_met, by_checks}
 use Rattle.ad_needs_rules.specs.Requests.{is_name, number_named, or_hidden, class_at}
-use Rattle.ad_needs.specs.Renaming.{is_typed, rename_needs}
+use Rattle.ad_needs_rules.specs.Renaming.{is_typed, rename_needs}
 use Rattle.ad_ldap.specs.ResultCodes.{unwilling_to_perform, naming_violation, invalid_dn_syntax}
 
 -- ---- where the object is to go: the superior, or its own parent

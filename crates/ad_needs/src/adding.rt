@@ -13,12 +13,13 @@ ghost use Rattle.ad_access_dir.specs.Sight.{visible_of};
 ghost use Rattle.ad_needs_rules.specs.Checks.{all_met};
 ghost use Rattle.ad_needs_rules.specs.Descriptors.{sd_in_one};
 ghost use Rattle.ad_schema_defaults.specs.NewClass.{is_schema_class};
-ghost use Rattle.ad_needs.specs.Renaming.{is_typed};
-ghost use Rattle.ad_needs.specs.Adding.{first_part, sent, new_class, new_sd, all_ordinary, own_checks, brings_sacl};
-ghost use Rattle.ad_needs.specs.Adding.{sacl_needs, add_needs};
+ghost use Rattle.ad_needs_rules.specs.Renaming.{is_typed};
+ghost use Rattle.ad_needs_rules.specs.Adding.{first_part, sent, new_class, new_sd, all_ordinary, own_checks};
+ghost use Rattle.ad_needs_rules.specs.Adding.{brings_sacl};
+ghost use Rattle.ad_needs_rules.specs.Adding.{sacl_needs, add_needs};
 ghost use Rattle.ad_needs.specs.Additions.{sd_sent, class_judged, below_judged};
 ghost use Rattle.ad_needs_rules.specs.Judged.{refusal_of};
-ghost use Rattle.ad_needs.specs.Verdicts.{verdict_of};
+ghost use Rattle.ad_needs_rules.specs.Verdicts.{verdict_of};
 
 use crate::renaming::is_typed;
 use crate::sent::{new_values, sent, unless_all_lawful, unless_named_once};

@@ -5,9 +5,9 @@ ghost use Rattle.ad_ldap.specs.MessageValue.{DeleteOf};
 ghost use Rattle.ad_dir_model.specs.Objects.{is_live};
 ghost use Rattle.ad_dir_model.specs.Tree.{root};
 ghost use Rattle.ad_needs_rules.specs.Checks.{all_met};
-ghost use Rattle.ad_needs.specs.Deleting.{to_leave, delete_needs};
+ghost use Rattle.ad_needs_rules.specs.Deleting.{to_leave, delete_needs};
 ghost use Rattle.ad_needs_rules.specs.Judged.{refusal_of};
-ghost use Rattle.ad_needs.specs.Verdicts.{verdict_of};
+ghost use Rattle.ad_needs_rules.specs.Verdicts.{verdict_of};
 
 use ad_dir::{Act, Dir, ROOT, class_of, parent_of};
 use ad_ids::Token;

@@ -2,7 +2,7 @@
 
 ghost use Rattle.std.specs.Prelude.{◌≡◌, ◌<◌, ◌++◌, ◌∷◌, [], not, false, true, length, slice_index_or, slice_set, IfOk};
 ghost use Rattle.std.specs.List.{list_any};
-ghost use Rattle.ad_needs.specs.Modifying.{is_item_of};
+ghost use Rattle.ad_needs_rules.specs.Modifying.{is_item_of};
 ghost use Rattle.ad_needs.specs.ItemWords.{AreNamed, AreSent};
 
 use crate::items::is_named_in;

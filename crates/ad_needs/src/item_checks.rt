@@ -7,7 +7,7 @@ ghost use Rattle.ad_schema.specs.Classes.{naming_of};
 ghost use Rattle.ad_dir_model.specs.Objects.{is_live};
 ghost use Rattle.ad_needs_rules.specs.Requests.{class_at};
 ghost use Rattle.ad_needs_rules.specs.Descriptors.{has_asked_part};
-ghost use Rattle.ad_needs.specs.Modifying.{ordinary_checks, descriptor_checks, item_checks};
+ghost use Rattle.ad_needs_rules.specs.Modifying.{ordinary_checks, descriptor_checks, item_checks};
 ghost use Rattle.ad_needs_rules.specs.Judged.{refusal_of};
 ghost use Rattle.ad_needs.specs.ItemWords.{is_kept_from_all, placed_checks};
 

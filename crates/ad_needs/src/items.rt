@@ -3,7 +3,7 @@
 ghost use Rattle.std.specs.Prelude.{◌≡◌, ◌==◌, ◌&&◌, map, length, IfOk};
 ghost use Rattle.std.specs.List.{list_any};
 ghost use Rattle.ad_access_dir.specs.Passwords.{is_password};
-ghost use Rattle.ad_needs.specs.Modifying.{is_item_of, items_of, has_one, is_forced, is_changed};
+ghost use Rattle.ad_needs_rules.specs.Modifying.{is_item_of, items_of, has_one, is_forced, is_changed};
 ghost use Rattle.ad_needs.specs.ItemWords.{has_its_form};
 ghost use Rattle.ad_ldap.specs.Choices.{replace_values};
 

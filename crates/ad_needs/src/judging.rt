@@ -2,7 +2,7 @@
 
 ghost use Rattle.std.specs.Prelude.{◌≡◌, IfOk};
 ghost use Rattle.ad_ldap.specs.MessageValue.{op_seen};
-ghost use Rattle.ad_needs.specs.Verdicts.{verdict_of};
+ghost use Rattle.ad_needs_rules.specs.Verdicts.{verdict_of};
 
 use crate::adding::add_verdict;
 use crate::deleting::delete_verdict;

@@ -9,7 +9,7 @@ ghost use Rattle.ad_dir_model.specs.Objects.{is_live};
 ghost use Rattle.ad_dir_model.specs.Directory.{Directory};
 ghost use Rattle.ad_needs_rules.specs.declared.need.Need.{Need};
 ghost use Rattle.ad_needs_rules.specs.declared.outcome.Verdict.TheVariants.{Missing as IsMissing};
-ghost use Rattle.ad_needs.specs.Verdicts.{verdict_of};
+ghost use Rattle.ad_needs_rules.specs.Verdicts.{verdict_of};
 
 /// What an operation needs and lacks is a right on live objects, in each directory whose objects stand as those of
 /// one in memory do.

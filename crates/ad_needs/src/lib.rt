@@ -1,6 +1,6 @@
 //! Who may change a directory: the checks of Add, Delete, Rename and Modify up to what the operation needs
 //! ([MS-ADTS] 3.1.1.5). The rules are written in `docs/profile/changes.md`; each check is defined beside the others
-//! of its operation in `specs/`, and the first that fails is the answer.
+//! of its operation in `ad_needs_rules`, and the first that fails is the answer.
 //!
 //! # Example
 //!

@@ -5,8 +5,8 @@ ghost use Rattle.ad_schema.specs.Attributes.{attrs_of};
 ghost use Rattle.ad_dir_model.specs.Objects.{is_live};
 ghost use Rattle.ad_dir_model.specs.Attributes.{attr_place};
 ghost use Rattle.ad_needs_rules.specs.Checks.{all_met};
-ghost use Rattle.ad_needs.specs.Modifying.{written_sd, need_if, parts_needs, descriptor_needs, password_needs};
-ghost use Rattle.ad_needs.specs.Modifying.{attr_needs, ordinary_needs, items_of, modify_needs};
+ghost use Rattle.ad_needs_rules.specs.Modifying.{written_sd, need_if, parts_needs, descriptor_needs, password_needs};
+ghost use Rattle.ad_needs_rules.specs.Modifying.{attr_needs, ordinary_needs, items_of, modify_needs};
 ghost use Rattle.ad_needs_rules.specs.Judged.{bit_of, asked, refusal_of};
 ghost use Rattle.ad_needs.specs.ItemWords.{needs_if, named_needs};
 

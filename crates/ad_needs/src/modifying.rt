@@ -3,8 +3,8 @@
 ghost use Rattle.std.specs.Prelude.{◌≡◌, ◌++◌, true, option_to_list, IfOk, OnOk};
 ghost use Rattle.ad_ldap.specs.MessageValue.{ModifyOf};
 ghost use Rattle.ad_dir_model.specs.Objects.{is_live};
-ghost use Rattle.ad_needs.specs.Modifying.{act_item, act_items};
-ghost use Rattle.ad_needs.specs.Verdicts.{verdict_of};
+ghost use Rattle.ad_needs_rules.specs.Modifying.{act_item, act_items};
+ghost use Rattle.ad_needs_rules.specs.Verdicts.{verdict_of};
 ghost use Rattle.ad_needs.specs.ItemWords.{act_at, verdict_at, verdict_named};
 
 use crate::item_checks::items_refusal;

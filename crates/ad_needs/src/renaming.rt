@@ -12,11 +12,11 @@ ghost use Rattle.ad_dir_model.specs.Attributes.{attr_place};
 ghost use Rattle.ad_dir_model.specs.Changes.{goes_with};
 ghost use Rattle.ad_needs_rules.specs.Checks.{all_met};
 ghost use Rattle.ad_needs_rules.specs.Requests.{class_at, name_in};
-ghost use Rattle.ad_needs.specs.Renaming.{one_part, is_typed, move_needs, to_write, name_needs, rename_needs};
+ghost use Rattle.ad_needs_rules.specs.Renaming.{one_part, is_typed, move_needs, to_write, name_needs, rename_needs};
 ghost use Rattle.ad_needs.specs.Moves.{parent_by, is_outside, rename_rest, rename_judged, in_place_judged};
 ghost use Rattle.ad_needs.specs.Moves.{moved_judged};
 ghost use Rattle.ad_needs_rules.specs.Judged.{refusal_of};
-ghost use Rattle.ad_needs.specs.Verdicts.{verdict_of};
+ghost use Rattle.ad_needs_rules.specs.Verdicts.{verdict_of};
 
 use crate::deleting::unless_leaves;
 use ad_dir::{Act, Dir, ROOT, class_of, goes_with, live_object, naming_name, naming_of, parent_of};

@@ -1,6 +1,6 @@
-//! What an operation needs of a directory, and how a required right that is missing is told: rights that are asked
-//! for, what the names and the descriptor in a request represent, and validated writes. The rules are written in
-//! `docs/profile/changes.md`.
+//! What an operation needs of a directory, and how a required right that is missing is told: its checks up to these
+//! rights, rights that are asked for, what the names and the descriptor in a request represent, and validated writes
+//! ([MS-ADTS] 3.1.1.5). The rules are written in `docs/profile/changes.md`.
 //!
 //! # Example
 //!

@@ -9,7 +9,7 @@ use Rattle.ad_types.specs.declared.tried.Tried.{Tried}
 use Rattle.ad_dir_model.specs.Directory.{Directory}
 use Rattle.ad_types.specs.Tried.{tried_values}
 use Rattle.ad_needs_rules.specs.Needs.{Alternative}
-use Rattle.ad_needs.specs.Modifying.{is_item_of, needs_behind, modify_needs}
+use Rattle.ad_needs_rules.specs.Modifying.{is_item_of, needs_behind, modify_needs}
 use Rattle.ad_needs.specs.ItemWords.{needs_if, named_needs}
 use Rattle.ad_needs.proofs.ModifyLaws.{needs_at, needs_here}
 use Rattle.ad_needs_tries.specs.Tries.{tries}

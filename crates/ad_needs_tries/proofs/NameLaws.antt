@@ -18,10 +18,11 @@ use Rattle.ad_access_dir.specs.Sight.{visible_of}
 use Rattle.ad_types.specs.Tried.{tried_values}
 use Rattle.ad_needs_rules.specs.Requests.{is_name, object_named, number_named}
 use Rattle.ad_needs_rules.proofs.NameChecks.{object_read, parts_read}
-use Rattle.ad_needs.specs.Adding.{has_parts, parent_named, parent_number, new_class, class_number, new_sd, add_needs}
-use Rattle.ad_needs.specs.Deleting.{delete_needs}
-use Rattle.ad_needs.specs.Renaming.{new_parent, rename_needs}
-use Rattle.ad_needs.specs.Modifying.{modify_needs}
+use Rattle.ad_needs_rules.specs.Adding.{has_parts, parent_named, parent_number, new_class, class_number, new_sd}
+use Rattle.ad_needs_rules.specs.Adding.{add_needs}
+use Rattle.ad_needs_rules.specs.Deleting.{delete_needs}
+use Rattle.ad_needs_rules.specs.Renaming.{new_parent, rename_needs}
+use Rattle.ad_needs_rules.specs.Modifying.{modify_needs}
 use Rattle.ad_needs_tries.specs.Tries.{tries}
 use Rattle.ad_needs_tries.specs.Traces.{requirements}
 use Rattle.ad_needs_tries.specs.Steps.{Steps}

@@ -16,13 +16,15 @@ use Rattle.ad_dir_model.specs.Tree.{root}
 use Rattle.ad_dir_model.specs.Directory.{Directory}
 use Rattle.ad_needs_rules.specs.Checks.{Check, refused, first_failing, all_met, by_checks}
 use Rattle.ad_needs_rules.specs.Requests.{is_name, object_named, number_named, or_hidden, is_descriptor}
-use Rattle.ad_needs.specs.Adding.{has_parts, parent_named, parent_number, new_class, class_number, new_part, new_sd}
-use Rattle.ad_needs.specs.Adding.{all_ordinary, all_naming_checks, own_checks, add_needs, add_checks, add_act}
-use Rattle.ad_needs.specs.Deleting.{delete_needs, delete_checks, delete_act}
-use Rattle.ad_needs.specs.Renaming.{new_parent, superior_reads, superior_seen, rename_needs, rename_checks, rename_act}
-use Rattle.ad_needs.specs.Modifying.{item_checks, descriptor_checks, ordinary_checks, modify_needs, modify_checks}
-use Rattle.ad_needs.specs.Modifying.{modify_act}
-use Rattle.ad_needs.specs.Verdicts.{verdict_of}
+use Rattle.ad_needs_rules.specs.Adding.{has_parts, parent_named, parent_number, new_class, class_number, new_part}
+use Rattle.ad_needs_rules.specs.Adding.{new_sd}
+use Rattle.ad_needs_rules.specs.Adding.{all_ordinary, all_naming_checks, own_checks, add_needs, add_checks, add_act}
+use Rattle.ad_needs_rules.specs.Deleting.{delete_needs, delete_checks, delete_act}
+use Rattle.ad_needs_rules.specs.Renaming.{new_parent, superior_reads, superior_seen, rename_needs, rename_checks}
+use Rattle.ad_needs_rules.specs.Renaming.{rename_act}
+use Rattle.ad_needs_rules.specs.Modifying.{item_checks, descriptor_checks, ordinary_checks, modify_needs, modify_checks}
+use Rattle.ad_needs_rules.specs.Modifying.{modify_act}
+use Rattle.ad_needs_rules.specs.Verdicts.{verdict_of}
 use Rattle.ad_needs_tries.specs.Traces.{reaches}
 
 -- the check is one before the requirements

@@ -19,7 +19,7 @@ use Rattle.ad_needs_rules.specs.declared.outcome.Verdict.TheVariants.{Granted, M
 use Rattle.ad_needs_rules.specs.Needs.{Alternative, is_met, need_of, want_of}
 use Rattle.ad_needs_rules.specs.Checks.{Refusal, code, hidden, missing, or_missing, all_met, first_failing, by_checks}
 use Rattle.ad_needs_rules.proofs.FirstFailing.{head_passes, head_fails}
-use Rattle.ad_needs.specs.Verdicts.{verdict_of}
+use Rattle.ad_needs_rules.specs.Verdicts.{verdict_of}
 use Rattle.ad_needs_tries.specs.Tries.{first_granted, success_of, failure_of, tries}
 use Rattle.ad_needs_tries.specs.Traces.{requirements, reaches, trace_of, told_of, TellsLast, GrantsAll}
 use Rattle.ad_needs_tries.proofs.ReachLaws.{delete_leads, modify_leads, rename_leads, add_leads}

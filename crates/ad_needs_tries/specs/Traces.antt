@@ -13,11 +13,11 @@ use Rattle.ad_needs_rules.specs.declared.outcome.Verdict.TheVariants.{Granted, R
 use Rattle.ad_needs_rules.specs.Needs.{Alternative}
 use Rattle.ad_types.specs.Path.{last_guid}
 use Rattle.ad_needs_rules.specs.Requests.{number_named}
-use Rattle.ad_needs.specs.Adding.{parent_number, class_number, new_sd, add_needs}
-use Rattle.ad_needs.specs.Deleting.{delete_needs}
-use Rattle.ad_needs.specs.Renaming.{new_parent, rename_needs}
-use Rattle.ad_needs.specs.Modifying.{modify_needs}
-use Rattle.ad_needs.specs.Verdicts.{verdict_of}
+use Rattle.ad_needs_rules.specs.Adding.{parent_number, class_number, new_sd, add_needs}
+use Rattle.ad_needs_rules.specs.Deleting.{delete_needs}
+use Rattle.ad_needs_rules.specs.Renaming.{new_parent, rename_needs}
+use Rattle.ad_needs_rules.specs.Modifying.{modify_needs}
+use Rattle.ad_needs_rules.specs.Verdicts.{verdict_of}
 use Rattle.ad_needs_tries.specs.Tries.{tries}
 
 -- what the operation requires, in order

@@ -9,9 +9,9 @@ ghost use Rattle.ad_dir_model.specs.Attributes.{attr_place};
 ghost use Rattle.ad_acl.specs.Mask.{create_child};
 ghost use Rattle.ad_needs_rules.specs.Needs.{needs};
 ghost use Rattle.ad_needs_rules.specs.Requests.{class_at, class_path};
-ghost use Rattle.ad_needs.specs.Adding.{sacl_needs, add_needs};
-ghost use Rattle.ad_needs.specs.Deleting.{to_leave, delete_needs};
-ghost use Rattle.ad_needs.specs.Renaming.{move_needs, to_write, name_needs, rename_needs};
+ghost use Rattle.ad_needs_rules.specs.Adding.{sacl_needs, add_needs};
+ghost use Rattle.ad_needs_rules.specs.Deleting.{to_leave, delete_needs};
+ghost use Rattle.ad_needs_rules.specs.Renaming.{move_needs, to_write, name_needs, rename_needs};
 ghost use Rattle.ad_needs_tries.specs.Steps.{Steps};
 
 use crate::trying::{try_either, try_one};

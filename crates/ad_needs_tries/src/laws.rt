@@ -8,7 +8,7 @@ ghost use Rattle.ad_dir_objects.specs.declared.act.Act.{Act};
 ghost use Rattle.ad_dir_model.specs.Directory.{Directory};
 ghost use Rattle.ad_needs_rules.specs.declared.need.Need.{Need};
 ghost use Rattle.ad_needs_rules.specs.declared.outcome.Verdict.TheVariants.{Granted as IsGranted, Missing as IsMissing};
-ghost use Rattle.ad_needs.specs.Verdicts.{verdict_of};
+ghost use Rattle.ad_needs_rules.specs.Verdicts.{verdict_of};
 ghost use Rattle.ad_needs_tries.specs.Traces.{requirements, trace_of, TellsLast, GrantsAll};
 
 /// Where a requirement is missing, all that was tried before was granted, and the last that was tried is the first

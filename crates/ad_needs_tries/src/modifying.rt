@@ -6,9 +6,9 @@ ghost use Rattle.ad_schema.specs.Attributes.{attrs_of};
 ghost use Rattle.ad_dir_model.specs.Objects.{is_live};
 ghost use Rattle.ad_dir_model.specs.Attributes.{attr_place};
 ghost use Rattle.ad_needs_rules.specs.Judged.{bit_of};
-ghost use Rattle.ad_needs.specs.Modifying.{items_of, written_sd, need_if, parts_needs, descriptor_needs};
-ghost use Rattle.ad_needs.specs.Modifying.{password_needs};
-ghost use Rattle.ad_needs.specs.Modifying.{attr_needs, ordinary_needs, modify_needs};
+ghost use Rattle.ad_needs_rules.specs.Modifying.{items_of, written_sd, need_if, parts_needs, descriptor_needs};
+ghost use Rattle.ad_needs_rules.specs.Modifying.{password_needs};
+ghost use Rattle.ad_needs_rules.specs.Modifying.{attr_needs, ordinary_needs, modify_needs};
 ghost use Rattle.ad_needs.specs.ItemWords.{needs_if, named_needs};
 ghost use Rattle.ad_needs_tries.specs.Steps.{Steps};
 

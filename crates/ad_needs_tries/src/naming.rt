@@ -5,8 +5,8 @@ ghost use Rattle.ad_schema.specs.Classes.{classes_of};
 ghost use Rattle.ad_dir_model.specs.Objects.{is_live};
 ghost use Rattle.ad_dir_model.specs.Tree.{root};
 ghost use Rattle.ad_needs_rules.specs.Requests.{is_name, object_named, number_named};
-ghost use Rattle.ad_needs.specs.Adding.{has_parts, parent_named, parent_number, new_class, class_number};
-ghost use Rattle.ad_needs.specs.Renaming.{new_parent};
+ghost use Rattle.ad_needs_rules.specs.Adding.{has_parts, parent_named, parent_number, new_class, class_number};
+ghost use Rattle.ad_needs_rules.specs.Renaming.{new_parent};
 
 use ad_dir::{Dir, parent_of};
 use ad_ids::Token;
@@ -40,7 +40,7 @@ pub(crate) fn found(alloc: Global, dir: &Dir, token: &Token, text: &[u8]) -> Res
 /// # Errors
 ///
 /// Memory ran out.
-#[tactic(auto, unfolding(ad_needs::specs::Renaming::new_parent))]
+#[tactic(auto, unfolding(ad_needs_rules::specs::Renaming::new_parent))]
 pub(crate) fn new_parent(
     alloc: Global,
     dir: &Dir,

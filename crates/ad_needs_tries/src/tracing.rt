@@ -4,7 +4,7 @@ ghost use Rattle.std.specs.Prelude.{◌≡◌, true, IfOk};
 ghost use Rattle.ad_ldap.specs.declared.controls.Settings.{Settings};
 ghost use Rattle.ad_ldap.specs.MessageValue.{op_seen, ModifyOf, AddOf, DeleteOf, RenameOf};
 ghost use Rattle.ad_types.specs.Tried.{tried_values};
-ghost use Rattle.ad_needs.specs.Verdicts.{verdict_of};
+ghost use Rattle.ad_needs_rules.specs.Verdicts.{verdict_of};
 ghost use Rattle.ad_needs_tries.specs.Tries.{tries};
 ghost use Rattle.ad_needs_tries.specs.Traces.{requirements, reaches, trace_of};
 

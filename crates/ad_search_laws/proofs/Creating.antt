@@ -25,11 +25,12 @@ use Rattle.ad_needs_rules.specs.Needs.{needs}
 use Rattle.ad_needs_rules.specs.Requests.{class_at, class_path}
 use Rattle.ad_needs_rules.specs.Descriptors.{is_owner_allowed}
 use Rattle.ad_needs_rules.proofs.FirstFailing.{head_holds, head_passes, both_hold}
-use Rattle.ad_needs.specs.Renaming.{is_typed}
-use Rattle.ad_needs.specs.Adding.{has_parts, new_part, is_root_named, parent_named, parent_number, parent_seen}
-use Rattle.ad_needs.specs.Adding.{all_naming_checks, new_class, class_number, descriptor_reads, new_sd, brings_sacl}
-use Rattle.ad_needs.specs.Adding.{new_values, all_ordinary, own_checks, sacl_needs, add_checks, add_act}
-use Rattle.ad_needs.specs.Verdicts.{verdict_of}
+use Rattle.ad_needs_rules.specs.Renaming.{is_typed}
+use Rattle.ad_needs_rules.specs.Adding.{has_parts, new_part, is_root_named, parent_named, parent_number, parent_seen}
+use Rattle.ad_needs_rules.specs.Adding.{all_naming_checks, new_class, class_number, descriptor_reads, new_sd}
+use Rattle.ad_needs_rules.specs.Adding.{brings_sacl}
+use Rattle.ad_needs_rules.specs.Adding.{new_values, all_ordinary, own_checks, sacl_needs, add_checks, add_act}
+use Rattle.ad_needs_rules.specs.Verdicts.{verdict_of}
 use Rattle.ad_change.specs.Adding.{add_later}
 use Rattle.ad_change.specs.Effects.{Effect, answered, changes_to, by_later, by_verdict, told, effect, later_checks}
 use Rattle.ad_search_laws.specs.Children.{IsChildTold, class_sent, IsAddOf, class_own, other_checks, other_later}

@@ -15,7 +15,7 @@ use Rattle.ad_needs_rules.specs.Checks.{Check, Refusal, code, hidden, missing, f
 use Rattle.ad_needs_rules.specs.Checks.{all_met}
 use Rattle.ad_needs_rules.specs.Requests.{is_name, number_named, or_hidden}
 use Rattle.ad_needs_rules.proofs.FirstFailing.{head_holds, both_hold, head_passes, all_pass}
-use Rattle.ad_needs.specs.Modifying.{items_of, item_checks, modify_needs, modify_checks}
+use Rattle.ad_needs_rules.specs.Modifying.{items_of, item_checks, modify_needs, modify_checks}
 use Rattle.ad_search_laws.specs.Told.{replacement, IsSeenAs}
 
 abbrev pub only : List ℕ → List ℕ → Item

@@ -32,12 +32,13 @@ use Rattle.ad_needs_rules.specs.Needs.{Alternative, needs, is_met}
 use Rattle.ad_needs_rules.specs.Requests.{has_place, class_at, attr_path}
 use Rattle.ad_access_dir.specs.Passwords.{is_password}
 use Rattle.ad_needs_rules.specs.Validated.{validated_write}
-use Rattle.ad_needs.specs.Modifying.{items_of, is_forced, is_changed, is_unwritable}
+use Rattle.ad_needs_rules.specs.Modifying.{items_of, is_forced, is_changed, is_unwritable}
 use Rattle.ad_access_dir.specs.Passwords.{force_change, change}
-use Rattle.ad_needs.specs.Modifying.{descriptor_checks, ordinary_checks, item_checks, written_sd, descriptor_needs}
-use Rattle.ad_needs.specs.Modifying.{password_needs, or_validated, ordinary_needs, needs_behind, modify_needs}
-use Rattle.ad_needs.specs.Modifying.{modify_checks, modify_act}
-use Rattle.ad_needs.specs.Verdicts.{verdict_of}
+use Rattle.ad_needs_rules.specs.Modifying.{descriptor_checks, ordinary_checks, item_checks, written_sd}
+use Rattle.ad_needs_rules.specs.Modifying.{descriptor_needs}
+use Rattle.ad_needs_rules.specs.Modifying.{password_needs, or_validated, ordinary_needs, needs_behind, modify_needs}
+use Rattle.ad_needs_rules.specs.Modifying.{modify_checks, modify_act}
+use Rattle.ad_needs_rules.specs.Verdicts.{verdict_of}
 use Rattle.ad_search_laws.specs.Told.{replacement, IsSeenAs, IsOrdinary, IsTold, IsGrantedAny}
 use Rattle.ad_search_laws.proofs.OneItem.{only, one_item, all_hold, all_held, none_failed}
 

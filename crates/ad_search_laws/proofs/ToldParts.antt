@@ -25,10 +25,11 @@ use Rattle.ad_needs_rules.specs.Requests.{is_descriptor}
 use Rattle.ad_access_dir.specs.Passwords.{is_password}
 use Rattle.ad_needs_rules.specs.Descriptors.{sd_in_one, asked_parts, has_owner_or_group, has_part, has_asked_part}
 use Rattle.ad_needs_rules.proofs.FirstFailing.{head_holds, head_passes}
-use Rattle.ad_needs.specs.Modifying.{items_of, descriptor_checks, ordinary_checks, item_checks, written_sd, need_if}
-use Rattle.ad_needs.specs.Modifying.{parts_needs, descriptor_needs, password_needs, ordinary_needs, needs_behind}
-use Rattle.ad_needs.specs.Modifying.{modify_needs, modify_checks, modify_act}
-use Rattle.ad_needs.specs.Verdicts.{verdict_of}
+use Rattle.ad_needs_rules.specs.Modifying.{items_of, descriptor_checks, ordinary_checks, item_checks, written_sd}
+use Rattle.ad_needs_rules.specs.Modifying.{need_if}
+use Rattle.ad_needs_rules.specs.Modifying.{parts_needs, descriptor_needs, password_needs, ordinary_needs, needs_behind}
+use Rattle.ad_needs_rules.specs.Modifying.{modify_needs, modify_checks, modify_act}
+use Rattle.ad_needs_rules.specs.Verdicts.{verdict_of}
 use Rattle.ad_search_laws.specs.Told.{replacement, IsSeenAs}
 use Rattle.ad_search_laws.specs.Parts.{IsNumberOfParts, ArePartsTold, AreAsked}
 use Rattle.ad_search_laws.proofs.OneRight.{one_right}

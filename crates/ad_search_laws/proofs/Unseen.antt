@@ -26,15 +26,17 @@ use Rattle.ad_dir.proofs.StandingLaws.{sound_stand}
 use Rattle.ad_access_dir.specs.Sight.{is_visible, if_visible, visible_of, matched}
 use Rattle.ad_needs_rules.specs.Checks.{Check, Refusal, code, hidden, first_failing, by_checks, or_code, all_met}
 use Rattle.ad_needs_rules.specs.Requests.{is_name, parts_in, object_named, number_named, or_hidden, class_at, no_rdn}
-use Rattle.ad_needs.specs.Adding.{has_parts, new_part, is_root_named, parent_named, parent_number, parent_seen}
-use Rattle.ad_needs.specs.Adding.{all_naming_checks, new_class, class_number, descriptor_reads, new_sd, all_ordinary}
-use Rattle.ad_needs.specs.Adding.{own_checks, add_needs, add_checks, add_act}
+use Rattle.ad_needs_rules.specs.Adding.{has_parts, new_part, is_root_named, parent_named, parent_number, parent_seen}
+use Rattle.ad_needs_rules.specs.Adding.{all_naming_checks, new_class, class_number, descriptor_reads, new_sd}
+use Rattle.ad_needs_rules.specs.Adding.{all_ordinary}
+use Rattle.ad_needs_rules.specs.Adding.{own_checks, add_needs, add_checks, add_act}
 use Rattle.ad_schema_defaults.specs.NewClass.{is_schema_class}
-use Rattle.ad_needs.specs.Deleting.{delete_checks, delete_act}
-use Rattle.ad_needs.specs.Modifying.{modify_checks, modify_act}
-use Rattle.ad_needs.specs.Renaming.{new_rdn, new_parent, superior_reads, superior_seen, superior_outside, is_typed}
-use Rattle.ad_needs.specs.Renaming.{rename_needs, rename_checks, rename_act}
-use Rattle.ad_needs.specs.Verdicts.{verdict_of}
+use Rattle.ad_needs_rules.specs.Deleting.{delete_checks, delete_act}
+use Rattle.ad_needs_rules.specs.Modifying.{modify_checks, modify_act}
+use Rattle.ad_needs_rules.specs.Renaming.{new_rdn, new_parent, superior_reads, superior_seen, superior_outside}
+use Rattle.ad_needs_rules.specs.Renaming.{is_typed}
+use Rattle.ad_needs_rules.specs.Renaming.{rename_needs, rename_checks, rename_act}
+use Rattle.ad_needs_rules.specs.Verdicts.{verdict_of}
 use Rattle.ad_change.specs.Effects.{Effect, answered, by_verdict, effect}
 use Rattle.ad_entries.specs.Seen.{Seen, seen_of, seen_among, view}
 use Rattle.ad_search.specs.Scope.{same_rdns, is_named, is_there, nearest}

@@ -22,10 +22,12 @@ use Rattle.ad_needs_rules.specs.Checks.{Check, Refusal, first_failing, or_code, 
 use Rattle.ad_needs_rules.specs.Needs.{needs}
 use Rattle.ad_needs_rules.specs.Requests.{class_at, class_path}
 use Rattle.ad_needs_rules.specs.Descriptors.{is_owner_allowed}
-use Rattle.ad_needs.specs.Renaming.{is_typed}
-use Rattle.ad_needs.specs.Adding.{has_parts, new_part, is_root_named, parent_named, parent_number, parent_seen, sent}
-use Rattle.ad_needs.specs.Adding.{all_naming_checks, class_number, descriptor_reads, new_sd, brings_sacl, new_values}
-use Rattle.ad_needs.specs.Adding.{all_ordinary, own_checks, sacl_needs, add_act}
+use Rattle.ad_needs_rules.specs.Renaming.{is_typed}
+use Rattle.ad_needs_rules.specs.Adding.{has_parts, new_part, is_root_named, parent_named, parent_number, parent_seen}
+use Rattle.ad_needs_rules.specs.Adding.{sent}
+use Rattle.ad_needs_rules.specs.Adding.{all_naming_checks, class_number, descriptor_reads, new_sd, brings_sacl}
+use Rattle.ad_needs_rules.specs.Adding.{new_values}
+use Rattle.ad_needs_rules.specs.Adding.{all_ordinary, own_checks, sacl_needs, add_act}
 use Rattle.ad_change.specs.Adding.{attr_checks, has_musts, fits_in, new_object}
 use Rattle.ad_change.specs.Effects.{Effect, by_later, told}
 

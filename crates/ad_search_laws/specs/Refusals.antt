@@ -5,7 +5,7 @@ use Rattle.ad_ldap.specs.declared.requests.Rename.{Rename}
 use Rattle.ad_ldap.specs.MessageValue.{OpValue, ModifyOf, AddOf, DeleteOf, RenameOf}
 use Rattle.ad_dir_model.specs.Directory.{Directory}
 use Rattle.ad_needs_rules.specs.Requests.{object_named}
-use Rattle.ad_needs.specs.Adding.{parent_named}
+use Rattle.ad_needs_rules.specs.Adding.{parent_named}
 
 -- the text names no object that is seen
 abbrev pub IsUnseen : Directory → Token → List ℕ → Type 0

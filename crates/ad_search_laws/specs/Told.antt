@@ -13,8 +13,8 @@ use Rattle.ad_constructed.specs.Listed.{is_listed}
 use Rattle.ad_constructed_dir.specs.Changing.{rights_at}
 use Rattle.ad_needs_rules.specs.declared.outcome.Verdict.TheVariants.{Granted}
 use Rattle.ad_needs_rules.specs.Requests.{is_name, object_named, is_descriptor}
-use Rattle.ad_needs.specs.Modifying.{modify_act}
-use Rattle.ad_needs.specs.Verdicts.{verdict_of}
+use Rattle.ad_needs_rules.specs.Modifying.{modify_act}
+use Rattle.ad_needs_rules.specs.Verdicts.{verdict_of}
 
 -- the request that replaces all values of one attribute by one value
 abbrev pub replacement : List ℕ → List ℕ → List ℕ → Modify

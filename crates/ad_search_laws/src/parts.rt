@@ -11,8 +11,8 @@ ghost use Rattle.ad_dir_model.specs.Directory.{Directory};
 ghost use Rattle.ad_needs_rules.specs.declared.outcome.Verdict.TheVariants.{Granted};
 ghost use Rattle.ad_needs_rules.specs.Requests.{is_descriptor};
 ghost use Rattle.ad_needs_rules.specs.Descriptors.{has_part};
-ghost use Rattle.ad_needs.specs.Modifying.{modify_act};
-ghost use Rattle.ad_needs.specs.Verdicts.{verdict_of};
+ghost use Rattle.ad_needs_rules.specs.Modifying.{modify_act};
+ghost use Rattle.ad_needs_rules.specs.Verdicts.{verdict_of};
 ghost use Rattle.ad_search_laws.specs.Told.{replacement, IsSeenAs};
 ghost use Rattle.ad_search_laws.specs.Parts.{IsNumberOfParts, ArePartsTold, AreAsked};
 

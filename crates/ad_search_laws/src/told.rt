@@ -11,7 +11,7 @@ ghost use Rattle.ad_dir_objects.specs.declared.act.Act.{Act};
 ghost use Rattle.ad_dir_model.specs.Objects.{object_at};
 ghost use Rattle.ad_dir_model.specs.Directory.{Directory};
 ghost use Rattle.ad_needs_rules.specs.declared.outcome.Verdict.TheVariants.{Granted};
-ghost use Rattle.ad_needs.specs.Verdicts.{verdict_of};
+ghost use Rattle.ad_needs_rules.specs.Verdicts.{verdict_of};
 ghost use Rattle.ad_constructed_dir.specs.Changing.{may_write, changing_of};
 ghost use Rattle.ad_search_laws.specs.Told.{replacement, IsSeenAs, IsOrdinary, IsTold, IsNameTold, IsGrantedAny};
 

@@ -31,14 +31,15 @@ use Rattle.ad_ids.specs.GuidText.{guid_of_text}
 use Rattle.ad_ids.specs.Sid.{sid_bytes}
 use Rattle.ad_ids.specs.SidFront.{longest}
 use Rattle.ad_ids.specs.SidReading.{header_at as header_at_of_sidreading, sid_at}
-use Rattle.ad_needs.specs.Adding.{add_checks, all_naming_checks, all_ordinary, new_class, new_values, parent_named}
-use Rattle.ad_needs.specs.Adding.{sent}
+use Rattle.ad_needs_rules.specs.Adding.{add_checks, all_naming_checks, all_ordinary, new_class, new_values}
+use Rattle.ad_needs_rules.specs.Adding.{parent_named}
+use Rattle.ad_needs_rules.specs.Adding.{sent}
 use Rattle.ad_needs_rules.specs.Checks.{first_failing}
 use Rattle.ad_needs_rules.specs.Descriptors.{asked_parts}
 use Rattle.ad_needs_rules.specs.Needs.{is_met, need_text, want_text, wants_text}
 use Rattle.ad_acl.specs.Codes.{letters_of, right_codes}
 use Rattle.ad_schema_defaults.specs.NewClass.{class_by_names, classes_named, if_structural, is_structural, lowest_of}
-use Rattle.ad_needs.specs.Verdicts.{verdict_of}
+use Rattle.ad_needs_rules.specs.Verdicts.{verdict_of}
 use Rattle.ad_schema.specs.Attributes.{attr_info, attr_named, attrs_of, is_confidential, lines_of, names_of}
 use Rattle.ad_schema.specs.Classes.{all_mays, all_musts, all_neighbours, all_superiors, chain_of, class_guid}
 use Rattle.ad_schema.specs.Classes.{class_guids, class_info, class_infos, class_named, classes_of, cn_of}

@@ -24,11 +24,11 @@ use Rattle.ad_dn.specs.Steps.{step_from}
 use Rattle.ad_dn.specs.Text.{rdns_text, value_text}
 use Rattle.ad_ids.specs.SidReading.{header_at, sid_at}
 use Rattle.ad_needs_rules.specs.Checks.{first_failing}
-use Rattle.ad_needs.specs.Deleting.{delete_checks}
+use Rattle.ad_needs_rules.specs.Deleting.{delete_checks}
 use Rattle.ad_needs_rules.specs.Needs.{is_met, need_text, want_text, wants_text}
 use Rattle.ad_acl.specs.Codes.{letters_of, right_codes}
 use Rattle.ad_needs_rules.specs.Requests.{object_named}
-use Rattle.ad_needs.specs.Verdicts.{verdict_of}
+use Rattle.ad_needs_rules.specs.Verdicts.{verdict_of}
 use Rattle.ad_schema.specs.Attributes.{attr_info, attr_named, attrs_of, is_confidential, lines_of, names_of}
 use Rattle.ad_schema.specs.Classes.{class_guid, class_guids, cn_of, naming_of, own_naming, own_namings, superclass}
 use Rattle.ad_schema.specs.Classes.{superclasses}

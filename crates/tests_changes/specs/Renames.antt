@@ -23,9 +23,9 @@ use Rattle.ad_ids.specs.SidReading.{header_at, sid_at}
 use Rattle.ad_needs_rules.specs.Checks.{first_failing}
 use Rattle.ad_needs_rules.specs.Needs.{is_met, need_text, want_text, wants_text}
 use Rattle.ad_acl.specs.Codes.{letters_of, right_codes}
-use Rattle.ad_needs.specs.Renaming.{new_parent, rename_checks}
+use Rattle.ad_needs_rules.specs.Renaming.{new_parent, rename_checks}
 use Rattle.ad_needs_rules.specs.Requests.{object_named}
-use Rattle.ad_needs.specs.Verdicts.{verdict_of}
+use Rattle.ad_needs_rules.specs.Verdicts.{verdict_of}
 use Rattle.ad_schema.specs.Attributes.{attr_info, attr_named, attrs_of, is_confidential, lines_of, names_of}
 use Rattle.ad_schema.specs.Classes.{all_superiors, chain_of, class_guid, class_guids, class_info, class_infos}
 use Rattle.ad_schema.specs.Classes.{classes_of, cn_of, is_under, naming_of, own_naming, own_namings, superclass}

@@ -33,13 +33,13 @@ use Rattle.ad_ids.specs.Sid.{sid_bytes}
 use Rattle.ad_ids.specs.SidReading.{header_at as header_at_of_sidreading, sid_at}
 use Rattle.ad_needs_rules.specs.Checks.{first_failing}
 use Rattle.ad_needs_rules.specs.Descriptors.{asked_parts}
-use Rattle.ad_needs.specs.Modifying.{act_items, is_changed, is_forced, modify_checks, needs_behind}
+use Rattle.ad_needs_rules.specs.Modifying.{act_items, is_changed, is_forced, modify_checks, needs_behind}
 use Rattle.ad_needs_rules.specs.Needs.{is_met, need_text, want_text, wants_text}
 use Rattle.ad_acl.specs.Codes.{letters_of, right_codes}
 use Rattle.ad_needs_rules.specs.Requests.{object_named}
 use Rattle.ad_needs_rules.specs.Validated.{domain_name, host_in, is_own_host_name, is_own_membership, is_own_service}
 use Rattle.ad_needs_rules.specs.Validated.{validated_write}
-use Rattle.ad_needs.specs.Verdicts.{verdict_of}
+use Rattle.ad_needs_rules.specs.Verdicts.{verdict_of}
 use Rattle.ad_schema.specs.Attributes.{attr_info, attr_named, attrs_of, is_confidential, lines_of, names_of}
 use Rattle.ad_schema.specs.Classes.{all_mays, all_musts, all_neighbours, chain_of, class_guid, class_guids}
 use Rattle.ad_schema.specs.Classes.{class_info, class_infos, classes_of, cn_of, is_a, is_allowed, is_may}

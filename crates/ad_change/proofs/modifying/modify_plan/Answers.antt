@@ -2,7 +2,7 @@ use Rattle.std.proofs.Common.{List, sym, subst}
 use Rattle.std.specs.Prelude.{IfOk}
 use Rattle.ad_dir_objects.specs.declared.act.ActItem.{ActItem}
 use Rattle.ad_dir_objects.specs.declared.act.Act.TheVariants as act
-use Rattle.ad_needs.specs.Verdicts.{Resolves}
+use Rattle.ad_needs_rules.specs.Verdicts.{Resolves}
 use Rattle.ad_change.specs.Plans.{IsPlan}
 use Rattle.ad_change.proofs.modifying.modify_plan.Goals as goal
 

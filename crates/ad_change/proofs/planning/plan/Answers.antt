@@ -3,7 +3,7 @@ use Rattle.std.specs.Prelude.{IfOk}
 use Rattle.ad_schema.specs.declared.info.AttrId.{AttrId}
 use Rattle.ad_dir_objects.specs.declared.act.Act.{Act}
 use Rattle.ad_dir_objects.specs.declared.act.Act.TheVariants as act
-use Rattle.ad_needs.specs.Verdicts.{Resolves}
+use Rattle.ad_needs_rules.specs.Verdicts.{Resolves}
 use Rattle.ad_change.specs.Plans.{IsPlan}
 use Rattle.ad_change.proofs.planning.plan.Goals as goal
 

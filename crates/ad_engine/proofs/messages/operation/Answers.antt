@@ -2,7 +2,7 @@ use Rattle.std.proofs.Common.{[], sym, ap, subst}
 use Rattle.ad_ldap.specs.declared.requests.Op.{Op}
 use Rattle.ad_ldap.specs.MessageValue.{op_seen, message_seen}
 use Rattle.ad_ldap.specs.Ranges.{HasOpRanges}
-use Rattle.ad_needs.specs.Verdicts.{IsChange}
+use Rattle.ad_needs_rules.specs.Verdicts.{IsChange}
 use Rattle.ad_engine.specs.Decided.{IsDecided}
 use Rattle.ad_engine.specs.Messages.{op_decided}
 use Rattle.ad_engine.proofs.Decisions.{replied, decided_as, decided_here}

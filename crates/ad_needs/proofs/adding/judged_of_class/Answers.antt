@@ -1,7 +1,7 @@
 use Rattle.std.proofs.Common.{◌∙◌, List, sym, ap}
 use Rattle.ad_schema.specs.declared.line.SchemaRecord.{SchemaRecord}
 use Rattle.ad_schema_defaults.specs.NewClass.{is_schema_class}
-use Rattle.ad_needs.specs.Renaming.{is_typed}
+use Rattle.ad_needs_rules.specs.Renaming.{is_typed}
 use Rattle.ad_needs.proofs.AddLaws.{of_schema, untyped, unread_sd}
 use Rattle.ad_needs.proofs.adding.judged_of_class.Goals as goal
 

@@ -3,7 +3,7 @@ use Rattle.std.specs.List.{flat_map}
 use Rattle.ad_dir.proofs.NameLaws.{if_ok}
 use Rattle.ad_needs_rules.specs.Checks.{all_met}
 use Rattle.ad_needs_rules.proofs.Refusing.{stops, goes_on}
-use Rattle.ad_needs.specs.Adding.{all_ordinary, own_checks, add_needs}
+use Rattle.ad_needs_rules.specs.Adding.{all_ordinary, own_checks, add_needs}
 use Rattle.ad_needs.proofs.AddLaws.{lawful_at}
 use Rattle.ad_needs.proofs.adding.unless_adds.Goals as goal
 

@@ -1,4 +1,4 @@
-use Rattle.ad_needs.specs.Modifying.{item_checks}
+use Rattle.ad_needs_rules.specs.Modifying.{item_checks}
 use Rattle.ad_needs.proofs.ModifyLaws.{item_stops, item_goes_on, items_end}
 use Rattle.ad_needs.proofs.item_checks.items_refusal.Goals as goal
 

@@ -1,6 +1,6 @@
 use Rattle.std.proofs.Common.{◌≡◌, drop}
 use Rattle.std.specs.List.{flat_map}
-use Rattle.ad_needs.specs.Modifying.{item_checks}
+use Rattle.ad_needs_rules.specs.Modifying.{item_checks}
 use Rattle.ad_needs_rules.specs.Judged.{refusal_of}
 use Rattle.ad_needs.proofs.item_checks.items_refusal.Given as goal
 

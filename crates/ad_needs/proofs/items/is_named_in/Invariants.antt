@@ -1,6 +1,6 @@
 use Rattle.std.proofs.Common.{◌≡◌, drop}
 use Rattle.std.specs.List.{list_any}
-use Rattle.ad_needs.specs.Modifying.{is_item_of}
+use Rattle.ad_needs_rules.specs.Modifying.{is_item_of}
 use Rattle.ad_needs.proofs.items.is_named_in.Given as goal
 
 -- none so far is of the name

@@ -1,5 +1,5 @@
 use Rattle.std.proofs.Common.{◌≡◌, ◌++◌, map, drop}
-use Rattle.ad_needs.specs.Modifying.{items_of}
+use Rattle.ad_needs_rules.specs.Modifying.{items_of}
 use Rattle.ad_needs.proofs.items.items_of.Given as goal
 
 -- those so far and those that are left are all

@@ -2,7 +2,7 @@ use Rattle.std.proofs.Common.{◌≡◌, IfOk, sym, subst}
 use Rattle.ad_ldap.specs.declared.requests.Op.{Op}
 use Rattle.ad_ldap.specs.MessageValue.{op_seen}
 use Rattle.ad_needs_rules.specs.declared.outcome.Verdict.{Verdict}
-use Rattle.ad_needs.specs.Verdicts.{verdict_of}
+use Rattle.ad_needs_rules.specs.Verdicts.{verdict_of}
 use Rattle.ad_needs.proofs.judging.verdict.Goals as goal
 
 pub returns-in-Rename : goal.returns-in-Rename

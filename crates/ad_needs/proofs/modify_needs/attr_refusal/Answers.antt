@@ -4,7 +4,7 @@ use Rattle.ad_access_dir.specs.Sight.{is_granted}
 use Rattle.ad_needs_rules.specs.Needs.{Alternative}
 use Rattle.ad_needs_rules.specs.Requests.{class_at, attr_path}
 use Rattle.ad_needs_rules.specs.Validated.{validated_write}
-use Rattle.ad_needs.specs.Modifying.{or_validated, items_of}
+use Rattle.ad_needs_rules.specs.Modifying.{or_validated, items_of}
 use Rattle.ad_needs.proofs.ModifyLaws.{first_met}
 use Rattle.ad_needs.proofs.modify_needs.attr_refusal.Goals as goal
 

@@ -1,6 +1,6 @@
 use Rattle.std.proofs.Common.{◌≡◌, ◌++◌, drop}
 use Rattle.std.specs.Prelude.{filter_map}
-use Rattle.ad_needs.specs.Modifying.{act_item}
+use Rattle.ad_needs_rules.specs.Modifying.{act_item}
 use Rattle.ad_needs.proofs.modifying.act_items.Given as goal
 
 -- those so far and those that are left are all

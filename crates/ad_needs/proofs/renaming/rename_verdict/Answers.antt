@@ -3,7 +3,7 @@ use Rattle.std.specs.Option.{option_and_then}
 use Rattle.ad_dn.specs.Reading.{dn_of}
 use Rattle.ad_dir.proofs.NameLaws.{if_ok}
 use Rattle.ad_needs_rules.specs.Requests.{name_in}
-use Rattle.ad_needs.specs.Renaming.{one_part}
+use Rattle.ad_needs_rules.specs.Renaming.{one_part}
 use Rattle.ad_needs.proofs.RenameLaws.{rename_unread, rename_partless, rename_in_place, rename_moved}
 use Rattle.ad_needs.proofs.renaming.rename_verdict.Goals as goal
 

@@ -1,7 +1,7 @@
 use Rattle.std.proofs.Common.{◌∙◌, ℕ, List, sym, ap}
 use Rattle.ad_schema.specs.declared.line.SchemaRecord.{SchemaRecord}
 use Rattle.ad_dir.proofs.NameLaws.{if_ok}
-use Rattle.ad_needs.specs.Renaming.{is_typed}
+use Rattle.ad_needs_rules.specs.Renaming.{is_typed}
 use Rattle.ad_needs.proofs.RenameLaws.{rest_root, rest_untyped, rest_inside, rest_needs}
 use Rattle.ad_needs.proofs.renaming.unless_lawful.Goals as goal
 

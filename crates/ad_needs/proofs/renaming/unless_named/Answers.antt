@@ -3,7 +3,7 @@ use Rattle.ad_schema.specs.Classes.{naming_of}
 use Rattle.ad_dir_model.specs.Attributes.{attr_place}
 use Rattle.ad_dir.proofs.NameLaws.{if_ok}
 use Rattle.ad_needs_rules.specs.Requests.{class_at}
-use Rattle.ad_needs.specs.Renaming.{name_needs}
+use Rattle.ad_needs_rules.specs.Renaming.{name_needs}
 use Rattle.ad_needs.proofs.RenameLaws.{named_not, named_so}
 use Rattle.ad_needs.proofs.renaming.unless_named.Goals as goal
 

@@ -4,7 +4,7 @@ use Rattle.ad_schema.specs.Classes.{naming_of}
 use Rattle.ad_dir_model.specs.Attributes.{attr_place}
 use Rattle.ad_dir.proofs.NameLaws.{if_ok}
 use Rattle.ad_needs_rules.specs.Requests.{class_at}
-use Rattle.ad_needs.specs.Renaming.{move_needs, to_write, name_needs}
+use Rattle.ad_needs_rules.specs.Renaming.{move_needs, to_write, name_needs}
 use Rattle.ad_needs.proofs.RenameLaws.{needs_stop, needs_go_on}
 use Rattle.ad_needs.proofs.renaming.unless_renames.Goals as goal
 

@@ -1,6 +1,6 @@
 use Rattle.std.proofs.Common.{◌≡◌, drop}
 use Rattle.std.specs.Prelude.{find, option_map}
-use Rattle.ad_needs.specs.Adding.{is_of}
+use Rattle.ad_needs_rules.specs.Adding.{is_of}
 use Rattle.ad_needs.proofs.sent.sent_in.Given as goal
 
 -- none so far has the name

@@ -1,7 +1,7 @@
 use Rattle.std.proofs.Common.{◌≡◌, drop}
 use Rattle.std.specs.Prelude.{filter_map}
 use Rattle.std.specs.List.{flat_map}
-use Rattle.ad_needs.specs.Adding.{ordinary, own_checks}
+use Rattle.ad_needs_rules.specs.Adding.{ordinary, own_checks}
 use Rattle.ad_needs_rules.specs.Judged.{refusal_of}
 use Rattle.ad_needs.proofs.sent.unless_all_lawful.Given as goal
 

@@ -1,5 +1,5 @@
 use Rattle.std.proofs.Common.{◌∙◌, List, ℕ, ap}
-use Rattle.ad_needs.specs.Adding.{own_checks}
+use Rattle.ad_needs_rules.specs.Adding.{own_checks}
 use Rattle.ad_needs_rules.specs.Judged.{refusal_of}
 use Rattle.ad_needs.proofs.SentLaws.{checks_some, checks_none}
 use Rattle.ad_needs.proofs.sent.unless_lawful.Goals as goal

@@ -1,5 +1,5 @@
 use Rattle.std.proofs.Common.{◌≡◌, [], drop, take}
-use Rattle.ad_needs.specs.Adding.{all_naming_checks}
+use Rattle.ad_needs_rules.specs.Adding.{all_naming_checks}
 use Rattle.ad_needs.specs.ItemWords.{AreSent}
 use Rattle.ad_needs_rules.specs.Judged.{refusal_of}
 use Rattle.ad_needs.proofs.sent.unless_named_once.Given as goal

@@ -3,7 +3,7 @@ use Rattle.ad_acl.specs.Mask.{write_property}
 use Rattle.ad_needs_rules.specs.Needs.{Alternative, needs}
 use Rattle.ad_needs_rules.specs.Requests.{class_at, attr_path}
 use Rattle.ad_needs_rules.specs.Validated.{validated_write}
-use Rattle.ad_needs.specs.Modifying.{or_validated, items_of}
+use Rattle.ad_needs_rules.specs.Modifying.{or_validated, items_of}
 use Rattle.ad_needs_tries.specs.Tries.{success_of}
 use Rattle.ad_needs_tries.proofs.StepLaws.{is_so, met, first_is}
 use Rattle.ad_needs_tries.proofs.modifying.try_attr.Goals as goal

@@ -3,7 +3,7 @@ use Rattle.std.specs.Prelude.{IfOk}
 use Rattle.ad_ldap.specs.declared.requests.Op.{Op}
 use Rattle.ad_ldap.specs.MessageValue.{op_seen}
 use Rattle.ad_types.specs.Tried.{tried_values}
-use Rattle.ad_needs.specs.Verdicts.{verdict_of}
+use Rattle.ad_needs_rules.specs.Verdicts.{verdict_of}
 use Rattle.ad_needs_tries.specs.Tries.{tries}
 use Rattle.ad_needs_tries.specs.Traces.{requirements, reaches}
 use Rattle.ad_needs_tries.proofs.tracing.tried_by.Goals as goal

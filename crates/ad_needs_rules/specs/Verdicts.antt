@@ -9,10 +9,10 @@ use Rattle.ad_dir_model.specs.Directory.{Directory}
 use Rattle.ad_needs_rules.specs.declared.outcome.Verdict.{Verdict}
 use Rattle.ad_needs_rules.specs.declared.outcome.Verdict.TheVariants.{Granted, Refused}
 use Rattle.ad_needs_rules.specs.Checks.{first_failing, by_checks}
-use Rattle.ad_needs.specs.Adding.{add_checks, add_act}
-use Rattle.ad_needs.specs.Deleting.{delete_checks, delete_act}
-use Rattle.ad_needs.specs.Renaming.{rename_checks, rename_act}
-use Rattle.ad_needs.specs.Modifying.{modify_checks, modify_act}
+use Rattle.ad_needs_rules.specs.Adding.{add_checks, add_act}
+use Rattle.ad_needs_rules.specs.Deleting.{delete_checks, delete_act}
+use Rattle.ad_needs_rules.specs.Renaming.{rename_checks, rename_act}
+use Rattle.ad_needs_rules.specs.Modifying.{modify_checks, modify_act}
 use Rattle.ad_ldap.specs.ResultCodes.{unwilling_to_perform}
 use Rattle.ad_ldap.specs.Choices.{replace_values}
 

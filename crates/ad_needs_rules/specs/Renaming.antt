@@ -20,7 +20,7 @@ use Rattle.ad_needs_rules.specs.Needs.{Alternative, needs}
 use Rattle.ad_needs_rules.specs.Checks.{Check, or_code, all_met}
 use Rattle.ad_needs_rules.specs.Requests.{no_rdn, name_in, is_name, number_named, or_hidden, class_at, class_path}
 use Rattle.ad_needs_rules.specs.Requests.{attr_path}
-use Rattle.ad_needs.specs.Deleting.{to_leave}
+use Rattle.ad_needs_rules.specs.Deleting.{to_leave}
 use Rattle.ad_ldap.specs.ResultCodes.{invalid_dn_syntax, unwilling_to_perform, naming_violation}
 
 -- ---- what is asked for

@@ -27,7 +27,7 @@ use Rattle.ad_needs_rules.specs.Checks.{Check, hidden, or_code, all_met}
 use Rattle.ad_needs_rules.specs.Requests.{parts_in, is_descriptor, class_path, no_rdn}
 use Rattle.ad_needs_rules.specs.Descriptors.{sd_in_one, asked_parts}
 use Rattle.ad_schema_defaults.specs.NewClass.{class_by_names, is_schema_class}
-use Rattle.ad_needs.specs.Renaming.{is_typed}
+use Rattle.ad_needs_rules.specs.Renaming.{is_typed}
 use Rattle.ad_ldap.specs.ResultCodes.{undefined_attribute_type, attribute_or_value_exists, unwilling_to_perform}
 use Rattle.ad_ldap.specs.ResultCodes.{naming_violation, invalid_dn_syntax, entry_already_exists}
 use Rattle.ad_ldap.specs.ResultCodes.{object_class_violation, constraint_violation}
