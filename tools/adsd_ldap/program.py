@@ -14,6 +14,8 @@ TOKEN, MESSAGE, STEPS, RUN = 1, 2, 3, 4
 HEADER, PIECE = 7, 65536
 # So often it is looked whether the process is there, in seconds.
 SOON = 0.01
+# So long what it said is waited for once it has ended, in seconds: somebody else may have its standard error still.
+LEFT = 3.0
 # As many frames as one run of the program takes.
 MOST_FRAMES = 1_000_000
 # What takes the token from a connection: an unbind.
@@ -62,7 +64,7 @@ class Program:
 
     def __init__(self, command, store, most=MOST_FRAMES):
         self.words, self.most = [command, "serve", store], most
-        self.running, self.gone, self.frames, self.tokens = None, None, 0, {}
+        self.running, self.gone, self.telling, self.frames, self.tokens = None, None, None, 0, {}
 
     async def start(self):
         """Starts it, and waits until it has opened the store. It has a session of its own, so that a signal from the
@@ -73,9 +75,15 @@ class Program:
                 *self.words, stdin=pipe, stdout=pipe, stderr=pipe, start_new_session=True)
         except OSError as fault:
             raise Ended(127, f"{self.words[0]}: {fault.strerror}") from None
-        self.gone, self.frames = asyncio.ensure_future(self.running.wait()), 0
         self.telling = asyncio.ensure_future(hand_on(self.running.stderr))
+        self.gone, self.frames = asyncio.ensure_future(self.over()), 0
         await self.exchange(MESSAGE, 0, DROP)
+
+    async def over(self):
+        """Waits until it has ended and what it said is handed on, so that nothing is said of it later; its status."""
+        status = await self.running.wait()
+        await asyncio.wait({self.telling}, timeout=LEFT)
+        return status
 
     async def ask(self, kind, connection, body):
         """The body of a frame's answer."""
@@ -125,12 +133,15 @@ class Program:
         return await self.gone
 
     async def give_up(self, begun):
-        """Ends it at once where it is being started. A start that is cancelled may be waited for without an end."""
+        """Ends it at once where it is being started, and waits for its end: it may have opened the store meanwhile. A
+        start that is cancelled may be waited for without an end."""
         while self.running is None and not begun.done():
             await asyncio.sleep(SOON)
         self.kill()
         await asyncio.wait({begun})
         begun.exception()
+        if self.gone is not None:
+            await self.end()
 
     def kill(self):
         """Ends it at once, wherever it is: what a crash does, which loses nothing that was answered."""
