@@ -6,14 +6,13 @@ one of them: the test asks it for each, and compares."""
 
 from dataclasses import dataclass
 
-from adsd_import.sddl import RIGHTS
 from adsd_import.sids import sid_of_text
+from adsd_report import deciding
 from adsd_report.harms import HARMS, RANK
 
-from . import normals
 from .questions import CODES, OF_ATTRIBUTE, WHOLE, Questions, triples
 
-SELF, OWNER_RIGHTS = sid_of_text("S-1-5-10"), sid_of_text("S-1-3-4")
+SELF = sid_of_text("S-1-5-10")
 # By these a token has more than its list gives; who holds them has other privileges.
 ADMINISTRATORS = sid_of_text("S-1-5-32-544")
 RANK_BIT = {harm.key: 1 << place for place, harm in enumerate(HARMS)}
@@ -27,14 +26,6 @@ class Object:
     of_class: int
     normal: bytes
     own: bytes
-
-
-@dataclass(frozen=True)
-class Reason:
-    """Whether a right is granted, and by what: the place of an entry from 0 on, "owner", "privilege", or None."""
-
-    granted: bool
-    by: object
 
 
 class Answers:
@@ -136,20 +127,11 @@ class Answers:
         key = (on.normal, path, self.mark(on, token))
         if key not in self.fronts:
             self.fronts[key] = self.asked_fronts(on, token, path)
-        has, may = self.fronts[key]
-        if has[-1] & bit:
-            lacking = [place for place, mask in enumerate(has) if not mask & bit]
-            return Reason(True, lacking[-1] if lacking else "privilege" if bit == RIGHTS["WO"] else "owner")
-        denying = [place for place in range(1, len(may)) if may[place - 1] & bit and not may[place] & bit]
-        return Reason(False, denying[0] - 1 if denying else None)
+        return deciding.reason(*self.fronts[key], bit)
 
     def asked_fronts(self, on, token, path):
-        parts, has, may = self.world.known.of(on.normal), [], []
-        probe = (normals.allows_all(token.sid),)
-        for count in range(len(parts.dacl) + 1):
-            for made, entries in ((has, parts.dacl[:count]), (may, parts.dacl[:count] + probe)):
-                made.append(self.calls.granted(parts.normal(entries), token.data, on.own, path, 0x0FFFFFFF))
-        return has, may
+        return deciding.fronts(lambda normal: self.calls.granted(normal, token.data, on.own, path, deciding.ALL),
+                               self.world.known.of(on.normal), self.world.known.list_of(on.normal), token.sid)
 
     # ---- who
 

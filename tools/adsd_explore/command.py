@@ -6,9 +6,9 @@ import sys
 import tempfile
 import threading
 
-from adsd_report import program, store
+from adsd_report import library, program, store
 
-from . import library, private
+from . import private
 from .texts import told
 
 ABOUT = """Serves a web page on a loopback address that explores the rights in a store: the tree, each list in words, who

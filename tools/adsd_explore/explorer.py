@@ -12,11 +12,11 @@ from adsd_ask import requests
 from adsd_ask.words import ADSD
 from adsd_import.sids import sid_of_text
 from adsd_report import program, store
+from adsd_report.library import Calls
 from adsd_report.protection import HOLDER, frozen
 
 from . import private, tokens, walks
 from .answers import Answers
-from .library import Calls
 from .principals import Principals
 from .texts import told
 from .trying import Plan, Wrong

@@ -6,10 +6,10 @@ from adsd_import.names import value_text
 from adsd_import.sids import text_of_sid
 from adsd_report import store
 from adsd_report.names import Principals
+from adsd_report.normals import Known
 from adsd_report.state import State
 
 from . import tokens
-from .normals import Known
 from .texts import told
 
 

@@ -10,10 +10,10 @@ from adsd_import.sddl import FLAGS, RIGHTS
 from adsd_import.sids import text_of_sid
 from adsd_shown import shown, text_of
 
+from .deciding import Checked, Deciding
 from .effective import KINDS, ON_OBJECT
 from .front import key_of
 from .program import answered
-from .why import Checked
 
 FLAGS_SHOWN = [(name, bit) for name, bit in FLAGS.items() if bit != INHERITED]
 
@@ -41,6 +41,7 @@ class Card:
     listing: List[str] = field(default_factory=list)
     effective: List[adsd_lines.Granted] = field(default_factory=list)
     rows: List[Row] = field(default_factory=list)
+    entries: List = field(default_factory=list)
     checked: Optional[Checked] = None
     agrees: bool = True
     is_root: bool = False
@@ -142,7 +143,7 @@ def counted(card, schema):
             card.writes += "WP" in given
 
 
-def filled(card, state, token, listing, effective, name):
+def filled(card, state, token, deciding, listing, effective, name):
     """Puts the program's texts on a card, and what follows from them."""
     told = answered(adsd_lines.listed, listing)
     card.listing = [shown(line) for line in (f"owner {told.owner}", f"group {told.group}", *told.dacl, *told.sacl)]
@@ -151,13 +152,13 @@ def filled(card, state, token, listing, effective, name):
     card.is_root = card.objects == [1]
     read = [shown(line) for line in listing_lines(state, number)]
     card.agrees = shown(told.name) == text_of(name) and card.listing == read
-    one = state.descriptor(number)
-    card.checked = Checked(one.dacl.entries, one.owner, state.own_sid(number))
+    card.entries = state.descriptor(number).dacl.entries
+    card.checked = Checked(deciding, state.objects[number].normal, state.own_sid(number))
     card.rows = rows_of(card, Explainer(card, state, token))
     counted(card, state.schema)
 
 
-def all_cards(state, numbers, token, copies):
+def all_cards(state, numbers, token, copies, deciding: Deciding):
     """The cards of some objects, and for each of these its card. `token` is a pair: as words gave it, and its bytes."""
     cards, of = {}, {}
     for number in numbers:
@@ -176,19 +177,18 @@ def all_cards(state, numbers, token, copies):
     listings = dict(zip(listed, zip(listed.values(), answers)))
     for card, effective in zip(made, answers[len(listed) :]):
         name, listing = listings[card.key[1]]
-        filled(card, state, token[0], listing, effective, name)
+        filled(card, state, token[0], deciding, listing, effective, name)
     return made, of
 
 
-def why_seen(state, number, token, lists_objects):
+def why_seen(state, number, token, lists_objects, deciding):
     """Why a token sees an object or not: a word, and for each right asked the right, whose it is, and why."""
     parent = state.objects[number].parent
     if not parent:
         return True, "root", []
 
     def on(one, code):
-        had = state.descriptor(one)
-        return Checked(had.dacl.entries, had.owner, state.own_sid(one)).of_token(token, [], RIGHTS[code])
+        return Checked(deciding, state.objects[one].normal, state.own_sid(one)).of_token(token, [], RIGHTS[code])
 
     first = on(parent, "LC")
     asked = [("LC", "parent", first)]

@@ -11,7 +11,8 @@ from adsd_ask import ber, filters, words
 from adsd_import.report import shown
 from adsd_names.accounts import Accounts
 
-from . import cards, program, store, tokens
+from . import cards, library, program, store, tokens
+from .deciding import Deciding
 from .front import BadFrames, Front, frames_of
 from .names import Principals
 from .page import Made, page
@@ -29,8 +30,9 @@ folded, the tree, each right with the entry that decides it, and who else has it
 A name alone has the whole token that the store gives it, as `adsd token` tells it; of another token the page says what
 that has besides. The store is copied, and only the copy is asked and changed. Frames are made on the copy first: the tree is that behind
 them. Steps go on from there, as many at a time as are told, until nothing is pending; the tree doesn't show them. The
-program is the launcher's, or the one that the environment's ADSD names. This script is not proved."""
-STATUSES = """status: 0 written; 1 the store, the frames or a word can't be taken; 2 usage; 4 a file can't be read;
+program is the launcher's, or the one that the environment's ADSD names, and what decides is asked of the proved library
+(ADSD_LIBRARY may name it). This script is not proved."""
+STATUSES = """status: 0 written; 1 the store, the frames or a word can't be taken, or there is no library; 2 usage; 4 a file can't be read;
 5 the page can't be written. Where it isn't 0, nothing is written."""
 
 
@@ -101,13 +103,13 @@ def seen_of(path, copy, state, token, made):
     return {by_name[name] for name in names}
 
 
-def reasons_of(state, numbers, token):
+def reasons_of(state, numbers, token, deciding):
     """Why each object is seen or not: once for all below one, where it hangs on that one alone."""
     made, known, lists_objects = {}, {}, state.lists_objects()
     for number, _ in numbers:
         key = number if lists_objects else -state.objects[number].parent
         if key not in known:
-            known[key] = cards.why_seen(state, number, token, lists_objects)
+            known[key] = cards.why_seen(state, number, token, lists_objects, deciding)
         made[number] = known[key]
     return made
 
@@ -145,6 +147,8 @@ def built(asked, place):
     path = program.program()
     # What is no directory is refused by the program before any of it is read here.
     program.counts(path, copy)
+    library.open_library(os.path.join(place, "library"))
+    deciding = Deciding(library.Calls())
     accounts = Accounts(copy)
     whom = tokens.of_words(asked, path, copy, accounts)
     token = whom.token, whom.data
@@ -154,9 +158,9 @@ def built(asked, place):
     agreed(path, copy, state)
     numbers, notes = chosen(state, asked.base), []
     sees = seen_of(path, copy, state, token[1], notes)
-    reasons = reasons_of(state, numbers, token[0])
+    reasons = reasons_of(state, numbers, token[0], deciding)
     copies = program.Copies(path, copy, asked.jobs, tell)
-    made, of = cards.all_cards(state, [number for number, _ in numbers], token, copies)
+    made, of = cards.all_cards(state, [number for number, _ in numbers], token, copies, deciding)
     whole = Made(os.path.basename(asked.store), state, token[0], Principals(state), sees, reasons, made, of, numbers)
     whole.protected = protected(path, copy, state, notes)
     whole.how, whole.notes = whom.how, whom.notes(whole.who.name) + notes
@@ -172,6 +176,9 @@ def main(arguments):
     try:
         with tempfile.TemporaryDirectory(prefix="adsd-report-") as place:
             text = built(asked, place)
+    except library.Missing as why:
+        say(f"no library: {why}")
+        return 1
     except store.Broken as why:
         say(f"{asked.store}: {why}")
         return 1

@@ -12,7 +12,6 @@ from .html import plural
 from .program import Serving, answered, asked, copy_slots
 from .state import State
 from .store import SLOTS
-from .why import answers_to
 
 TOKEN, MESSAGE, STEPS, RUN = 1, 2, 3, 4
 WORDS = {0x66: "modify", 0x68: "add", 0x4A: "delete", 0x6C: "rename"}
@@ -149,4 +148,4 @@ def touched(shots):
 def key_of(state, number, token):
     """What decides on the rights of a token at an object: two objects with one key give it the same."""
     own = state.own_sid(number)
-    return state.objects[number].of_class, state.objects[number].normal, own is not None, answers_to(token, own)
+    return state.objects[number].of_class, state.objects[number].normal, own is not None, token.answers_to(own)

@@ -1,19 +1,54 @@
 """The token of the words, completed by what the store gives its user, as the program's command `token` tells it."""
 
 from dataclasses import dataclass, field
-from typing import List, Optional
+from typing import FrozenSet, List, Optional, Tuple
 
 from adsd_ask import tokens, words
 from adsd_import.sids import sid_of_alias, sid_of_text, text_of_sid
 
 from .html import text
-from .why import Token
 
 HOW = "the store's, whole, as the program's command <code>token</code> tells it"
 UNKNOWN = ("Whether the token has all groups that the store gives its user isn't known: the program is older than its "
            "command <code>token</code>.")
 TOO_MANY = ("The store gives the user more groups than a token may have, so that some are missing here: what is refused "
             "may be granted with them.")
+
+
+@dataclass(frozen=True)
+class Token:
+    """A token as words gave it: bytes of identifiers, the privileges as a sum, and its holders, each the identifier of its
+    user and the bytes of a token that has what it holds."""
+
+    user: bytes
+    groups: Tuple[bytes, ...] = ()
+    deny: Tuple[bytes, ...] = ()
+    restricting: Tuple[bytes, ...] = ()
+    privileges: int = 0
+    holders: Tuple[Tuple[bytes, bytes], ...] = ()
+
+    def holds(self, sid):
+        return sid == self.user or sid in self.groups
+
+    def answers_to(self, own) -> FrozenSet:
+        """What of an object's own identifier counts for the token: in which of its parts it stands. Objects for which this
+        is the same give it the same rights by one list."""
+        parts = (self.user, *self.groups), self.deny, self.restricting
+        return frozenset(place for place, part in enumerate(parts) if own is not None and own in part)
+
+
+def joined(sids):
+    return ",".join(text_of_sid(sid) for sid in sids)
+
+
+def token_of(user, groups=(), deny=(), restricting=(), privileges=0):
+    """A token with its holders: what it holds, and where it is restricted what its restricting identifiers hold."""
+    named = ",".join(name for name, bit in words.PRIVILEGES.items() if privileges & bit)
+    holders = [(user, words.token(text_of_sid(user), groups=joined(groups), deny=joined(deny), privileges_of=named))]
+    if restricting:
+        first, *rest = map(text_of_sid, restricting)
+        holders.append((restricting[0], words.token(first, groups=",".join(rest), privileges_of=named)))
+    return Token(user, groups, deny, restricting, privileges, tuple(holders))
 
 
 @dataclass
@@ -75,15 +110,15 @@ def is_name(asked):
 
 def of_words(asked, path, copy, accounts):
     """Whom the words mean."""
-    joined, user = ",".join, user_of(asked.user, path, copy, accounts)
+    user = user_of(asked.user, path, copy, accounts)
     told, unknown = of_store(path, copy, user)
     if is_name(asked) and told is not None:
-        return Whom(Token(user, tuple(told.groups), privileges=told.privileges), told.data(), HOW, told)
+        return Whom(token_of(user, tuple(told.groups), privileges=told.privileges), told.data(), HOW, told)
     groups = [item for some in asked.group for item in words.listed(some)]
     if told is not None and "*" in groups:
         at = groups.index("*")
         groups = groups[:at] + [text_of_sid(sid) for sid in told.groups] + [one for one in groups[at + 1 :] if one != "*"]
-    data = words.token(text_of_sid(user), groups=joined(groups), deny=joined(asked.deny_only), accounts=accounts,
-                       restricting=joined(asked.restricting), privileges_of=joined(asked.privilege))
-    listed = [tuple(words.groups_of(joined(some), user, accounts)) for some in (groups, asked.deny_only, asked.restricting)]
-    return Whom(Token(user, *listed, words.privileges(joined(asked.privilege))), data, "", told, unknown)
+    data = words.token(text_of_sid(user), groups=",".join(groups), deny=",".join(asked.deny_only), accounts=accounts,
+                       restricting=",".join(asked.restricting), privileges_of=",".join(asked.privilege))
+    listed = [tuple(words.groups_of(",".join(some), user, accounts)) for some in (groups, asked.deny_only, asked.restricting)]
+    return Whom(token_of(user, *listed, words.privileges(",".join(asked.privilege))), data, "", told, unknown)

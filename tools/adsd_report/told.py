@@ -65,7 +65,7 @@ class Teller:
             return "the token holds the owner, and no entry is for owner rights"
         if by is None:
             return "no entry allows it"
-        entry = card.checked.entries[by - 1]
+        entry = card.entries[by - 1]
         word = "denied by" if entry.kind == DENY else "allowed by"
         return f"{word} " + tag("a", f"entry {by}", href=f"#c{card.number}e{by}") + f" ({self.for_whom(entry)})"
 
@@ -127,7 +127,7 @@ class Teller:
             return "only passed down"
         if entry.kind == AUDIT:
             return "audits"
-        held = [card.checked.matches(entry, holder) for holder in self.token.holders()]
+        held = card.checked.held(place - 1, self.token)
         if not any(held):
             return "not held"
         if not all(held):

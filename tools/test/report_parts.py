@@ -1,12 +1,19 @@
-"""The reasons of tools/adsd-report by themselves, on worked cases of docs/profile/access.md and others made by hand."""
+"""The reasons of tools/adsd-report by themselves, on worked cases of docs/profile/access.md and others made by hand, and on
+lists by chance beside plain_why.py, which goes entry by entry."""
+
+import random
+import struct
+
+import plain_why
 
 from adsd_import.descriptor import ALLOW, AUDIT, DENY, INHERIT_ONLY, Entry
 from adsd_import.sids import sid_of_text
+from adsd_report import deciding, normals
 from adsd_report.differences import Dangers, phrases, short
 from adsd_report.harms import RANK, RESET, SELF_MEMBERSHIP, VALIDATED_SPN, dangerous
 from adsd_report.html import tag, text
 from adsd_report.picture import fitting, width
-from adsd_report.why import Checked, Token, answers_to
+from adsd_report.tokens import Token, token_of
 
 BA, SY, NO, OW, PS = map(sid_of_text, ("S-1-5-32-544", "S-1-5-18", "S-1-5-7", "S-1-3-4", "S-1-5-10"))
 OWN = sid_of_text("S-1-5-21-1-2-3-1001")
@@ -18,12 +25,26 @@ def entry(kind, mask, sid, of_type=None, flags=0):
     return Entry(kind, flags, mask, of_type, None, sid)
 
 
-def tried(owner, entries, token, bit, path=(), own=None):
-    why = Checked(list(entries), owner, own).of_token(token, list(path), bit)
+def bytes_of(one):
+    """The bytes of an entry."""
+    if one.object is None:
+        return struct.pack("<BBHI", one.kind, one.flags, 8 + len(one.sid), one.mask) + one.sid
+    head = struct.pack("<BBHII", one.kind + 5, one.flags, 28 + len(one.sid), one.mask, 1)
+    return head + one.object + one.sid
+
+
+def checked(asked, owner, entries, own):
+    """What decides on a list of these entries, by the proved library."""
+    parts = normals.Parts(0, owner, NO, tuple(map(bytes_of, entries)), ())
+    return deciding.Checked(asked, parts.normal(), own)
+
+
+def tried(asked, owner, entries, token, bit, path=(), own=None):
+    why = checked(asked, owner, entries, own).of_token(token, list(path), bit)
     return why.granted, why.by
 
 
-ADMIN, BOTH, LESS = Token(BA), Token(SY, (BA,), (), (SY,)), Token(SY, (), (BA,))
+ADMIN, BOTH, LESS = token_of(BA), token_of(SY, (BA,), (), (SY,)), token_of(SY, (), (BA,))
 # What it is about, owner, entries, token, right, path, the object's own identifier; whether it is granted and by what.
 CASES = [
     ("an allow entry", NO, [entry(ALLOW, RP, BA)], ADMIN, RP, (), None, (True, (1,))),
@@ -37,7 +58,7 @@ CASES = [
      (True, ("owner",))),
     ("owner rights of an audit entry", BA, [entry(AUDIT, RC, OW)], ADMIN, RC, (), None, (False, (None,))),
     ("a generic right", NO, [entry(ALLOW, 0x80000000, BA)], ADMIN, RP, (), None, (True, (1,))),
-    ("take ownership", NO, [], Token(BA, privileges=2), WO, (), None, (True, ("privilege",))),
+    ("take ownership", NO, [], token_of(BA, privileges=2), WO, (), None, (True, ("privilege",))),
     ("only passed down", NO, [entry(ALLOW, RP, BA, None, INHERIT_ONLY)], ADMIN, RP, (), None, (False, (None,))),
     ("a type not on the path", NO, [entry(ALLOW, RP, BA, ONE)], ADMIN, RP, (), None, (False, (None,))),
     ("a type on the path", NO, [entry(DENY, RP, BA, ONE), entry(ALLOW, RP, BA, SET)], ADMIN, RP, (OF_CLASS, SET, OTHER),
@@ -46,18 +67,38 @@ CASES = [
     ("the second holder isn't allowed", NO, [entry(ALLOW, RP, BA)], BOTH, RP, (), None, (False, (None,))),
     ("a deny-only group denies", NO, [entry(DENY, WP, BA), entry(ALLOW, WP, SY)], LESS, WP, (), None, (False, (1,))),
     ("a deny-only group grants nothing", NO, [entry(ALLOW, RP, BA)], LESS, RP, (), None, (False, (None,))),
-    ("the object itself", NO, [entry(ALLOW, RP, PS)], Token(OWN), RP, (), OWN, (True, (1,))),
-    ("the object itself without an identifier", NO, [entry(ALLOW, RP, PS)], Token(PS), RP, (), None, (False, (None,))),
+    ("the object itself", NO, [entry(ALLOW, RP, PS)], token_of(OWN), RP, (), OWN, (True, (1,))),
+    ("the object itself without an identifier", NO, [entry(ALLOW, RP, PS)], token_of(PS), RP, (), None, (False, (None,))),
 ]
 
 
-def others(check):
+def others(check, asked):
     """Who has a right, and whom a denial in front takes it from."""
-    one = Checked([entry(DENY, WP, SY), entry(ALLOW, WP, BA), entry(ALLOW, WP, SY), entry(ALLOW, WP, PS)], NO, OWN)
+    one = checked(asked, NO, [entry(DENY, WP, SY), entry(ALLOW, WP, BA), entry(ALLOW, WP, SY), entry(ALLOW, WP, PS)], OWN)
     check(one.others([], WP) == [(BA, 2, (SY,)), (PS, 4, (SY,))], f"others: {one.others([], WP)}")
-    owned = Checked([entry(ALLOW, RC, BA)], NO, None)
+    owned = checked(asked, NO, [entry(ALLOW, RC, BA)], None)
     check(owned.others([], RC) == [(NO, "owner", ()), (BA, 1, ())], f"others of an owner: {owned.others([], RC)}")
     check(owned.others([], WO) == [(None, "privilege", ())], f"others by privilege: {owned.others([], WO)}")
+
+
+def by_chance(check, asked, count=300):
+    """Lists and tokens by chance: the library's reasons are those that plain_why.py works out."""
+    made = random.Random(12)
+    sids, bits = (BA, SY, NO, OW, PS, OWN), (RP, WP, RC, WD, WO)
+    for number in range(count):
+        entries = [entry(made.choice((ALLOW, ALLOW, DENY)), sum(made.sample(bits, made.randint(1, 3))), made.choice(sids),
+                         made.choice((None, None, SET, ONE)), made.choice((0, 0, 0, INHERIT_ONLY)))
+                   for _ in range(made.randint(0, 7))]
+        owner, own = made.choice((BA, SY, OWN)), made.choice((None, OWN))
+        parts = [tuple(made.sample((BA, SY, OWN), made.randint(0, 2))) for _ in range(3)]
+        token = token_of(made.choice((BA, SY, OWN)), *parts, made.choice((0, 2)))
+        plain = plain_why.Checked(entries, owner, own)
+        one = checked(asked, owner, entries, own)
+        for path in ([], [OF_CLASS, SET, OTHER], [OF_CLASS, ONE]):
+            for bit in bits:
+                found, wanted = one.of_token(token, path, bit), plain.of_token(plain_why.token_of(token), path, bit)
+                check((found.granted, found.by) == (wanted.granted, wanted.by),
+                      f"list {number}, {path}, {bit:x}: {found}, expected {wanted}")
 
 
 class Types:
@@ -106,14 +147,20 @@ def pictures(check):
     check(told == ["WP object, a, b", "CR Reset"], f"phrases: {told}")
 
 
+def reasons(check, calls):
+    """What decides, by the proved library."""
+    asked = deciding.Deciding(calls)
+    for about, owner, entries, token, bit, path, own, wanted in CASES:
+        found = tried(asked, owner, entries, token, bit, path, own)
+        check(found == wanted, f"{about}: {found}, expected {wanted}")
+    others(check, asked)
+    by_chance(check, asked)
+
+
 def run(check):
     dangers(check)
     pictures(check)
-    for about, owner, entries, token, bit, path, own, wanted in CASES:
-        found = tried(owner, entries, token, bit, path, own)
-        check(found == wanted, f"{about}: {found}, expected {wanted}")
-    others(check)
-    check(answers_to(Token(OWN), OWN) != answers_to(Token(OWN), BA), "an own identifier counts for nothing")
-    check(answers_to(Token(OWN), SY) == answers_to(Token(OWN), None), "an identifier that nobody holds counts")
+    check(Token(OWN).answers_to(OWN) != Token(OWN).answers_to(BA), "an own identifier counts for nothing")
+    check(Token(OWN).answers_to(SY) == Token(OWN).answers_to(None), "an identifier that nobody holds counts")
     check(text("<b>\u202e&\x07") == "&lt;b&gt;\\E2\\80\\AE&amp;\\07", f"text: {text('<b>')}")
     check(tag("p", "x", title='"<') == '<p title="&quot;&lt;">x</p>', "a mark isn't escaped")

@@ -9,8 +9,8 @@ import subprocess
 from adsd_import.sids import sid_of_text, text_of_sid
 from adsd_report import program
 from adsd_report.harms import RANK, dangerous
-from adsd_report.why import Checked
-from adsd_report.why import Token as Plain
+
+import plain_why
 
 from . import corp
 
@@ -87,9 +87,9 @@ def reasons(tries, opened):
     """What decides is what the report works out by the rules."""
     for number in opened.world.objects:
         one, on = opened.world.descriptor(number), opened.answers.object(number, opened.now)
-        checked = Checked(one.dacl.entries, one.owner, opened.world.own_sid(number))
+        checked = plain_why.Checked(one.dacl.entries, one.owner, opened.world.own_sid(number))
         for token in tokens(opened):
-            plain = Plain(token.sid, tuple(token.held - {token.sid}), (), (), token.privileges)
+            plain = plain_why.Token(token.sid, tuple(token.held - {token.sid}), (), (), token.privileges)
             for question in opened.answers.questions.of(on.of_class).lines:
                 path = [question.path[at : at + 16] for at in range(0, len(question.path), 16)]
                 for bit in (1 << place for place in range(20) if question.bits >> place & 1):

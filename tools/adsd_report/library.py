@@ -42,6 +42,7 @@ def found(place):
 
 def open_library(place):
     """Makes the package `adsd` ready to be imported, over the library that is found; `place` is a folder of its own."""
+    os.makedirs(place, exist_ok=True)
     os.environ["ADSD_LIBRARY"] = found(place)
     sys.path.insert(0, os.path.join(TOP, "python"))
     try:

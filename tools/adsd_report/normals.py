@@ -1,8 +1,10 @@
 """Descriptors in normal bytes, taken apart and put together (docs/profile/descriptors.md)."""
 
 import struct
-from dataclasses import dataclass
+from dataclasses import dataclass, replace
 from typing import List
+
+from adsd_import.descriptor import ALLOW, DENY, INHERIT_ONLY
 
 MARK_DACL, MARK_SACL = 1, 2
 OBJECT_KINDS = (5, 6, 7)
@@ -24,6 +26,11 @@ class Parts:
         entries = self.dacl if dacl is None else dacl
         return b"".join([bytes([self.marks]), self.owner, self.group, struct.pack(">Q", len(entries)), *entries,
                          struct.pack(">Q", len(self.sacl)), *self.sacl])
+
+
+    def only(self, places):
+        """The same with some entries alone in the discretionary list."""
+        return replace(self, dacl=tuple(self.dacl[place] for place in places))
 
 
 def sid_size(data, at):
@@ -62,6 +69,15 @@ class Ace:
     data: bytes
 
     @property
+    def is_denial(self):
+        return self.kind % 5 == DENY
+
+    @property
+    def is_inherit_only(self):
+        """Whether it is for what stands below alone."""
+        return bool(self.flags & INHERIT_ONLY)
+
+    @property
     def word(self):
         return ("allow", "deny", "audit")[self.kind % 5]
 
@@ -77,9 +93,9 @@ def ace_of(data):
     return Ace(kind, flags, mask, types[0], types[1], data[at:], data)
 
 
-def allows_all(sid):
-    """An entry that allows an identifier everything."""
-    return struct.pack("<BBHI", 0, 0, 8 + len(sid), ALLOW_ALL) + sid
+def entry(mask, sid, kind=ALLOW):
+    """An entry that allows an identifier the rights of a mask, or denies them."""
+    return struct.pack("<BBHI", kind, 0, 8 + len(sid), mask) + sid
 
 
 class Known:

@@ -1,7 +1,8 @@
-"""Why a right is granted or not, by the rules of docs/profile/access.md, and who else has it."""
+"""Why a right is granted or not, worked out entry by entry, and who else has it: what the answers of the proved library are
+compared with in the tests of adsd-report and adsd-explore."""
 
 from dataclasses import dataclass, field
-from typing import FrozenSet, List, Optional, Tuple
+from typing import List, Optional, Tuple
 
 from adsd_import.descriptor import ALLOW, DENY, INHERIT_ONLY
 from adsd_import.rights import mapped
@@ -111,8 +112,6 @@ class Checked:
         return made + ([(None, "privilege", ())] if bit == RIGHTS["WO"] else [])
 
 
-def answers_to(token, own) -> FrozenSet:
-    """What of an object's own identifier counts for a token: how its holders answer to it. Tokens and objects for which
-    this is the same get the same rights of one list (docs/profile/access.md)."""
-    return frozenset((place, kind) for place, holder in enumerate(token.holders())
-                     for kind in (0, 1) if own is not None and own in holder[kind])
+def token_of(token):
+    """The same of a token of adsd-report."""
+    return Token(token.user, token.groups, token.deny, token.restricting, token.privileges)
