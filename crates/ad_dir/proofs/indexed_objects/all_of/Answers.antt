@@ -1,6 +1,6 @@
 use Rattle.std.proofs.Common.{[]}
 use Rattle.ad_dir_table.proofs.IndexLaws.{same_indexed}
-use Rattle.ad_dir.proofs.holding.all_of.Goals as goal
+use Rattle.ad_dir.proofs.indexed_objects.all_of.Goals as goal
 
 pub put_all-requires : goal.put_all-requires
 put_all-requires c = record {

@@ -5,7 +5,7 @@ use Rattle.ad_dir_table.specs.Entry.{objects_in}
 use Rattle.ad_dir_table.specs.Indexed.{IsIndexed}
 use Rattle.ad_dir_table.proofs.ChildLaws.{lists_rise, is_new}
 use Rattle.ad_dir_table.proofs.IndexLaws.{same_indexed, put_indexed}
-use Rattle.ad_dir.proofs.holding.put.Goals as goal
+use Rattle.ad_dir.proofs.indexed_objects.put.Goals as goal
 
 pub edit-requires-clause-rise : goal.edit-requires-clause-rise
 edit-requires-clause-rise c =

@@ -7,7 +7,7 @@ use Rattle.ad_dir_table.specs.Entry.{Entry, objects_in, HaveTheirSids}
 use Rattle.ad_dir_table.specs.Indexed.{IsIndexed, HasOwnKeys}
 use Rattle.ad_dir.proofs.Loading.{one_more, all_in, few_so_far, rise_so_far, named_so_far, next_above, next_utf8}
 use Rattle.ad_dir.proofs.Loading.{next_own}
-use Rattle.ad_dir.proofs.holding.put_all.Goals as goal
+use Rattle.ad_dir.proofs.indexed_objects.put_all.Goals as goal
 
 pub loop-object-init : goal.loop-object-init
 loop-object-init c = (

@@ -2,7 +2,7 @@ use Rattle.std.proofs.Common.{◌≡◌, ◌++◌}
 use Rattle.ad_dir_objects.specs.Seen.{objects_of}
 use Rattle.ad_dir_table.specs.Entry.{objects_in, HaveTheirSids}
 use Rattle.ad_dir_table.specs.Indexed.{IsIndexed}
-use Rattle.ad_dir.proofs.holding.put_all.Given as goal
+use Rattle.ad_dir.proofs.indexed_objects.put_all.Given as goal
 
 -- those so far, and the others
 abbrev pub invariant-loop-object : goal.invariant-loop-object

@@ -7,8 +7,8 @@ use Rattle.ad_dir_table.specs.Entry.{objects_in}
 use Rattle.ad_dir_table.specs.declared.index.Index.{Index}
 use Rattle.ad_dir_table.specs.Indexed.{IsIndexed}
 use Rattle.ad_dir_table.proofs.IndexLaws.{removed_indexed, absent_indexed}
-use Rattle.ad_dir.proofs.holding.remove.Goals as goal
-use Rattle.ad_dir.proofs.holding.remove.Goals.{in-Some, in_default}
+use Rattle.ad_dir.proofs.indexed_objects.remove.Goals as goal
+use Rattle.ad_dir.proofs.indexed_objects.remove.Goals.{in-Some, in_default}
 
 pub returns-clause-indexed : goal.returns-clause-indexed
 returns-clause-indexed c = λ schema sids indexed.

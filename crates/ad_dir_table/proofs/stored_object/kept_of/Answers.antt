@@ -4,7 +4,7 @@ use Rattle.ad_dir_table.specs.declared.stored_object.StoredObject.{StoredObject}
 use Rattle.ad_dir_table.specs.Entry.{HasItsSid}
 use Rattle.ad_dir_table.specs.Fields.{HasNormal, entry_kept, object_kept}
 use Rattle.ad_dir_table.proofs.Entries.{through, found, found_if}
-use Rattle.ad_dir_table.proofs.kept.kept_of.Goals as goal
+use Rattle.ad_dir_table.proofs.stored_object.kept_of.Goals as goal
 
 pub returns-clause-found : goal.returns-clause-found
 returns-clause-found c = λ live. through live c.kept_in.result ∙ ap (option_map (object_kept live))

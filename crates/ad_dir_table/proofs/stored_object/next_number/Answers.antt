@@ -1,5 +1,5 @@
 use Rattle.ad_dir_table.proofs.Next.{above_is, above_none}
-use Rattle.ad_dir_table.proofs.kept.next_number.Goals as goal
+use Rattle.ad_dir_table.proofs.stored_object.next_number.Goals as goal
 
 pub returns-in-Some : goal.returns-in-Some
 returns-in-Some c = λ live.

@@ -1,6 +1,6 @@
 use Rattle.std.proofs.Common.{◌≡◌, ◌++◌, map}
 use Rattle.std.specs.Map.{values_of}
-use Rattle.ad_dir_table.proofs.kept.numbers.Given as goal
+use Rattle.ad_dir_table.proofs.stored_object.numbers.Given as goal
 
 -- those so far, and those of the others
 abbrev pub invariant-loop-kept : goal.invariant-loop-kept

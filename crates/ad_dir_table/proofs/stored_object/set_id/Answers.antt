@@ -6,7 +6,7 @@ use Rattle.std.specs.Ordering.{nat_cmp}
 use Rattle.ad_dir_table.specs.declared.stored_object.StoredObject.{StoredObject}
 use Rattle.ad_dir_table.specs.Fields.{with_id}
 use Rattle.ad_dir_table.proofs.Keeping.{set_inserted}
-use Rattle.ad_dir_table.proofs.kept.set_id.Goals as goal
+use Rattle.ad_dir_table.proofs.stored_object.set_id.Goals as goal
 
 pub returns-in-Some-clause-entries : goal.returns-in-Some-clause-entries
 returns-in-Some-clause-entries c =

@@ -1,5 +1,5 @@
 use Rattle.ad_filter.proofs.KeptLaws.{one_read}
-use Rattle.ad_filter.proofs.kept.keep.Goals as goal
+use Rattle.ad_filter.proofs.value_cache.keep.Goals as goal
 
 pub returns-clause-read : goal.returns-clause-read
 returns-clause-read g c =

@@ -2,7 +2,7 @@ use Rattle.std.proofs.Common.{◌≡◌, rules, ap}
 use Rattle.std.specs.Ordering.{is_lt}
 use Rattle.std.proofs.lemmas.List.Sorted.{ranks_by, answers_always}
 use Rattle.ad_value.specs.Value.{Value, key_order}
-use Rattle.ad_filter.proofs.kept.put_in_order.Goals as goal
+use Rattle.ad_filter.proofs.value_cache.put_in_order.Goals as goal
 
 pub returns-clause-order : goal.returns-clause-order
 returns-clause-order c = λ ordered.

@@ -4,7 +4,7 @@ use Rattle.ad_sd.specs.declared.parts.Sd.{Sd}
 use Rattle.ad_dir_model.specs.Directory.{Meta}
 use Rattle.ad_dir_objects.specs.declared.object.Object.{Object as ObjectIn}
 use Rattle.ad_load.specs.Seen.{entry_seen}
-use Rattle.ad_load.proofs.before.before_of.Goals as goal
+use Rattle.ad_load.proofs.before_inheritance.before_of.Goals as goal
 
 pub check-requires : goal.check-requires
 check-requires g c =

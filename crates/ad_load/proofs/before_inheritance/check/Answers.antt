@@ -6,7 +6,7 @@ use Rattle.ad_dir_model.specs.Directory.{Meta}
 use Rattle.ad_load.specs.Links.{all_defaults}
 use Rattle.ad_load.specs.Seen.{entry_seen}
 use Rattle.ad_load.proofs.Bounds.{within_by, limits_stop, defaults_stop, all_linked, meta_is}
-use Rattle.ad_load.proofs.before.check.Goals as goal
+use Rattle.ad_load.proofs.before_inheritance.check.Goals as goal
 
 pub returns-then-not-within : goal.returns-then-not-within
 returns-then-not-within g c =

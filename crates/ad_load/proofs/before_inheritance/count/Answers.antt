@@ -3,7 +3,7 @@ use Rattle.std.proofs.lemmas.List.{length-map}
 use Rattle.ad_ids.specs.SidValue.{SidValue}
 use Rattle.ad_load.specs.Links.{next_rid}
 use Rattle.ad_load_objects.specs.Seen.{draft_seen}
-use Rattle.ad_load.proofs.before.count.Goals as goal
+use Rattle.ad_load.proofs.before_inheritance.count.Goals as goal
 
 pub returns : goal.returns
 returns c =

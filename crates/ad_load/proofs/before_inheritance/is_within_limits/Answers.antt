@@ -6,7 +6,7 @@ use Rattle.ad_dn.specs.Text.{rdns_text}
 use Rattle.ad_dir_model.specs.Limits.{max_objects, max_counter, max_text}
 use Rattle.ad_load.specs.Seen.{entry_seen}
 use Rattle.ad_load.proofs.Bounds.{limits_are, counter_fits}
-use Rattle.ad_load.proofs.before.is_within_limits.Goals as goal
+use Rattle.ad_load.proofs.before_inheritance.is_within_limits.Goals as goal
 
 pub returns-clause-within : goal.returns-clause-within
 returns-clause-within c =

@@ -7,7 +7,7 @@ use Rattle.ad_load.specs.Links.{domain_of, objects_of}
 use Rattle.ad_load.specs.Counting.{IsCounted}
 use Rattle.ad_load_objects.specs.Seen.{draft_seen}
 use Rattle.ad_load.proofs.Bounds.{objects_stop}
-use Rattle.ad_load.proofs.before.link_all.Goals as goal
+use Rattle.ad_load.proofs.before_inheritance.link_all.Goals as goal
 
 pub count-requires : goal.count-requires
 count-requires g c = record {

@@ -2,7 +2,7 @@ use Rattle.std.proofs.Common.{Bool, not, sym, ap, ◌∙◌}
 use Rattle.ad_load_objects.specs.Had.{is_had}
 use Rattle.ad_load_objects.specs.Seen.{given_seen}
 use Rattle.ad_load_objects.proofs.ManyValues.{had_more}
-use Rattle.ad_load_objects.proofs.had.note.Goals as goal
+use Rattle.ad_load_objects.proofs.seen_values.note.Goals as goal
 
 pub returns-then-single-clause-had : goal.returns-then-single-clause-had
 returns-then-single-clause-had c = λ given are.
