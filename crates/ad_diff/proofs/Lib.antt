@@ -4,6 +4,7 @@ pub mod Grounds
 pub mod Putting
 pub mod Exact
 pub mod Groups
+pub mod Used
 pub mod Refusals
 pub mod Whole
 pub mod Steps

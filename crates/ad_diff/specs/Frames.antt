@@ -1,5 +1,5 @@
 -- Only for private contracts, invariants and proofs: the lines of kinds on families, and columns.
-use Rattle.std.specs.Prelude.{◌≡◌, ℕ, zero, suc, ◌<◌, true, false, nat_eq, Some, List, [], ◌++◌, map, get_or, length}
+use Rattle.std.specs.Prelude.{◌≡◌, ◌⊎◌, ℕ, zero, suc, ◌<◌, true, false, nat_eq, Some, List, [], ◌++◌, map, get_or, length}
 use Rattle.std.specs.Prelude.{slice_get}
 use Rattle.std.specs.Option.{option_map_or}
 use Rattle.std.specs.Global.{Vec}
@@ -78,15 +78,20 @@ AreBases sides frame firsts = (family : ℕ) (first : Both) → slice_get firsts
 
 -- ---- groups
 
+-- there are as many groups as before, or one more, of which this is the number
+abbrev pub IsNumbered : ℕ → ℕ → ℕ → Type 0
+IsNumbered old new group = (new ≡ old) ⊎ ((new ≡ suc old) × (group ≡ new))
+
 -- the lines of the principal at a place in the column of a group of objects; group 0 has none
 abbrev pub group_lines : Frame → List Column → ℕ → ℕ → List ℕ
 group_lines frame columns zero place = []
 group_lines frame columns (suc n) place = option_map_or (λ (column : Column). lines_at frame column place)
     (slice_get columns n) []
 
--- more columns stand after, and the group has the lines of this one
+-- More columns stand after, and the group has the lines of this one. No column is added but that of the group.
 pub record IsAdded (frame : Frame) (old new : List Column) (column : Column) (group : ℕ) : Type 0 where
   pub more : List Column
   pub are : new ≡ old ++ more
   pub within : group < suc (length new)
   pub lines : (place : ℕ) → group_lines frame new group place ≡ lines_at frame column place
+  pub count : IsNumbered (length old) (length new) group

@@ -1,6 +1,6 @@
 //! The objects in groups: those of a group have one column of lines, and those of group 0 have none.
 
-ghost use Rattle.std.specs.Prelude.{◌≡◌, ◌++◌, ◌∷◌, [], ℕ, true, All, slice_get, OnOk, IfOk};
+ghost use Rattle.std.specs.Prelude.{◌≡◌, ◌++◌, ◌∷◌, [], ℕ, true, All, length, slice_get, OnOk, IfOk};
 ghost use Rattle.std.specs.Option.{option_copied};
 ghost use Rattle.ad_diff_rights.specs.Both.{IsLiveBoth};
 ghost use Rattle.ad_diff_rights.specs.Parties.{IsParty};
@@ -8,7 +8,7 @@ ghost use Rattle.ad_diff_rights.specs.Sides.{AreMarked};
 ghost use Rattle.ad_diff.specs.declared.bases.Frame.{Frame as FrameValue};
 ghost use Rattle.ad_diff.specs.Text.{members};
 ghost use Rattle.ad_diff.specs.Frames.{lines_at, HasBase, IsGround, IsAdded};
-ghost use Rattle.ad_diff.specs.Table.{ArePlaced};
+ghost use Rattle.ad_diff.specs.Table.{ArePlaced, AreUsed};
 
 use crate::bases::{Frame, is_quiet_family};
 use crate::columns::{Column, column_of, is_plain};
@@ -106,9 +106,12 @@ fn place(
     requires base { HasBase sides.now ground.now.frame g.group g.both }
     requires placed { ArePlaced sides.now ground.now.frame placing.now.columns.items
         placing.now.objects.items }
+    requires used { AreUsed (length placing.now.columns.items) placing.now.objects.items }
     ensures members { OnOk result (members placing.new.objects.items
         ≡ members placing.old.objects.items ++ (g.both ∷ [])) }
     ensures placed { OnOk result (ArePlaced sides.now ground.now.frame placing.new.columns.items
+        placing.new.objects.items) }
+    ensures used { OnOk result (AreUsed (length placing.new.columns.items)
         placing.new.objects.items) }
 {
     let column = column_of(alloc, sides, ground, g)?;
@@ -143,6 +146,8 @@ pub(crate) fn placed(
         ≡ members objects.now) }
     ensures placed { IfOk result (λ placing. ArePlaced sides.now ground.now.frame
         placing.columns.items placing.objects.items) }
+    ensures used { IfOk result (λ placing. AreUsed (length placing.columns.items)
+        placing.objects.items) }
 {
     let mut hints: IndexMap<u32, u32> = IndexMap::new(alloc);
     let mut placing = Placing {
