@@ -1,6 +1,6 @@
 pub mod Lists
 pub mod Texts
-pub mod Grounds
+pub mod Contexts
 pub mod Putting
 pub mod Exact
 pub mod Groups

@@ -5,14 +5,14 @@ use Rattle.std.specs.Option.{option_map_or}
 use Rattle.std.specs.Global.{Vec}
 use Rattle.indexmap.specs.IndexMap.{get}
 use Rattle.ad_diff_rights.specs.declared.both.Both.{Both}
-use Rattle.ad_diff_rights.specs.declared.steady.Sides.{Sides}
+use Rattle.ad_diff_rights.specs.declared.unchanged.Sides.{Sides}
 use Rattle.ad_diff_rights.specs.declared.tokens.Party.{Party}
 use Rattle.ad_diff_rights.specs.Own.{changes_in}
 use Rattle.ad_diff_rights.specs.Sides.{changes_at}
 use Rattle.ad_diff_rights.specs.Steps.{texts}
 use Rattle.ad_diff.specs.declared.bases.Frame.{Frame}
 use Rattle.ad_diff.specs.declared.columns.Column.{Column}
-use Rattle.ad_diff.specs.declared.ground.Ground.{Ground}
+use Rattle.ad_diff.specs.declared.context.Context.{Context}
 use Rattle.ad_diff.specs.Holders.{AreHolders}
 
 -- ---- where own identifiers don't count
@@ -67,9 +67,9 @@ pub record IsPut (frame : Frame) (old new : Column) (place : ℕ) (lines : List 
 -- ---- what columns are made of
 
 -- who holds an identifier
-pub record IsGround (parties : List Party) (ground : Ground) : Type 0 where
-  pub before_holders : AreHolders parties true (length parties) ground.holders.places
-  pub after_holders : AreHolders parties false (length parties) ground.holders_after.places
+pub record IsContext (parties : List Party) (context : Context) : Type 0 where
+  pub before_holders : AreHolders parties true (length parties) context.holders.places
+  pub after_holders : AreHolders parties false (length parties) context.holders_after.places
 
 -- the families that begin with these objects have their lines
 abbrev pub AreBases : Sides → Frame → List Both → Type 0

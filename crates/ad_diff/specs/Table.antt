@@ -1,7 +1,7 @@
 -- Only for private contracts, invariants and proofs: columns of the table and groups of its rows.
 use Rattle.std.specs.Prelude.{◌≡◌, ℕ, zero, suc, ◌<◌, true, Some, List, [], ◌∷◌, ◌++◌, All, map, get_or, length, slice_get}
 use Rattle.ad_diff_rights.specs.declared.both.Both.{Both}
-use Rattle.ad_diff_rights.specs.declared.steady.Sides.{Sides}
+use Rattle.ad_diff_rights.specs.declared.unchanged.Sides.{Sides}
 use Rattle.ad_diff_rights.specs.declared.tokens.Party.{Party}
 use Rattle.ad_diff_rights.specs.Own.{changes_in}
 use Rattle.ad_diff.specs.declared.numbering.Grouped.{Grouped}
