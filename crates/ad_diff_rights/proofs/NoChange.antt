@@ -17,7 +17,7 @@ use Rattle.ad_diff_rights.specs.declared.tokens.Party.{Party}
 use Rattle.ad_diff_rights.specs.Rights.{rights_by, grants_by}
 use Rattle.ad_diff_rights.specs.Changes.{has_label, line_unless, lines_without, change_lines}
 use Rattle.ad_diff_rights.specs.Own.{own_sid, rights_in, changes_in}
-use Rattle.ad_diff_rights.specs.Same.{IsUnchanged, IsSteady}
+use Rattle.ad_diff_rights.specs.Same.{IsUnchanged, IsUnchangedParty}
 
 -- ---- equal lists have no lines
 
@@ -75,10 +75,10 @@ one_right before after was is own o one_schema one_token same =
     ∙ ap (λ (class : ℕ). rights_by after.schema
     (grants_by (sd_at after.objects o.after) is (own_sid after own o.after)) (record { 0 = class })) same.class
 
-pub none_differs : (before after : Directory) (party : Party) (own : Bool) (o : Both) → IsSteady before after party
+pub none_differs : (before after : Directory) (party : Party) (own : Bool) (o : Both) → IsUnchangedParty before after party
     → IsUnchanged before after o → changes_in before after party.was party.is own o ≡ []
 unfolding changes_in
-none_differs before after party own o steady same =
+none_differs before after party own o unchanged_party same =
     ap (λ (had : List (List ℕ)). change_lines had (rights_in after party.is own o.after))
-    (one_right before after party.was party.is own o steady.schema steady.token same)
+    (one_right before after party.was party.is own o unchanged_party.schema unchanged_party.token same)
     ∙ no_change (rights_in after party.is own o.after)

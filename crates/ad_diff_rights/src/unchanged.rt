@@ -4,8 +4,8 @@ ghost use Rattle.std.specs.Prelude.{◌≡◌, true, Some, slice_get, IfOk};
 ghost use Rattle.ad_dir_model.specs.Directory.{Directory};
 ghost use Rattle.ad_diff_rights.specs.Both.{IsLiveBoth};
 ghost use Rattle.ad_diff_rights.specs.Own.{changes_in};
-ghost use Rattle.ad_diff_rights.specs.Same.{IsUnchanged, IsSteady, AreSteady};
-ghost use Rattle.ad_diff_rights.specs.Sides.{changes_at, AreMarked};
+ghost use Rattle.ad_diff_rights.specs.Same.{IsUnchanged, IsUnchangedParty, AreUnchangedParties};
+ghost use Rattle.ad_diff_rights.specs.Sides.{changes_at, AreFlagged};
 
 use crate::both::Both;
 use crate::changes::changes;
@@ -20,13 +20,13 @@ pub struct Sides<'a> {
     pub before: &'a Dir,
     pub after: &'a Dir,
     pub parties: &'a [Party],
-    pub marks: &'a [bool],
+    pub flags: &'a [bool],
 }
 
 // Whether both tokens of a principal are equal, where the schemas are.
-fn is_steady(one_schema: bool, party: &Party) -> bool
+fn is_unchanged_party(one_schema: bool, party: &Party) -> bool
     ensures { result ≡ true → (before after : Directory)
-        → (one_schema ≡ true → before.schema ≡ after.schema) → IsSteady before after party.now }
+        → (one_schema ≡ true → before.schema ≡ after.schema) → IsUnchangedParty before after party.now }
 {
     if !one_schema {
         return false;
@@ -39,52 +39,52 @@ fn is_steady(one_schema: bool, party: &Party) -> bool
 /// # Errors
 ///
 /// Out of memory.
-pub fn steady_marks(
+pub fn unchanged_flags(
     alloc: Global,
     before: &Dir,
     after: &Dir,
     parties: &[Party],
 ) -> Result<Vec<bool>, AllocError>
-    ensures { IfOk result (λ marks. AreSteady before.now after.now parties.now marks.items) }
+    ensures { IfOk result (λ flags. AreUnchangedParties before.now after.now parties.now flags.items) }
 {
     let one_schema = same_schema(before, after);
-    let mut marks = Vec::new(alloc);
+    let mut flags = Vec::new(alloc);
     for party in parties {
-        marks.push(is_steady(one_schema, party))?;
+        flags.push(is_unchanged_party(one_schema, party))?;
     }
-    Ok(marks)
+    Ok(flags)
 }
 
-// Whether the mark at a place is set.
-fn is_marked(marks: &[bool], place: usize) -> bool
-    ensures { result ≡ true → slice_get marks.now place ≡ Some true }
+// Whether the flag at a place is set.
+fn is_flagged(flags: &[bool], place: usize) -> bool
+    ensures { result ≡ true → slice_get flags.now place ≡ Some true }
 {
-    match marks.get(place) {
-        Some(mark) => *mark,
+    match flags.get(place) {
+        Some(flag) => *flag,
         None => false,
     }
 }
 
-// The lines of a principal on an object that is live in both. They are none, and nothing is judged, where the principal
-// is steady and the object unchanged.
+// The lines of a principal on an object that is live in both. They are none, and nothing is judged, where neither
+// the principal nor the object is changed.
 fn lines_of(
     alloc: Global,
     sides: &Sides<'_>,
     party: &Party,
-    steady: bool,
+    unchanged_party: bool,
     own: bool,
     o: Both,
     unchanged: bool,
 ) -> Result<Vec<u8>, AllocError>
     requires live { IsLiveBoth sides.now.before.now sides.now.after.now o }
-    requires steady { steady ≡ true
-        → IsSteady sides.now.before.now sides.now.after.now party.now }
+    requires unchanged_party { unchanged_party ≡ true
+        → IsUnchangedParty sides.now.before.now sides.now.after.now party.now }
     requires unchanged { unchanged ≡ true
         → IsUnchanged sides.now.before.now sides.now.after.now o }
     ensures { IfOk result (λ lines. lines.items ≡ changes_in sides.now.before.now
         sides.now.after.now party.now.was party.now.is own o) }
 {
-    if steady && unchanged {
+    if unchanged_party && unchanged {
         return Ok(Vec::new(alloc));
     }
     changes(
@@ -113,15 +113,15 @@ pub fn changes_at(
     unchanged: bool,
 ) -> Result<Vec<u8>, AllocError>
     requires live { IsLiveBoth sides.now.before.now sides.now.after.now o }
-    requires marked { AreMarked sides.now }
+    requires flagged { AreFlagged sides.now }
     requires unchanged { unchanged ≡ true
         → IsUnchanged sides.now.before.now sides.now.after.now o }
     ensures { IfOk result (λ lines. lines.items ≡ changes_at sides.now own o place) }
 {
     match party_at(sides.parties, place) {
         Some(party) => {
-            let steady = is_marked(sides.marks, place);
-            lines_of(alloc, sides, party, steady, own, o, unchanged)
+            let unchanged_party = is_flagged(sides.flags, place);
+            lines_of(alloc, sides, party, unchanged_party, own, o, unchanged)
         }
         None => Ok(Vec::new(alloc)),
     }

@@ -4,8 +4,8 @@
 ghost use Rattle.std.specs.Prelude.{◌≡◌, true, All, IfOk};
 ghost use Rattle.ad_diff_rights.specs.Both.{IsLiveBoth};
 ghost use Rattle.ad_diff_rights.specs.Parties.{IsParty};
-ghost use Rattle.ad_diff_rights.specs.Sides.{AreMarked};
-ghost use Rattle.ad_diff.specs.Frames.{AreBases, IsGround};
+ghost use Rattle.ad_diff_rights.specs.Sides.{AreFlagged};
+ghost use Rattle.ad_diff.specs.Frames.{AreBases, IsContext};
 
 use crate::bases::{Frame, rows_of};
 use crate::holders::{Holders, holders_in};
@@ -15,7 +15,7 @@ use std::alloc::{AllocError, Global};
 
 /// What the columns are made of.
 #[derive(Drop)]
-pub struct Ground {
+pub struct Context {
     pub frame: Frame,
     pub holders: Holders,
     pub holders_after: Holders,
@@ -26,24 +26,24 @@ pub struct Ground {
 /// # Errors
 ///
 /// Out of memory.
-pub(crate) fn ground_of(
+pub(crate) fn comparison_context(
     alloc: Global,
     sides: &Sides<'_>,
     firsts: &[Both],
-) -> Result<Ground, AllocError>
+) -> Result<Context, AllocError>
     requires live { All (IsLiveBoth sides.now.before.now sides.now.after.now) firsts.now }
-    requires marked { AreMarked sides.now }
+    requires flagged { AreFlagged sides.now }
     requires parties { All (IsParty sides.now.before.now sides.now.after.now)
         sides.now.parties.now }
-    ensures ground { IfOk result (IsGround sides.now.parties.now) }
-    ensures bases { IfOk result (λ ground. AreBases sides.now ground.frame firsts.now) }
+    ensures context { IfOk result (IsContext sides.now.parties.now) }
+    ensures bases { IfOk result (λ context. AreBases sides.now context.frame firsts.now) }
 {
     let named = named_by(alloc, sides.before, sides.after, firsts)?;
     let kinds = kinds_of(alloc, &named, sides.parties)?;
     let rows = rows_of(alloc, sides, kinds.firsts.as_slice(), firsts)?;
     let holders = holders_in(alloc, sides.parties, true)?;
     let holders_after = holders_in(alloc, sides.parties, false)?;
-    Ok(Ground {
+    Ok(Context {
         frame: Frame {
             rows,
             kinds: kinds.of,

@@ -1,7 +1,7 @@
 use Rattle.std.proofs.Common.{◌∙◌, ℕ, List, ap}
 use Rattle.ad_diff.specs.Frames.{all_bares}
-use Rattle.ad_diff.proofs.Grounds.{bases_are}
-use Rattle.ad_diff.proofs.ground.ground_of.Goals as goal
+use Rattle.ad_diff.proofs.Contexts.{bases_are}
+use Rattle.ad_diff.proofs.context.comparison_context.Goals as goal
 
 pub returns-clause-bases : goal.returns-clause-bases
 returns-clause-bases c = bases_are c.args.sides.now c.in_ok-named.named.keys c.args.firsts.now

@@ -2,7 +2,7 @@ use Rattle.std.proofs.Common.{◌≡◌, [], Option, IfOk, subst}
 use Rattle.std.specs.Option.{option_map_or}
 use Rattle.ad_diff_rights.specs.declared.tokens.Party.{Party}
 use Rattle.ad_diff_rights.specs.Own.{changes_in}
-use Rattle.ad_diff_rights.proofs.steady.changes_at.Goals as goal
+use Rattle.ad_diff_rights.proofs.unchanged.changes_at.Goals as goal
 
 pub returns-in-Some : goal.returns-in-Some
 returns-in-Some c =
