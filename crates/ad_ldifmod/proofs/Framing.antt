@@ -57,6 +57,11 @@ of_line : (lists : Lists) (id : ℕ) (step : Result Step Stop) (given : Message)
 of_line lists id (Ok s) given from to is = of_message id s.name (after_step s lists s.number) given from to is
 of_line lists id (Err e) given from to is = absurd cc
 
+pub framed_line : (dir : Directory) (lists : Lists) (id : ℕ) (line : List ℕ) (given : Message) → 1 ≤ id
+    → id < 2147483648 → message_by dir lists id line ≡ Ok given → IsOfFrame given
+unfolding message_by
+framed_line dir lists id line given from to is = of_line lists id (step_of dir line) given from to is
+
 -- a message, and those after it
 of_both : (lists : Lists) (id n : ℕ) (step : Result Step Stop) (others : Result (List Message) GrantFault)
     (given : List Message) → 1 ≤ id → id < 2147483648

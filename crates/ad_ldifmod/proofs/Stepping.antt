@@ -12,7 +12,8 @@ use Rattle.ad_ldifmod.specs.Changes.{change_of}
 use Rattle.ad_ldifmod.specs.Lists.{Lists, Step, or_bad, number_named, step_of, changed_list, after_step, after_if}
 use Rattle.ad_ldifmod.specs.Messages.{message_of}
 use Rattle.ad_ldifmod.specs.Grants.{message_by}
-use Rattle.ad_ldifmod.specs.Steps.{Kept, lists_in, IsChanged}
+use Rattle.ad_ldifmod.specs.Steps.{IsChanged}
+use Rattle.ad_ldifmod.specs.Taken.{Kept, lists_in}
 
 -- what the parts of a line represent
 pub record Reached (dir : Directory) (line : List ℕ) (parts : Parts) (change : Change) (number : ℕ) : Type 0 where

@@ -7,7 +7,7 @@ ghost use Rattle.std.specs.HashMap.{get};
 ghost use Rattle.ad_ids.specs.SidValue.{same_sid};
 ghost use Rattle.ad_dir_model.specs.Objects.{is_live};
 ghost use Rattle.ad_ldifmod.specs.Lists.{stored_list, changed, changed_list};
-ghost use Rattle.ad_ldifmod.specs.Steps.{lists_in};
+ghost use Rattle.ad_ldifmod.specs.Taken.{lists_in};
 
 use crate::change::Change;
 use ad_acl::{Ace, Aces};

@@ -11,7 +11,8 @@ ghost use Rattle.ad_ldifmod.specs.Changes.{change_of};
 ghost use Rattle.ad_ldifmod.specs.Lists.{or_bad, number_named, step_of, changed_list, after_if};
 ghost use Rattle.ad_ldifmod.specs.Messages.{message_of};
 ghost use Rattle.ad_ldifmod.specs.Grants.{message_by};
-ghost use Rattle.ad_ldifmod.specs.Steps.{is_memory_stop, parts_seen, lists_in, IsChanged};
+ghost use Rattle.ad_ldifmod.specs.Steps.{is_memory_stop, parts_seen, IsChanged};
+ghost use Rattle.ad_ldifmod.specs.Taken.{lists_in};
 
 use crate::change::Change;
 use crate::fault::{GrantKind, Stop};

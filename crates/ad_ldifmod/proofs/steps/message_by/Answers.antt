@@ -3,7 +3,8 @@ use Rattle.std.proofs.lemmas.Result.{on_ok_weaker}
 use Rattle.ad_bytes.specs.Reading.{GivesUnless}
 use Rattle.ad_ldap.specs.declared.requests.Message.{Message}
 use Rattle.ad_ldifmod.specs.declared.fault.Stop.{Stop}
-use Rattle.ad_ldifmod.specs.Steps.{is_memory_stop, parts_seen, lists_in}
+use Rattle.ad_ldifmod.specs.Steps.{is_memory_stop, parts_seen}
+use Rattle.ad_ldifmod.specs.Taken.{lists_in}
 use Rattle.ad_ldifmod.proofs.Stepping.{message_is, lists_are}
 use Rattle.ad_ldifmod.proofs.steps.message_by.Goals as goal
 
