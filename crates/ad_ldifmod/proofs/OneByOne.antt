@@ -10,7 +10,7 @@ use Rattle.ad_dir_model.specs.Directory.{Directory}
 use Rattle.ad_ldifmod.specs.declared.fault.GrantKind.{GrantKind}
 use Rattle.ad_ldifmod.specs.declared.fault.GrantFault.{GrantFault}
 use Rattle.ad_ldifmod.specs.declared.fault.GrantFault.TheVariants as fault
-use Rattle.ad_ldifmod.specs.declared.fault.Stop.TheVariants as stop
+use Rattle.ad_ldifmod.specs.declared.fault.Refusal.TheVariants as refusal
 use Rattle.ad_ldifmod.specs.declared.next.Taken.{Taken}
 use Rattle.ad_ldifmod.specs.Lines.{lines_of, says_nothing}
 use Rattle.ad_ldifmod.specs.Lists.{Lists, stored_list, step_of, after_if}
@@ -29,12 +29,12 @@ same_from dir l m n k id other lines lists numbers ids =
     ∙ ap (λ (x : ℕ). messages_from dir m k x lines) ids
 
 pub nothing_taken : (dir : Directory) (old new : Taken) (line : List ℕ) → says_nothing line ≡ true
-    → lists_in dir new.kept ≡ lists_in dir old.kept → new.lines ≡ suc old.lines → new.messages ≡ old.messages
+    → lists_in dir new.cache ≡ lists_in dir old.cache → new.lines ≡ suc old.lines → new.messages ≡ old.messages
     → IsTaken dir old new line None
 unfolding messages_from
 nothing_taken dir old new line is lists number same = record {
   goes_on = λ lines. rw is
-      (same_from dir (lists_in dir old.kept) (lists_in dir new.kept) (suc (suc old.lines)) (suc new.lines)
+      (same_from dir (lists_in dir old.cache) (lists_in dir new.cache) (suc (suc old.lines)) (suc new.lines)
       (suc old.messages) (suc new.messages) lines (sym lists) (ap suc (sym number)) (ap suc (sym same)));
   frame = tt;
   one_line = number;
@@ -49,34 +49,34 @@ put_before message (Err e) = refl
 
 pub one_taken : (dir : Directory) (old new : Taken) (line : List ℕ) (message : Message) (id : ℕ)
     → says_nothing line ≡ false → id ≡ suc old.messages → id < 2147483648
-    → message_by dir (lists_in dir old.kept) id line ≡ Ok message
-    → lists_in dir new.kept ≡ after_if (step_of dir line) (lists_in dir old.kept) → new.lines ≡ suc old.lines
+    → message_by dir (lists_in dir old.cache) id line ≡ Ok message
+    → lists_in dir new.cache ≡ after_if (step_of dir line) (lists_in dir old.cache) → new.lines ≡ suc old.lines
     → new.messages ≡ id → IsTaken dir old new line (Some message)
 unfolding messages_from
 one_taken dir old new line message id not is few gives lists number more =
-    let given : message_by dir (lists_in dir old.kept) (suc old.messages) line ≡ Ok message
-    = subst (λ (k : ℕ). message_by dir (lists_in dir old.kept) k line ≡ Ok message) is gives in
+    let given : message_by dir (lists_in dir old.cache) (suc old.messages) line ≡ Ok message
+    = subst (λ (k : ℕ). message_by dir (lists_in dir old.cache) k line ≡ Ok message) is gives in
     record {
       goes_on = λ lines. rw not (rw given
-          (put_before message (messages_from dir (after_if (step_of dir line) (lists_in dir old.kept))
+          (put_before message (messages_from dir (after_if (step_of dir line) (lists_in dir old.cache))
           (suc (suc old.lines)) (suc (suc old.messages)) lines)
           ∙ ap (before (Some message))
-          (same_from dir (after_if (step_of dir line) (lists_in dir old.kept)) (lists_in dir new.kept)
+          (same_from dir (after_if (step_of dir line) (lists_in dir old.cache)) (lists_in dir new.cache)
           (suc (suc old.lines)) (suc new.lines) (suc (suc old.messages)) (suc new.messages) lines (sym lists)
           (ap suc (sym number)) (ap suc (sym (more ∙ is))))));
-      frame = framed_line dir (lists_in dir old.kept) id line message (omega (arith, is)) few gives;
+      frame = framed_line dir (lists_in dir old.cache) id line message (omega (arith, is)) few gives;
       one_line = number;
       few = omega (arith, more, is);
     }
 
 pub one_faulty : (dir : Directory) (taken : Taken) (n id : ℕ) (line : List ℕ) (kind : GrantKind)
     → says_nothing line ≡ false → n ≡ suc taken.lines → id ≡ suc taken.messages
-    → message_by dir (lists_in dir taken.kept) id line ≡ Err (stop.Bad kind)
+    → message_by dir (lists_in dir taken.cache) id line ≡ Err (refusal.Bad kind)
     → (lines : List (List ℕ)) → from dir taken (line ∷ lines) ≡ Err (fault.Bad n kind)
 unfolding messages_from
 one_faulty dir taken n id line kind not number is gives lines =
-    let given : message_by dir (lists_in dir taken.kept) (suc taken.messages) line ≡ Err (stop.Bad kind)
-    = subst (λ (k : ℕ). message_by dir (lists_in dir taken.kept) k line ≡ Err (stop.Bad kind)) is gives in
+    let given : message_by dir (lists_in dir taken.cache) (suc taken.messages) line ≡ Err (refusal.Bad kind)
+    = subst (λ (k : ℕ). message_by dir (lists_in dir taken.cache) k line ≡ Err (refusal.Bad kind)) is gives in
     rw not (rw given (ap (λ (k : ℕ). Err (fault.Bad k kind)) (sym number)))
 
 -- ---- the first line of a text
@@ -114,9 +114,9 @@ pub begun : (dir : Directory) (taken : Taken) (text : List ℕ) → Begins taken
     → messages_of dir text ≡ joined [] (left dir taken text)
 unfolding messages_of
 begun dir taken text is =
-    let lists : lists_in dir taken.kept ≡ stored_list dir = λ i n. unwrap_or (is.kept n i) (stored_list dir n) in
+    let lists : lists_in dir taken.cache ≡ stored_list dir = λ i n. unwrap_or (is.cache n i) (stored_list dir n) in
     sym (whole (left dir taken text)
-    ∙ same_from dir (lists_in dir taken.kept) (stored_list dir) (suc taken.lines) 1 (suc taken.messages) 1
+    ∙ same_from dir (lists_in dir taken.cache) (stored_list dir) (suc taken.lines) 1 (suc taken.messages) 1
     (lines_of text) lists (ap suc is.lines) (ap suc is.messages))
   where
     whole : (r : Result (List Message) GrantFault) → joined [] r ≡ r

@@ -6,15 +6,15 @@ use Rattle.ad_dir_model.specs.Directory.{Directory}
 use Rattle.ad_ldifmod.specs.declared.lines.PartsIn.{PartsIn}
 use Rattle.ad_ldifmod.specs.declared.change.Change.{Change}
 use Rattle.ad_ldifmod.specs.declared.fault.GrantKind.TheVariants as kind
-use Rattle.ad_ldifmod.specs.declared.fault.Stop.{Stop}
-use Rattle.ad_ldifmod.specs.declared.fault.Stop.TheVariants as stop
+use Rattle.ad_ldifmod.specs.declared.fault.Refusal.{Refusal}
+use Rattle.ad_ldifmod.specs.declared.fault.Refusal.TheVariants as refusal
 use Rattle.ad_ldifmod.specs.Lines.{Parts, lines_of}
 use Rattle.ad_ldifmod.specs.Lists.{changed_list}
-use Rattle.ad_ldifmod.specs.Taken.{Kept, lists_in}
+use Rattle.ad_ldifmod.specs.Taken.{ListCache, lists_in}
 
-abbrev pub is_memory_stop : Stop → Bool
-is_memory_stop (stop.Bad kind) = false
-is_memory_stop stop.Memory = true
+abbrev pub is_memory_refusal : Refusal → Bool
+is_memory_refusal (refusal.Bad kind) = false
+is_memory_refusal refusal.Memory = true
 
 -- the parts of a line, as they stand in it
 abbrev pub parts_seen : PartsIn → Parts
@@ -26,11 +26,11 @@ pub record IsFirstLine (text line behind : List ℕ) : Type 0 where
   pub shorter : length behind < length text
 
 -- how a list that isn't written ends a line
-abbrev pub of_list : AclWriteFault → Stop
-of_list acl.TooLong = stop.Bad kind.TooLong
-of_list acl.Memory = stop.Memory
+abbrev pub of_list : AclWriteFault → Refusal
+of_list acl.TooLong = refusal.Bad kind.TooLong
+of_list acl.Memory = refusal.Memory
 
 -- The list of one object was changed, and no other.
-pub record IsChanged (dir : Directory) (old new : Kept) (number : ℕ) (change : Change) : Type 0 where
+pub record IsChanged (dir : Directory) (old new : ListCache) (number : ℕ) (change : Change) : Type 0 where
   pub here : lists_in dir new number ≡ changed_list change (lists_in dir old number)
   pub others : (n : ℕ) → n ≢ number → lists_in dir new n ≡ lists_in dir old n

@@ -14,21 +14,21 @@ use Rattle.ad_ldifmod.specs.Lists.{Lists, stored_list}
 use Rattle.ad_ldifmod.specs.Grants.{is_memory, messages_from, messages_of, IsOfFrame}
 
 -- the lists that lines have changed so far; any other is as it is stored
-abbrev pub Kept : Type 0
-Kept = HashMap ℕ AceList (BuildHasherDefault FoldHasher)
+abbrev pub ListCache : Type 0
+ListCache = HashMap ℕ AceList (BuildHasherDefault FoldHasher)
 
-abbrev pub lists_in : Directory → Kept → Lists
-lists_in dir kept number = unwrap_or (get nat_eq kept number) (stored_list dir number)
+abbrev pub lists_in : Directory → ListCache → Lists
+lists_in dir cache number = unwrap_or (get nat_eq cache number) (stored_list dir number)
 
 -- before the first line
 pub record Begins (taken : Taken) : Type 0 where
-  pub kept : (n : ℕ) → get nat_eq taken.kept n ≡ None
+  pub cache : (n : ℕ) → get nat_eq taken.cache n ≡ None
   pub lines : taken.lines ≡ 0
   pub messages : taken.messages ≡ 0
 
 -- what lines give, where others before them were taken
 abbrev pub from : Directory → Taken → List (List ℕ) → Result (List Message) GrantFault
-from dir taken lines = messages_from dir (lists_in dir taken.kept) (suc taken.lines) (suc taken.messages) lines
+from dir taken lines = messages_from dir (lists_in dir taken.cache) (suc taken.lines) (suc taken.messages) lines
 
 -- what a text gives then
 abbrev pub left : Directory → Taken → List ℕ → Result (List Message) GrantFault

@@ -28,8 +28,8 @@
 
 mod change;
 mod fault;
-mod kept;
 mod lines;
+mod list_cache;
 mod messages;
 mod next;
 mod steps;

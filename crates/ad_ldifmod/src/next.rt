@@ -5,9 +5,9 @@ ghost use Rattle.ad_ldifmod.specs.Lines.{most_bytes};
 ghost use Rattle.ad_ldifmod.specs.Grants.{is_memory};
 ghost use Rattle.ad_ldifmod.specs.Taken.{Begins, left, HasRoom, IsNext, IsTaken, IsFaulty};
 
-use crate::fault::{GrantFault, Stop};
-use crate::kept::Kept;
+use crate::fault::{GrantFault, Refusal};
 use crate::lines::{first_line, says_nothing};
+use crate::list_cache::ListCache;
 use crate::steps::message_by;
 use ad_dir::Dir;
 use ad_ldap::Message;
@@ -18,7 +18,7 @@ use std::collections::HashMap;
 /// these were.
 #[derive(Drop)]
 pub struct Taken {
-    pub(crate) kept: Kept,
+    pub(crate) cache: ListCache,
     pub(crate) lines: u32,
     pub(crate) messages: u32,
 }
@@ -29,7 +29,7 @@ impl Taken {
         ensures { Begins result }
     {
         Taken {
-            kept: HashMap::new(alloc),
+            cache: HashMap::new(alloc),
             lines: 0,
             messages: 0,
         }
@@ -53,16 +53,16 @@ fn take_line(
         return Ok(None);
     }
     let id = taken.messages + 1;
-    match message_by(alloc, &mut taken.kept, dir, id, line) {
+    match message_by(alloc, &mut taken.cache, dir, id, line) {
         Ok(message) => {
             taken.messages = id;
             Ok(Some(message))
         }
-        Err(Stop::Bad(kind)) => Err(GrantFault::Bad {
+        Err(Refusal::Bad(kind)) => Err(GrantFault::Bad {
             line: taken.lines,
             kind,
         }),
-        Err(Stop::Memory) => Err(GrantFault::Memory),
+        Err(Refusal::Memory) => Err(GrantFault::Memory),
     }
 }
 
