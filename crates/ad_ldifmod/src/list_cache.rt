@@ -7,7 +7,7 @@ ghost use Rattle.std.specs.HashMap.{get};
 ghost use Rattle.ad_ids.specs.SidValue.{same_sid};
 ghost use Rattle.ad_dir_model.specs.Objects.{is_live};
 ghost use Rattle.ad_ldifmod.specs.Lists.{stored_list, changed, changed_list};
-ghost use Rattle.ad_ldifmod.specs.Steps.{lists_in};
+ghost use Rattle.ad_ldifmod.specs.Taken.{lists_in};
 
 use crate::change::Change;
 use ad_acl::{Ace, Aces};
@@ -18,7 +18,7 @@ use std::alloc::{AllocError, Global};
 use std::collections::HashMap;
 
 /// The lists that lines have changed so far.
-pub(crate) type Kept = HashMap<u32, AceList>;
+pub(crate) type ListCache = HashMap<u32, AceList>;
 
 // The list of a live object as it is stored, without inherited entries.
 fn stored_list(alloc: Global, dir: &Dir, number: u32) -> Result<AceList, AllocError>
@@ -84,52 +84,57 @@ fn changed_list(list: AceList, change: &Change) -> Result<AceList, AllocError>
 }
 
 // Takes the list of a live object from those that are kept, or as it is stored.
-fn list_taken(alloc: Global, kept: &mut Kept, dir: &Dir, number: u32) -> Result<AceList, AllocError>
+fn list_taken(
+    alloc: Global,
+    cache: &mut ListCache,
+    dir: &Dir,
+    number: u32,
+) -> Result<AceList, AllocError>
     requires { is_live dir.now.objects number ≡ true }
-    ensures list { IfOk result (λ list. list ≡ lists_in dir.now kept.old number) }
-    ensures others { OnOk result ((n : ℕ) → n ≢ number → lists_in dir.now kept.new n
-        ≡ lists_in dir.now kept.old n) }
+    ensures list { IfOk result (λ list. list ≡ lists_in dir.now cache.old number) }
+    ensures others { OnOk result ((n : ℕ) → n ≢ number → lists_in dir.now cache.new n
+        ≡ lists_in dir.now cache.old n) }
 {
-    match kept.remove(&number) {
+    match cache.remove(&number) {
         Some(list) => Ok(list),
         None => stored_list(alloc, dir, number),
     }
 }
 
-fn keep(kept: &mut Kept, number: u32, list: AceList) -> Result<(), AllocError>
-    ensures here { OnOk result (get nat_eq kept.new number ≡ Some list) }
-    ensures others { OnOk result ((n : ℕ) → n ≢ number → get nat_eq kept.new n
-        ≡ get nat_eq kept.old n) }
+fn keep(cache: &mut ListCache, number: u32, list: AceList) -> Result<(), AllocError>
+    ensures here { OnOk result (get nat_eq cache.new number ≡ Some list) }
+    ensures others { OnOk result ((n : ℕ) → n ≢ number → get nat_eq cache.new n
+        ≡ get nat_eq cache.old n) }
 {
-    kept.insert(number, list)?;
+    cache.insert(number, list)?;
     Ok(())
 }
 
 /// Changes the list of a live object.
 pub(crate) fn change_list(
     alloc: Global,
-    kept: &mut Kept,
+    cache: &mut ListCache,
     dir: &Dir,
     number: u32,
     change: &Change,
 ) -> Result<(), AllocError>
     requires { is_live dir.now.objects number ≡ true }
-    ensures here { OnOk result (get nat_eq kept.new number
-        ≡ Some (changed_list change.now (lists_in dir.now kept.old number))) }
-    ensures others { OnOk result ((n : ℕ) → n ≢ number → lists_in dir.now kept.new n
-        ≡ lists_in dir.now kept.old n) }
+    ensures here { OnOk result (get nat_eq cache.new number
+        ≡ Some (changed_list change.now (lists_in dir.now cache.old number))) }
+    ensures others { OnOk result ((n : ℕ) → n ≢ number → lists_in dir.now cache.new n
+        ≡ lists_in dir.now cache.old n) }
 {
-    let list = list_taken(alloc, kept, dir, number)?;
+    let list = list_taken(alloc, cache, dir, number)?;
     let list = changed_list(list, change)?;
-    keep(kept, number, list)
+    keep(cache, number, list)
 }
 
 /// The list of an object whose list is kept.
-pub(crate) fn kept_list(kept: &Kept, number: u32) -> &AceList
-    requires { is_some (get nat_eq kept.now number) ≡ true }
-    ensures { get nat_eq kept.entry.now number ≡ Some result.now }
+pub(crate) fn cached_list(cache: &ListCache, number: u32) -> &AceList
+    requires { is_some (get nat_eq cache.now number) ≡ true }
+    ensures { get nat_eq cache.entry.now number ≡ Some result.now }
 {
-    match kept.get(&number) {
+    match cache.get(&number) {
         Some(list) => list,
         None => unreachable!(),
     }
