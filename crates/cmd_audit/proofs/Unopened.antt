@@ -5,9 +5,9 @@ use Rattle.site_io.specs.Counts.{HasRisen}
 use Rattle.site_io.specs.Outside.{OnlyLooks}
 use Rattle.site_io.specs.declared.source.Source.{Ghosts as SourceGhosts}
 use Rattle.site_io.specs.declared.site.Site.{Ghosts as SiteGhosts}
-use Rattle.ad_engine.specs.Opening.{Refuses, is_outside, IsOpenedAs}
-use Rattle.ad_engine.specs.declared.fault.OpenFault.{OpenFault}
-use Rattle.ad_engine.specs.declared.fault.OpenFault.TheVariants as fault
+use Rattle.ad_engine_store.specs.Opening.{Refuses, is_outside, IsOpenedAs}
+use Rattle.ad_engine_store.specs.declared.fault.OpenFault.{OpenFault}
+use Rattle.ad_engine_store.specs.declared.fault.OpenFault.TheVariants as fault
 use Rattle.cmd_call.specs.declared.outcome.Outcome.TheVariants.{NoStore, SiteFailed, NoMemory}
 use Rattle.cmd_call.proofs.Moments.{looks_keep}
 use Rattle.cmd_store.proofs.Refusing.{never_refused, inside}

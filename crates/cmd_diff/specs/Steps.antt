@@ -9,7 +9,7 @@ use Rattle.cmd_call.specs.declared.outcome.Outcome.{Outcome}
 use Rattle.cmd_call.specs.declared.outcome.Outcome.TheVariants.{NoMemory}
 use Rattle.cmd_call.specs.Store.{SaysUnless}
 use Rattle.cmd_store.specs.EngineWords.{Refuses, OpenFault}
-use Rattle.ad_engine.specs.Opening.{is_outside}
+use Rattle.ad_engine_store.specs.Opening.{is_outside}
 use Rattle.cmd_store.specs.OpenFaults.{Site}
 use Rattle.cmd_store.specs.Answered.{outcome_of}
 use Rattle.cmd_store.specs.Refused.{RefusedAs}

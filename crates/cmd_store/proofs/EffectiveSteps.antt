@@ -11,9 +11,9 @@ use Rattle.ad_dn.specs.Value.{AreRdns}
 use Rattle.ad_dir_model.specs.Directory.{Directory}
 use Rattle.ad_rows_write.specs.Rows.{IsStoreOf}
 use Rattle.ad_dsacls.specs.Effective.{effective_text}
-use Rattle.ad_engine.specs.Opening.{IsOpenedAs}
-use Rattle.ad_engine.specs.declared.fault.OpenFault.{OpenFault}
-use Rattle.ad_engine.specs.declared.fault.OpenFault.TheVariants as fault
+use Rattle.ad_engine_store.specs.Opening.{IsOpenedAs}
+use Rattle.ad_engine_store.specs.declared.fault.OpenFault.{OpenFault}
+use Rattle.ad_engine_store.specs.declared.fault.OpenFault.TheVariants as fault
 use Rattle.cmd_call.specs.Store.{HasFailed, KeepsSlots, SaysUnless}
 use Rattle.cmd_call.specs.declared.outcome.Outcome.{Outcome}
 use Rattle.cmd_call.specs.declared.outcome.Outcome.TheVariants.{Done, NotOfForm, NoCommand, NoStore, NoObject}

@@ -1,8 +1,8 @@
 -- How a command ends where a call on an engine failed.
 use Rattle.std.proofs.Common.{◌≡◌, ◌↔◌, inl, inr, Bool, true, false, sym, ap, subst, Err}
 use Rattle.std.specs.Result.{IsErrOf}
-use Rattle.ad_engine.specs.declared.engine_fault.EngineFault.{EngineFault}
-use Rattle.ad_engine.specs.declared.engine_fault.EngineFault.TheVariants.{Spent, Site}
+use Rattle.ad_engine_store.specs.declared.engine_fault.EngineFault.{EngineFault}
+use Rattle.ad_engine_store.specs.declared.engine_fault.EngineFault.TheVariants.{Spent, Site}
 use Rattle.cmd_call.specs.declared.outcome.Outcome.{Outcome}
 use Rattle.cmd_call.specs.declared.outcome.Outcome.TheVariants.{SiteFailed}
 use Rattle.cmd_store.specs.Failed.{EndsFor}

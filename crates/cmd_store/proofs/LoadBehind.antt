@@ -11,7 +11,7 @@ use Rattle.site_io.specs.declared.source.Source.{Ghosts as SourceGhosts}
 use Rattle.site_io.specs.declared.site.Site.{Ghosts as SiteGhosts}
 use Rattle.ad_dir_model.specs.Directory.{Directory}
 use Rattle.ad_rows_write.specs.Rows.{IsStoreOf}
-use Rattle.ad_engine.specs.declared.fault.OpenFault.TheVariants.{Taken}
+use Rattle.ad_engine_store.specs.declared.fault.OpenFault.TheVariants.{Taken}
 use Rattle.cmd_call.specs.declared.outcome.Outcome.{Outcome}
 use Rattle.cmd_call.specs.declared.outcome.Outcome.TheVariants.{NoStore, SiteFailed}
 use Rattle.cmd_call.specs.Call.{IsTold}

@@ -8,7 +8,7 @@ use Rattle.site_io.specs.declared.site.Site.{Ghosts as SiteGhosts}
 use Rattle.gate_log.proofs.Outside.{looks_touch, touches_on}
 use Rattle.ad_dir_model.specs.Directory.{Directory}
 use Rattle.ad_rows_write.specs.Rows.{IsStoreOf}
-use Rattle.ad_engine.specs.Serving.{LeavesDir}
+use Rattle.ad_engine_store.specs.Serving.{LeavesDir}
 use Rattle.cmd_call.specs.Call.{IsTold}
 use Rattle.cmd_call.specs.Store.{KeepsSlots}
 use Rattle.cmd_call.proofs.Moments.{IsLawful, told_map, looks_keep}

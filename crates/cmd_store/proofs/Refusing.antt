@@ -13,9 +13,9 @@ use Rattle.ad_rows.specs.Refusal.{StandsForNone}
 use Rattle.ad_dir_model.specs.Directory.{Directory}
 use Rattle.ad_rows_write.specs.Rows.{AreRowsOf, IsStoreOf}
 use Rattle.ad_rows.proofs.Once.{one_table, one_store}
-use Rattle.ad_engine.specs.Opening.{Refuses, is_outside, IsOpenedAs}
-use Rattle.ad_engine.specs.declared.fault.OpenFault.{OpenFault}
-use Rattle.ad_engine.specs.declared.fault.OpenFault.TheVariants as fault
+use Rattle.ad_engine_store.specs.Opening.{Refuses, is_outside, IsOpenedAs}
+use Rattle.ad_engine_store.specs.declared.fault.OpenFault.{OpenFault}
+use Rattle.ad_engine_store.specs.declared.fault.OpenFault.TheVariants as fault
 use Rattle.cmd_call.specs.declared.outcome.Outcome.{Outcome}
 use Rattle.cmd_call.specs.declared.outcome.Outcome.TheVariants.{NoStore, SiteFailed, NoMemory}
 use Rattle.cmd_call.specs.Call.{IsTold}

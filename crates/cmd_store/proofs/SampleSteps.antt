@@ -13,7 +13,7 @@ use Rattle.ad_load_records.specs.declared.fault.LoadFault.{LoadFault}
 use Rattle.ad_load_records.specs.declared.fault.LoadFault.TheVariants.{Bad}
 use Rattle.ad_dir_model.specs.Directory.{Directory}
 use Rattle.ad_rows_write.specs.Rows.{IsStoreOf}
-use Rattle.ad_engine.specs.declared.fault.OpenFault.TheVariants.{Taken}
+use Rattle.ad_engine_store.specs.declared.fault.OpenFault.TheVariants.{Taken}
 use Rattle.cmd_call.specs.Call.{IsTold}
 use Rattle.cmd_call.specs.Outcome.{IsEarly, IsOfStore}
 use Rattle.cmd_call.specs.Store.{AreEmpty, IsTaken, KeepsSlots, IsSiteHealthy, HasFailed, Says}

@@ -12,9 +12,9 @@ use Rattle.ad_frames.specs.declared.frame.Frame.{Frame}
 use Rattle.ad_dir_model.specs.Directory.{Directory}
 use Rattle.ad_engine.specs.Answer.{Answered, answer}
 use Rattle.ad_engine.specs.Runs.{no_tokens, after_from, after}
-use Rattle.ad_engine.specs.Serving.{LastsOn}
-use Rattle.ad_engine.specs.Standing.{StandsIn}
-use Rattle.ad_engine.specs.declared.engine.Engine.{Engine}
+use Rattle.ad_engine_store.specs.Serving.{LastsOn}
+use Rattle.ad_engine_store.specs.Standing.{StandsIn}
+use Rattle.ad_engine_store.specs.declared.dir_store.DirStore.{DirStore}
 use Rattle.cmd_call.proofs.Moments.{IsLawful}
 use Rattle.cmd_store.proofs.serving.Runs.{after_none}
 use Rattle.cmd_store.specs.Answers.{outputs_from, outputs}
@@ -84,7 +84,7 @@ take_more frames i x lt is =
 
 module _ {S : Type 0} (site : SiteGhosts S) where
   -- these frames were served, with these answers
-  pub record SoFar (first engine : Engine) (served : List Frame) (answers : List (List ℕ)) (old now : S) : Type 0 where
+  pub record SoFar (first engine : DirStore) (served : List Frame) (answers : List (List ℕ)) (old now : S) : Type 0 where
     pub dir_is : engine.dir ≡ after first.dir served
     pub tokens_are : engine.tokens ≡ tokens_behind first.dir served
     pub answers_are : answers ≡ outputs first.dir served
@@ -112,7 +112,7 @@ module _ {S : Type 0} (site : SiteGhosts S) where
       by None (Some now) known f g = absurd known
       by (Some held) None known f g = absurd known
 
-  pub none_yet : IsLawful site → (engine : Engine) (x : S) → StandsIn engine (site.reads x) (site.now x) (site.left x)
+  pub none_yet : IsLawful site → (engine : DirStore) (x : S) → StandsIn engine (site.reads x) (site.now x) (site.left x)
       → engine.spent ≡ false → engine.tokens ≡ []
       → SoFar engine engine [] [] x x
   none_yet law engine x stands unspent tokens = record {
@@ -126,7 +126,7 @@ module _ {S : Type 0} (site : SiteGhosts S) where
   }
 
   -- a frame more
-  pub one_more : (first engine behind : Engine) (served : List Frame) (answers : List (List ℕ)) (frame : Frame)
+  pub one_more : (first engine behind : DirStore) (served : List Frame) (answers : List (List ℕ)) (frame : Frame)
       (output : List ℕ) (old x z : S)
       → SoFar first engine served answers old x → IsServed site engine behind frame output x z → TouchesSlots site x z
       → SoFar first behind (served ++ frame ∷ []) (answers ++ output ∷ []) old z
@@ -148,7 +148,7 @@ module _ {S : Type 0} (site : SiteGhosts S) where
         outside = touches_on site old x z so_far.outside touches;
       }
 
-  pub all_served : (first engine : Engine) (frames : List Frame) (answers : List (List ℕ)) (old now : S)
+  pub all_served : (first engine : DirStore) (frames : List Frame) (answers : List (List ℕ)) (old now : S)
       → SoFar first engine frames answers old now
       → AreServed site first engine frames answers old now
   all_served first engine frames answers old now so_far = record {

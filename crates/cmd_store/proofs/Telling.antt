@@ -12,9 +12,9 @@ use Rattle.ad_frames.specs.declared.frame.Frame.{Frame}
 use Rattle.ad_dir_model.specs.Directory.{Directory}
 use Rattle.ad_engine.specs.Runs.{after}
 use Rattle.ad_rows_write.specs.Rows.{IsStoreOf}
-use Rattle.ad_engine.specs.Standing.{HoldsDir, StandsIn}
-use Rattle.ad_engine.specs.declared.engine.Engine.{Engine}
-use Rattle.ad_engine.proofs.Opening.{holds_has, store_of}
+use Rattle.ad_engine_store.specs.Standing.{HoldsDir, StandsIn}
+use Rattle.ad_engine_store.specs.declared.dir_store.DirStore.{DirStore}
+use Rattle.ad_engine_store.proofs.Opening.{holds_has, store_of}
 use Rattle.cmd_call.specs.Store.{Emits, EmitsPart, Says}
 use Rattle.cmd_call.specs.declared.outcome.Outcome.{Outcome}
 use Rattle.cmd_call.specs.declared.outcome.Outcome.TheVariants.{Done, NotOfForm, NoCommand, NoStore, NoObject}
@@ -80,7 +80,7 @@ module _ {S : Type 0} (site : SiteGhosts S) where
   }
 
   -- the store represents the directory of the engine
-  stands_for : (engine : Engine) (dir : Directory) (y : S) → engine.dir ≡ dir → StandsIn engine (site.reads y)
+  stands_for : (engine : DirStore) (dir : Directory) (y : S) → engine.dir ≡ dir → StandsIn engine (site.reads y)
       (site.now y) (site.left y) → engine.spent ≡ false
       → IfSome (site.reads y) (λ held. IsStoreOf held dir)
   stands_for engine dir y is stands unspent = told_map (HoldsDir engine) (λ held. IsStoreOf held dir) (site.reads y)
@@ -90,7 +90,7 @@ module _ {S : Type 0} (site : SiteGhosts S) where
       (stands unspent).held
 
   -- the numbers were told, or a prefix of them
-  pub told_numbers : (before behind : Engine) (frames : List Frame) (answers : List (List ℕ)) (text : List ℕ)
+  pub told_numbers : (before behind : DirStore) (frames : List Frame) (answers : List (List ℕ)) (text : List ℕ)
       (x y z : S) (outcome : Outcome)
       → AreServed site before behind frames answers x y → TouchesSlots site x y → text ≡ text_of answers behind.dir
       → Says site y z text Done outcome

@@ -6,8 +6,8 @@ use Rattle.site_io.specs.declared.site.Site.{Ghosts as SiteGhosts}
 use Rattle.ad_dir_model.specs.Directory.{Directory}
 use Rattle.ad_dir.specs.Listing.{descriptor_count}
 use Rattle.ad_rows_write.specs.Rows.{IsStoreOf}
-use Rattle.ad_engine.specs.Opening.{Refuses}
-use Rattle.ad_engine.specs.declared.fault.OpenFault.{OpenFault}
+use Rattle.ad_engine_store.specs.Opening.{Refuses}
+use Rattle.ad_engine_store.specs.declared.fault.OpenFault.{OpenFault}
 use Rattle.cmd_call.specs.declared.outcome.Outcome.{Outcome}
 use Rattle.cmd_call.specs.declared.outcome.Outcome.TheVariants.{Done, NoStore, SiteFailed, NoMemory}
 use Rattle.cmd_call.specs.Call.{IsTold}

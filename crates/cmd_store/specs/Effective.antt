@@ -8,8 +8,8 @@ use Rattle.ad_ids.specs.declared.token.Token.{Token}
 use Rattle.ad_ids.specs.Token.{SpellsToken}
 use Rattle.ad_dir_model.specs.Directory.{Directory}
 use Rattle.ad_dsacls.specs.Effective.{effective_text}
-use Rattle.ad_engine.specs.Opening.{Refuses}
-use Rattle.ad_engine.specs.declared.fault.OpenFault.{OpenFault}
+use Rattle.ad_engine_store.specs.Opening.{Refuses}
+use Rattle.ad_engine_store.specs.declared.fault.OpenFault.{OpenFault}
 use Rattle.cmd_call.specs.declared.outcome.Outcome.{Outcome}
 use Rattle.cmd_call.specs.declared.outcome.Outcome.TheVariants.{Done, NotOfForm, NoStore, NoObject, SiteFailed}
 use Rattle.cmd_call.specs.declared.outcome.Outcome.TheVariants.{NoMemory}

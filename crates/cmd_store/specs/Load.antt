@@ -9,7 +9,7 @@ use Rattle.ad_rows_write.specs.Rows.{IsStoreOf}
 use Rattle.ad_load_records.specs.declared.fault.LoadFault.TheVariants.{Bad}
 use Rattle.ad_load_records.specs.declared.fault.LoadCause.{LoadCause}
 use Rattle.ad_load.specs.Loaded.{loaded}
-use Rattle.ad_engine.specs.declared.fault.OpenFault.TheVariants.{Taken}
+use Rattle.ad_engine_store.specs.declared.fault.OpenFault.TheVariants.{Taken}
 use Rattle.cmd_call.specs.declared.outcome.Outcome.{Outcome}
 use Rattle.cmd_call.specs.declared.outcome.Outcome.TheVariants.{Done, NotOfForm, NoStore, SiteFailed, NoMemory}
 use Rattle.cmd_call.specs.Call.{IsTold}

@@ -8,7 +8,7 @@ use Rattle.site_io.specs.declared.site.Site.{Ghosts as SiteGhosts}
 use Rattle.ad_dir_model.specs.Directory.{Directory}
 use Rattle.ad_dir_model.specs.Soundness.{IsSound}
 use Rattle.ad_rows_write.specs.Rows.{IsStoreOf}
-use Rattle.ad_engine.specs.declared.fault.OpenFault.TheVariants.{Taken}
+use Rattle.ad_engine_store.specs.declared.fault.OpenFault.TheVariants.{Taken}
 use Rattle.cmd_call.specs.declared.outcome.Outcome.{Outcome}
 use Rattle.cmd_call.specs.declared.outcome.Outcome.TheVariants.{Done, NotOfForm, NoStore, SourceFailed, SiteFailed}
 use Rattle.cmd_call.specs.declared.outcome.Outcome.TheVariants.{NoMemory}

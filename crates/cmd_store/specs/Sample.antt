@@ -10,7 +10,7 @@ use Rattle.ad_gen.specs.Ldif.{ldif}
 use Rattle.ad_dir_model.specs.Directory.{Directory}
 use Rattle.ad_engine.specs.Runs.{after}
 use Rattle.ad_rows_write.specs.Rows.{IsStoreOf}
-use Rattle.ad_engine.specs.declared.fault.OpenFault.TheVariants.{Taken}
+use Rattle.ad_engine_store.specs.declared.fault.OpenFault.TheVariants.{Taken}
 use Rattle.cmd_call.specs.Call.{IsTold}
 use Rattle.cmd_call.specs.Outcome.{IsEarly}
 use Rattle.cmd_call.specs.Store.{Emits, EmitsPart, AreEmpty, IsTaken, KeepsSlots, IsSiteHealthy}

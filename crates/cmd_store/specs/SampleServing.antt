@@ -12,10 +12,10 @@ use Rattle.ad_dir_model.specs.Directory.{Directory}
 use Rattle.ad_engine.specs.Answer.{answer}
 use Rattle.ad_engine.specs.Runs.{after}
 use Rattle.ad_rows_write.specs.Rows.{IsStoreOf}
-use Rattle.ad_engine.specs.Serving.{LastsOn}
-use Rattle.ad_engine.specs.Standing.{StandsIn}
-use Rattle.ad_engine.specs.declared.engine.Engine.{Engine}
-use Rattle.ad_engine.specs.declared.fault.OpenFault.TheVariants.{Taken}
+use Rattle.ad_engine_store.specs.Serving.{LastsOn}
+use Rattle.ad_engine_store.specs.Standing.{StandsIn}
+use Rattle.ad_engine_store.specs.declared.dir_store.DirStore.{DirStore}
+use Rattle.ad_engine_store.specs.declared.fault.OpenFault.TheVariants.{Taken}
 use Rattle.cmd_call.specs.Call.{IsTold}
 use Rattle.cmd_call.specs.Outcome.{IsEarly, IsOfStore}
 use Rattle.cmd_call.specs.Store.{Emits, EmitsPart, AreEmpty, IsTaken, KeepsSlots, IsSiteHealthy, HasFailed}
@@ -81,7 +81,7 @@ module _ {S : Type 0} (site : SiteGhosts S) where
       ⊎ (IfSome (site.reads old) IsTaken × EmitsPart (site.emitted old) (site.emitted new) (store_line Taken)))
 
   -- A frame was served.
-  pub record IsServed (before behind : Engine) (frame : Frame) (output : List ℕ) (old new : S) : Type 0 where
+  pub record IsServed (before behind : DirStore) (frame : Frame) (output : List ℕ) (old new : S) : Type 0 where
     pub output_is : output ≡ (answer before.dir before.tokens frame).output
     pub directory : behind.dir ≡ (answer before.dir before.tokens frame).directory
     pub tokens : behind.tokens ≡ (answer before.dir before.tokens frame).tokens
@@ -90,7 +90,7 @@ module _ {S : Type 0} (site : SiteGhosts S) where
     pub lasts : LastsOn site before.dir behind.dir old new
 
   -- All frames were, from an engine on without tokens.
-  pub record AreServed (before behind : Engine) (frames : List Frame) (answers : List (List ℕ)) (old new : S) : Type 0
+  pub record AreServed (before behind : DirStore) (frames : List Frame) (answers : List (List ℕ)) (old new : S) : Type 0
     where
       pub answers_are : answers ≡ outputs before.dir frames
       pub directory : behind.dir ≡ after before.dir frames

@@ -8,9 +8,9 @@ use Rattle.gate_log.specs.Store.{IsOne}
 use Rattle.ad_dir_model.specs.Directory.{Directory}
 use Rattle.ad_dir_model.specs.Steps.{steps, EmptiesAfter}
 use Rattle.ad_rows_write.specs.Rows.{IsStoreOf}
-use Rattle.ad_engine.specs.Opening.{Refuses}
-use Rattle.ad_engine.specs.Settling.{StandsAfterSteps}
-use Rattle.ad_engine.specs.declared.fault.OpenFault.{OpenFault}
+use Rattle.ad_engine_store.specs.Opening.{Refuses}
+use Rattle.ad_engine_store.specs.Settling.{StandsAfterSteps}
+use Rattle.ad_engine_store.specs.declared.fault.OpenFault.{OpenFault}
 use Rattle.cmd_call.specs.declared.outcome.Outcome.{Outcome}
 use Rattle.cmd_call.specs.declared.outcome.Outcome.TheVariants.{Done, NoStore, SiteFailed, NoMemory}
 use Rattle.cmd_call.specs.Call.{IsTold}

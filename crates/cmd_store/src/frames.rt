@@ -2,7 +2,7 @@
 
 ghost use Rattle.std.specs.Prelude.{◌≡◌, [], false};
 ghost use Rattle.site_io.specs.Counts.{HasRisen};
-ghost use Rattle.ad_engine.specs.Standing.{StandsIn};
+ghost use Rattle.ad_engine_store.specs.Standing.{StandsIn};
 ghost use Rattle.cmd_call.specs.Store.{HasFailed};
 ghost use Rattle.cmd_call.specs.declared.outcome.Outcome.TheVariants.{SourceFailed, SiteFailed};
 ghost use Rattle.cmd_store.specs.serving.Does.{ServeDoes};

@@ -2,7 +2,7 @@
 //! becomes one of version 2.
 
 ghost use Rattle.std.specs.Prelude.{◌≡◌, false, IfSome, IfErr, OnOk};
-ghost use Rattle.ad_engine.specs.Standing.{StandsIn};
+ghost use Rattle.ad_engine_store.specs.Standing.{StandsIn};
 ghost use Rattle.cmd_store.specs.Opened.{EachStandsFor};
 ghost use Rattle.cmd_store.specs.Ready.{IsReadySince, IsUnreadySince};
 

@@ -1,7 +1,7 @@
 //! The command `settle`: steps of propagation until nothing is pending.
 
 ghost use Rattle.std.specs.Prelude.{◌≡◌, false, [], IfOk};
-ghost use Rattle.ad_engine.specs.Standing.{StandsIn};
+ghost use Rattle.ad_engine_store.specs.Standing.{StandsIn};
 ghost use Rattle.cmd_call.specs.Store.{HasFailed, SaysUnless};
 ghost use Rattle.cmd_call.specs.declared.outcome.Outcome.TheVariants.{Done, SiteFailed};
 ghost use Rattle.cmd_store.specs.Settle.{SettleDoes, IsSettledReady, IsSettledSince, steps_line};

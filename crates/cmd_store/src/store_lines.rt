@@ -1,7 +1,7 @@
 //! The lines for slots that represent no directory.
 
 ghost use Rattle.std.specs.Prelude.{◌≡◌, ◌++◌, IfOk, OnOk};
-ghost use Rattle.ad_engine.specs.declared.fault.OpenFault.TheVariants as Fault;
+ghost use Rattle.ad_engine_store.specs.declared.fault.OpenFault.TheVariants as Fault;
 ghost use Rattle.cmd_store.specs.Lines.{store_line};
 
 use ad_engine::OpenFault;

@@ -17,9 +17,9 @@ use Rattle.ad_rows.proofs.Once.{one_store}
 use Rattle.ad_frames.specs.declared.frame.Frame.{Frame}
 use Rattle.ad_frames.specs.Frames.{End, Whole, Over, Bad, frames_of}
 use Rattle.ad_engine.specs.Runs.{out, after}
-use Rattle.ad_engine.specs.Standing.{HoldsDir}
-use Rattle.ad_engine.specs.declared.engine.Engine.{Engine}
-use Rattle.ad_engine.proofs.Opening.{holds_has, store_of}
+use Rattle.ad_engine_store.specs.Standing.{HoldsDir}
+use Rattle.ad_engine_store.specs.declared.dir_store.DirStore.{DirStore}
+use Rattle.ad_engine_store.proofs.Opening.{holds_has, store_of}
 use Rattle.cmd_call.specs.declared.outcome.Outcome.{Outcome}
 use Rattle.cmd_call.specs.declared.outcome.Outcome.TheVariants.{Done, NotOfForm, TooMany, SourceFailed, SiteFailed}
 use Rattle.cmd_call.specs.declared.outcome.Outcome.TheVariants.{NoMemory}
@@ -99,7 +99,7 @@ module _ {S : Type 0} (site : SiteGhosts S) where
     pub moments : AllMoments site synced dir frames old new
     pub part : EmitsPart (site.emitted old) (site.emitted new) (out dir frames)
 
-  pub leaves_served : (dir : Directory) (served : List Frame) (engine : Engine) (old new : S)
+  pub leaves_served : (dir : Directory) (served : List Frame) (engine : DirStore) (old new : S)
       → Serving site dir served engine old new → Leaves dir served old new
   leaves_served dir served engine old new so_far = record {
     store = so_far.store;
@@ -109,7 +109,7 @@ module _ {S : Type 0} (site : SiteGhosts S) where
     part = part_whole (site.emitted old) (site.emitted new) (out dir served) so_far.emitted;
   }
 
-  pub leaves_amid : (dir : Directory) (served : List Frame) (engine behind : Engine) (frame : Frame) (old x z : S)
+  pub leaves_amid : (dir : Directory) (served : List Frame) (engine behind : DirStore) (frame : Frame) (old x z : S)
       (result : Result (Unit {0}) Outcome)
       → Serving site dir served engine old x → AnswersFrame site engine behind frame x z result
       → Leaves dir (served ++ frame ∷ []) old z
@@ -126,13 +126,13 @@ module _ {S : Type 0} (site : SiteGhosts S) where
   }
 
   -- the store represents the directory after the frames
-  pub stands_for : (engine : Engine) (dir : Directory) (r : Option Images) → engine.dir ≡ dir
+  pub stands_for : (engine : DirStore) (dir : Directory) (r : Option Images) → engine.dir ≡ dir
       → IfSome r (HoldsDir engine) → IsSound engine.dir → IfSome r (λ held. IsStoreOf held dir)
   stands_for engine dir r is holds sound = told_map (HoldsDir engine) (λ held. IsStoreOf held dir) r
       (λ held has. subst (IsStoreOf held) is
       (store_of engine.dir held has.table has.rows sound (holds_has engine.store held has.table has.holds))) holds
 
-  pub answers_of : (dir : Directory) (served : List Frame) (engine : Engine) (old new : S) → Serving site dir served
+  pub answers_of : (dir : Directory) (served : List Frame) (engine : DirStore) (old new : S) → Serving site dir served
       engine old new → Answers site dir served old new
   answers_of dir served engine old new so_far =
       let now = so_far.stands so_far.unspent in
@@ -206,7 +206,7 @@ module _ {I S : Type 0} (source : SourceGhosts I) (site : SiteGhosts S) where
       × ((frames_of input).frames ≡ frames ++ others)
   all_front end frames input all = ([], all.0 ∙ sym (append-nil frames))
 
-  served_of : (end : End) (from to : I) (dir : Directory) (served : List Frame) (engine : Engine) (old new : S)
+  served_of : (end : End) (from to : I) (dir : Directory) (served : List Frame) (engine : DirStore) (old new : S)
       → Serving site dir served engine old new
       → IfSome (source.rest from) (AreAll end served) → IsServed source site end from to old new
   served_of end from to dir served engine old new so_far all = record {
@@ -226,7 +226,7 @@ module _ {I S : Type 0} (source : SourceGhosts I) (site : SiteGhosts S) where
       (λ input is have. ap outcome_at (sym have.1 ∙ is)) ends all
 
   -- the whole was read
-  pub ends_whole : (from to : I) (dir : Directory) (served : List Frame) (engine : Engine) (old new : S)
+  pub ends_whole : (from to : I) (dir : Directory) (served : List Frame) (engine : DirStore) (old new : S)
       → Serving site dir served engine old new
       → IfSome (source.rest from) (AreAll Whole served) → IsReadOut source site from to → ServeDoes source site from
       to old new Done
@@ -246,7 +246,7 @@ module _ {I S : Type 0} (source : SourceGhosts I) (site : SiteGhosts S) where
   }
 
   -- what is left begins with no frame
-  pub ends_bad : (from to : I) (dir : Directory) (served : List Frame) (engine : Engine) (old new : S)
+  pub ends_bad : (from to : I) (dir : Directory) (served : List Frame) (engine : DirStore) (old new : S)
       → Serving site dir served engine old new
       → IfSome (source.rest from) (AreAll Bad served) → ServeDoes source site from to old new NotOfForm
   ends_bad from to dir served engine old new so_far all = record {
@@ -265,7 +265,7 @@ module _ {I S : Type 0} (source : SourceGhosts I) (site : SiteGhosts S) where
   }
 
   -- as many frames were answered as may be
-  pub ends_over : (from to : I) (dir : Directory) (served : List Frame) (engine : Engine) (old new : S)
+  pub ends_over : (from to : I) (dir : Directory) (served : List Frame) (engine : DirStore) (old new : S)
       → Serving site dir served engine old new
       → IfSome (source.rest from) (AreAll Over served) → ServeDoes source site from to old new TooMany
   ends_over from to dir served engine old new so_far all = record {
@@ -286,7 +286,7 @@ module _ {I S : Type 0} (source : SourceGhosts I) (site : SiteGhosts S) where
   -- ---- it is cut off
 
   -- the source failed
-  pub ends_cut : (from to : I) (dir : Directory) (served : List Frame) (engine : Engine) (old new : S)
+  pub ends_cut : (from to : I) (dir : Directory) (served : List Frame) (engine : DirStore) (old new : S)
       → Serving site dir served engine old new
       → Fronts served (source.rest from)
       → BothTold (source.rest from) (source.rest to) (λ input left. (text : List ℕ) × (input ≡ text ++ left)

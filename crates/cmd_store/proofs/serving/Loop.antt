@@ -15,7 +15,7 @@ use Rattle.ad_frames.specs.Limits.{max_frames}
 use Rattle.ad_frames.specs.Reading.{frame_at, next_of}
 use Rattle.ad_frames.specs.Source.{ReadsSource, IsCutShort}
 use Rattle.ad_frames.proofs.SourceSteps.{told_more, told_then}
-use Rattle.ad_engine.specs.declared.engine.Engine.{Engine}
+use Rattle.ad_engine_store.specs.declared.dir_store.DirStore.{DirStore}
 use Rattle.cmd_call.specs.declared.outcome.Outcome.{Outcome}
 use Rattle.cmd_call.specs.declared.outcome.Outcome.TheVariants.{Done, NotOfForm, NoCommand, NoStore, NoObject}
 use Rattle.cmd_call.specs.declared.outcome.Outcome.TheVariants.{TooMany, SourceFailed, SiteFailed, NoMemory}
@@ -73,7 +73,7 @@ read_next served frame more r0 r1 r2 read next =
 
 module _ {I S : Type 0} (source : SourceGhosts I) (site : SiteGhosts S) where
   -- before each frame, of which so many more may come
-  pub record IsServing (from to : I) (old new : S) (engine : Engine) (more : ℕ) : Type 0 where
+  pub record IsServing (from to : I) (old new : S) (engine : DirStore) (more : ℕ) : Type 0 where
     pub dir : Directory
     pub served : List Frame
     pub serving : Serving site dir served engine old new
@@ -81,7 +81,7 @@ module _ {I S : Type 0} (source : SourceGhosts I) (site : SiteGhosts S) where
     pub faults : source.faults from ≤ source.faults to
 
   -- a frame was answered
-  pub served_one : (from to next : I) (old x z : S) (engine behind : Engine) (frame : Frame) (more less : ℕ)
+  pub served_one : (from to next : I) (old x z : S) (engine behind : DirStore) (frame : Frame) (more less : ℕ)
       (result : Result (Unit {0}) Outcome) → more ≡ suc less
       → IsServing from to old x engine more → ReadsSource (source.rest to) (source.rest next) (Ok (Some frame))
       next_of → source.faults to ≤ source.faults next
@@ -99,7 +99,7 @@ module _ {I S : Type 0} (source : SourceGhosts I) (site : SiteGhosts S) where
 
   -- ---- the input ended
 
-  pub ended_none : (from to next : I) (old new : S) (engine : Engine) (more : ℕ) → IsServing from to old new engine more
+  pub ended_none : (from to next : I) (old new : S) (engine : DirStore) (more : ℕ) → IsServing from to old new engine more
       → ReadsSource {X = Option Frame} (source.rest to) (source.rest next) (Ok None) next_of
       → Ended source site from next old new Done
   ended_none from to next old new engine more so_far none =
@@ -119,7 +119,7 @@ module _ {I S : Type 0} (source : SourceGhosts I) (site : SiteGhosts S) where
 
   -- ---- there is no next frame
 
-  bad_frame : (from to next : I) (old new : S) (engine : Engine) (more less : ℕ) (d : FrameFault) → more ≡ suc less
+  bad_frame : (from to next : I) (old new : S) (engine : DirStore) (more less : ℕ) (d : FrameFault) → more ≡ suc less
       → IsServing from to old new engine more
       → BothTold (source.rest to) (source.rest next) (λ rest behind. next_of rest ≡ Err d)
       → Ended source site from next old new NotOfForm
@@ -132,7 +132,7 @@ module _ {I S : Type 0} (source : SourceGhosts I) (site : SiteGhosts S) where
     site_failed = λ no. absurd cc;
   }
 
-  pub ended_fault : (from to next : I) (old new : S) (engine : Engine) (more less : ℕ) (d : FrameFault) → more
+  pub ended_fault : (from to next : I) (old new : S) (engine : DirStore) (more less : ℕ) (d : FrameFault) → more
       ≡ suc less → IsServing from to old new engine more
       → ReadsSource {X = Option Frame} (source.rest to) (source.rest next) (Err d) next_of
       → (d ≡ fault.Source → IsCutShort (source.rest to) (source.rest next) frame_at)
@@ -171,14 +171,14 @@ module _ {I S : Type 0} (source : SourceGhosts I) (site : SiteGhosts S) where
 
   -- ---- amid a frame
 
-  failed_from : (dir : Directory) (served : List Frame) (engine : Engine) (old x z : S) → Serving site dir served
+  failed_from : (dir : Directory) (served : List Frame) (engine : DirStore) (old x z : S) → Serving site dir served
       engine old x → HasFailed site x z → HasFailed site old z
   failed_from dir served engine old x z so_far (inl slots)
       = inl (rises_from (site.slot_faults old) (site.slot_faults x) (site.slot_faults z) so_far.slot_faults slots)
   failed_from dir served engine old x z so_far (inr output)
       = inr (rises_from (site.out_faults old) (site.out_faults x) (site.out_faults z) so_far.out_faults output)
 
-  pub ended_amid : (from to next : I) (old x z : S) (engine behind : Engine) (frame : Frame) (more less : ℕ)
+  pub ended_amid : (from to next : I) (old x z : S) (engine behind : DirStore) (frame : Frame) (more less : ℕ)
       (result : Result (Unit {0}) Outcome) (outcome : Outcome) → more ≡ suc less
       → IsServing from to old x engine more → ReadsSource (source.rest to) (source.rest next) (Ok (Some frame)) next_of
       → AnswersFrame site engine behind frame x z result → IsOfSite outcome
@@ -219,7 +219,7 @@ module _ {I S : Type 0} (source : SourceGhosts I) (site : SiteGhosts S) where
 
   -- ---- after the last frame that may be
 
-  pub ended_last : (from to next : I) (old new : S) (engine : Engine) (more : ℕ) (outcome : Outcome) → more ≡ 0
+  pub ended_last : (from to next : I) (old new : S) (engine : DirStore) (more : ℕ) (outcome : Outcome) → more ≡ 0
       → IsServing from to old new engine more
       → IsEnd (source.rest to) (source.rest next) (source.faults to) (source.faults next) outcome
       → Ended source site from next old new outcome

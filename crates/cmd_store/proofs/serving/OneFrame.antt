@@ -11,8 +11,8 @@ use Rattle.site_io.specs.declared.site.Site.{Ghosts as SiteGhosts}
 use Rattle.ad_dir_model.specs.Directory.{Directory}
 use Rattle.ad_rows_write.specs.Rows.{IsStoreOf}
 use Rattle.ad_frames.specs.declared.frame.Frame.{Frame}
-use Rattle.ad_engine.specs.Serving.{LeavesOldOrNew, LastsOn}
-use Rattle.ad_engine.specs.declared.engine.Engine.{Engine}
+use Rattle.ad_engine_store.specs.Serving.{LeavesOldOrNew, LastsOn}
+use Rattle.ad_engine_store.specs.declared.dir_store.DirStore.{DirStore}
 use Rattle.cmd_call.specs.Store.{Emits, EmitsPart}
 use Rattle.cmd_call.proofs.Moments.{told_map, IsLawful, says_nothing}
 use Rattle.cmd_store.specs.Opened.{EachStandsFor}
@@ -56,14 +56,14 @@ not_so true P so never = absurd (never (so refl))
 
 module _ {S : Type 0} (site : SiteGhosts S) where
   -- what crashes leave amid the answer, where each left the directory before
-  abbrev pub Amid : Engine → Frame → S → S → Type 0
+  abbrev pub Amid : DirStore → Frame → S → S → Type 0
   Amid engine frame x z = IfSome (site.reads x) (λ held. EachStandsFor site engine.dir x → (said : List ℕ)
       → site.emitted x ≡ Some said
       → (t : ℕ) (images : Images) (text : List ℕ) → site.now x ≤ t → site.left z t images text
       → IsAmid engine frame said images text)
 
   -- while it is served
-  pub amid_served : IsLawful site → (engine : Engine) (frame : Frame) (x y : S) → TouchesSlots site x y
+  pub amid_served : IsLawful site → (engine : DirStore) (frame : Frame) (x y : S) → TouchesSlots site x y
       → LeavesOldOrNew engine.dir (answered_by engine frame).directory (site.reads x) (site.now x) (site.now y)
       (site.left x) (site.left y) → Amid engine frame x y
   amid_served law engine frame x y touches leaves =
@@ -75,7 +75,7 @@ module _ {S : Type 0} (site : SiteGhosts S) where
       (by.each t images text le left)) leaves
 
   -- and while the answer is emitted
-  pub amid_emitted : IsLawful site → (engine behind : Engine) (frame : Frame) (x y z : S) (bytes : List ℕ)
+  pub amid_emitted : IsLawful site → (engine behind : DirStore) (frame : Frame) (x y z : S) (bytes : List ℕ)
       → TouchesSlots site x y
       → behind.dir ≡ (answered_by engine frame).directory → bytes ≡ (answered_by engine frame).output
       → LastsOn site engine.dir behind.dir x y

@@ -15,7 +15,7 @@ use Rattle.ad_dir_model.proofs.SecondRun.{run_done, run_nothing}
 use Rattle.ad_frames.specs.declared.frame.Frame.{Frame}
 use Rattle.ad_frames.specs.declared.frame.FrameBody.TheVariants as body
 use Rattle.ad_engine.specs.Answer.{answer, body_answered, ran}
-use Rattle.ad_engine.specs.Output.{run_output}
+use Rattle.ad_engine_answer.specs.Output.{run_output}
 use Rattle.ad_engine.specs.Runs.{after_from, after}
 use Rattle.cmd_store.specs.serving.Reached.{after_first, IsFrozen, IsNoRun, Reaches}
 use Rattle.cmd_store.proofs.serving.Runs.{tokens_behind, after_push}

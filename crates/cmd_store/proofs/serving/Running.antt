@@ -14,8 +14,8 @@ use Rattle.ad_rows_write.specs.Rows.{IsStoreOf}
 use Rattle.ad_frames.specs.declared.frame.Frame.{Frame}
 use Rattle.ad_engine.specs.Answer.{answer}
 use Rattle.ad_engine.specs.Runs.{out, after}
-use Rattle.ad_engine.specs.Standing.{StandsIn}
-use Rattle.ad_engine.specs.declared.engine.Engine.{Engine}
+use Rattle.ad_engine_store.specs.Standing.{StandsIn}
+use Rattle.ad_engine_store.specs.declared.dir_store.DirStore.{DirStore}
 use Rattle.cmd_call.specs.declared.outcome.Outcome.{Outcome}
 use Rattle.cmd_call.specs.Store.{Emits}
 use Rattle.cmd_call.proofs.Moments.{told_map, goes_on_on, IsLawful, says_nothing}
@@ -41,7 +41,7 @@ module _ {S : Type 0} (site : SiteGhosts S) where
       → AtMoment dir frames said images text)
 
   -- These frames were served and answered.
-  pub record Serving (dir : Directory) (served : List Frame) (engine : Engine) (old new : S) : Type 0 where
+  pub record Serving (dir : Directory) (served : List Frame) (engine : DirStore) (old new : S) : Type 0 where
     pub store : IfSome (site.reads old) (λ held. IsStoreOf held dir)
     pub dir_is : engine.dir ≡ after dir served
     pub tokens_are : engine.tokens ≡ tokens_behind dir served
@@ -67,7 +67,7 @@ module _ {S : Type 0} (site : SiteGhosts S) where
   emits_none None (Some b) text none same = absurd same
   emits_none (Some a) None text none same = absurd same
 
-  sound_at : (engine : Engine) (x : S) → StandsIn engine (site.reads x) (site.now x) (site.left x) → engine.spent
+  sound_at : (engine : DirStore) (x : S) → StandsIn engine (site.reads x) (site.now x) (site.left x) → engine.spent
       ≡ false → IsSound engine.dir
   sound_at engine x stands unspent = (stands unspent).sound
 
@@ -93,7 +93,7 @@ module _ {S : Type 0} (site : SiteGhosts S) where
       left) opening.lasts
 
   -- and made ready
-  pub serving_none : IsLawful site → (engine : Engine) (x y : S) → IsReady site engine.dir x y
+  pub serving_none : IsLawful site → (engine : DirStore) (x y : S) → IsReady site engine.dir x y
       → StandsIn engine (site.reads y) (site.now y) (site.left y) → engine.spent ≡ false → engine.tokens ≡ []
       → Serving engine.dir [] engine x y
   serving_none law engine x y ready stands unspent tokens =
@@ -121,24 +121,24 @@ module _ {S : Type 0} (site : SiteGhosts S) where
 
   -- ---- one more, or a part of it
 
-  answer_is : (dir : Directory) (served : List Frame) (engine : Engine) (frame : Frame) → engine.dir
+  answer_is : (dir : Directory) (served : List Frame) (engine : DirStore) (frame : Frame) → engine.dir
       ≡ after dir served → engine.tokens ≡ tokens_behind dir served
       → answered_by engine frame ≡ answer (after dir served) (tokens_behind dir served) frame
   answer_is dir served engine frame is tokens = ap (λ (d : Directory). answer d engine.tokens frame) is
       ∙ ap (λ ts. answer (after dir served) ts frame) tokens
 
-  pub output_is : (dir : Directory) (served : List Frame) (engine : Engine) (frame : Frame) → engine.dir
+  pub output_is : (dir : Directory) (served : List Frame) (engine : DirStore) (frame : Frame) → engine.dir
       ≡ after dir served → engine.tokens ≡ tokens_behind dir served
       → (answered_by engine frame).output ≡ output_next dir served frame
   output_is dir served engine frame is tokens = ap (λ a. a.output) (answer_is dir served engine frame is tokens)
 
-  directory_is : (dir : Directory) (served : List Frame) (engine : Engine) (frame : Frame) → engine.dir
+  directory_is : (dir : Directory) (served : List Frame) (engine : DirStore) (frame : Frame) → engine.dir
       ≡ after dir served → engine.tokens ≡ tokens_behind dir served
       → (answered_by engine frame).directory ≡ after dir (served ++ frame ∷ [])
   directory_is dir served engine frame is tokens = ap (λ a. a.directory) (answer_is dir served engine frame is tokens)
       ∙ sym (after_push dir served frame)
 
-  tokens_is : (dir : Directory) (served : List Frame) (engine : Engine) (frame : Frame) → engine.dir
+  tokens_is : (dir : Directory) (served : List Frame) (engine : DirStore) (frame : Frame) → engine.dir
       ≡ after dir served → engine.tokens ≡ tokens_behind dir served
       → (answered_by engine frame).tokens ≡ tokens_behind dir (served ++ frame ∷ [])
   tokens_is dir served engine frame is tokens = ap (λ a. a.tokens) (answer_is dir served engine frame is tokens)
@@ -163,7 +163,7 @@ module _ {S : Type 0} (site : SiteGhosts S) where
   known_both P Q R (Some a) None known f p q = absurd known
 
   -- a moment amid the frame
-  moment_amid : (dir : Directory) (served : List Frame) (engine : Engine) (frame : Frame) (said : List ℕ)
+  moment_amid : (dir : Directory) (served : List Frame) (engine : DirStore) (frame : Frame) (said : List ℕ)
       (images : Images) (text : List ℕ)
       → engine.dir ≡ after dir served → engine.tokens ≡ tokens_behind dir served → AreSound dir served
       → IsAmid engine frame (said ++ out dir served) images text
@@ -180,7 +180,7 @@ module _ {S : Type 0} (site : SiteGhosts S) where
       )
 
   -- whatever comes of the frame
-  pub moments_more : (dir : Directory) (served : List Frame) (engine behind : Engine) (frame : Frame) (old x z : S)
+  pub moments_more : (dir : Directory) (served : List Frame) (engine behind : DirStore) (frame : Frame) (old x z : S)
       (result : Result (Unit {0}) Outcome) → (so_far : Serving dir served engine old x)
       → AnswersFrame site engine behind frame x z result → AllMoments so_far.synced dir (served ++ frame ∷ []) old z
   moments_more dir served engine behind frame old x z result so_far answers =
@@ -218,7 +218,7 @@ module _ {S : Type 0} (site : SiteGhosts S) where
   emits_more (Some a) (Some b) None text more whole is first second = absurd second
 
   -- the frame was answered
-  pub serving_more : (dir : Directory) (served : List Frame) (engine behind : Engine) (frame : Frame) (old x z : S)
+  pub serving_more : (dir : Directory) (served : List Frame) (engine behind : DirStore) (frame : Frame) (old x z : S)
       (result : Result (Unit {0}) Outcome) → Serving dir served engine old x
       → AnswersFrame site engine behind frame x z result → IsAnswered site engine behind frame x z
       → Serving dir (served ++ frame ∷ []) behind old z

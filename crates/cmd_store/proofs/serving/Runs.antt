@@ -8,7 +8,7 @@ use Rattle.ad_frames.specs.declared.frame.Frame.{Frame}
 use Rattle.ad_frames.specs.declared.frame.FrameBody.{FrameBody}
 use Rattle.ad_frames.specs.declared.frame.FrameBody.TheVariants as body
 use Rattle.ad_engine.specs.Answer.{answer, body_answered}
-use Rattle.ad_engine.specs.Output.{output_frame}
+use Rattle.ad_engine_answer.specs.Output.{output_frame}
 use Rattle.ad_engine.specs.Runs.{no_tokens, out_from, after_from, out, after}
 use Rattle.cmd_store.specs.serving.Reached.{out_of_first}
 

@@ -8,8 +8,8 @@ use Rattle.ad_rows_write.specs.Rows.{IsStoreOf}
 use Rattle.ad_frames.specs.Frames.{End, Whole, Over, Bad, frames_of}
 use Rattle.ad_frames.specs.declared.frame.Frame.{Frame}
 use Rattle.ad_engine.specs.Runs.{out, after}
-use Rattle.ad_engine.specs.Opening.{Refuses, is_outside}
-use Rattle.ad_engine.specs.declared.fault.OpenFault.{OpenFault}
+use Rattle.ad_engine_store.specs.Opening.{Refuses, is_outside}
+use Rattle.ad_engine_store.specs.declared.fault.OpenFault.{OpenFault}
 use Rattle.cmd_call.specs.declared.outcome.Outcome.{Outcome}
 use Rattle.cmd_call.specs.declared.outcome.Outcome.TheVariants.{Done, NotOfForm, TooMany, NoStore, SourceFailed}
 use Rattle.cmd_call.specs.declared.outcome.Outcome.TheVariants.{SiteFailed, NoMemory}

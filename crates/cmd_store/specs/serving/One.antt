@@ -12,11 +12,11 @@ use Rattle.ad_frames.specs.declared.fault.FrameFault.{FrameFault}
 use Rattle.ad_frames.specs.declared.fault.FrameFault.TheVariants as frame
 use Rattle.ad_frames.specs.declared.frame.Frame.{Frame}
 use Rattle.ad_engine.specs.Answer.{Answered, answer}
-use Rattle.ad_engine.specs.Serving.{LastsOn}
-use Rattle.ad_engine.specs.Standing.{StandsIn}
-use Rattle.ad_engine.specs.declared.engine.Engine.{Engine}
-use Rattle.ad_engine.specs.declared.fault.OpenFault.{OpenFault}
-use Rattle.ad_engine.specs.declared.fault.OpenFault.TheVariants as slots
+use Rattle.ad_engine_store.specs.Serving.{LastsOn}
+use Rattle.ad_engine_store.specs.Standing.{StandsIn}
+use Rattle.ad_engine_store.specs.declared.dir_store.DirStore.{DirStore}
+use Rattle.ad_engine_store.specs.declared.fault.OpenFault.{OpenFault}
+use Rattle.ad_engine_store.specs.declared.fault.OpenFault.TheVariants as slots
 use Rattle.cmd_call.specs.declared.outcome.Outcome.{Outcome}
 use Rattle.cmd_call.specs.declared.outcome.Outcome.TheVariants.{Done, NotOfForm, NoCommand, NoStore, NoObject}
 use Rattle.cmd_call.specs.declared.outcome.Outcome.TheVariants.{TooMany, SourceFailed, SiteFailed, NoMemory}
@@ -60,18 +60,18 @@ IsOfSite SourceFailed = ⊥
 IsOfSite SiteFailed = Unit {0}
 IsOfSite NoMemory = Unit {0}
 
-abbrev pub answered_by : Engine → Frame → Answered
+abbrev pub answered_by : DirStore → Frame → Answered
 answered_by engine frame = answer engine.dir engine.tokens frame
 
 -- A crash leaves the old directory, with nothing emitted of the answer, or the new one, with a prefix of it.
-abbrev pub IsAmid : Engine → Frame → List ℕ → Images → List ℕ → Type 0
+abbrev pub IsAmid : DirStore → Frame → List ℕ → Images → List ℕ → Type 0
 IsAmid engine frame said images text = ((text ≡ said) × IsStoreOf images engine.dir)
     ⊎ ((k : ℕ) × (text ≡ said ++ take k (answered_by engine frame).output)
     × IsStoreOf images (answered_by engine frame).directory)
 
 module _ {S : Type 0} (site : SiteGhosts S) where
   -- The frame was served and its answer emitted.
-  pub record IsAnswered (before behind : Engine) (frame : Frame) (old new : S) : Type 0 where
+  pub record IsAnswered (before behind : DirStore) (frame : Frame) (old new : S) : Type 0 where
     pub directory : behind.dir ≡ (answered_by before frame).directory
     pub tokens : behind.tokens ≡ (answered_by before frame).tokens
     pub stands : StandsIn behind (site.reads new) (site.now new) (site.left new)
@@ -79,7 +79,7 @@ module _ {S : Type 0} (site : SiteGhosts S) where
     pub output : Emits (site.emitted old) (site.emitted new) (answered_by before frame).output
     pub lasts : LastsOn site before.dir behind.dir old new
 
-  pub record AnswersFrame (before behind : Engine) (frame : Frame) (old new : S) (result : Result (Unit {0}) Outcome)
+  pub record AnswersFrame (before behind : DirStore) (frame : Frame) (old new : S) (result : Result (Unit {0}) Outcome)
       : Type 0 where
     pub answered : OnOk result (IsAnswered before behind frame old new)
     pub part : EmitsPart (site.emitted old) (site.emitted new) (answered_by before frame).output

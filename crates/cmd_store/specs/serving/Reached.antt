@@ -10,7 +10,7 @@ use Rattle.ad_dir_model.specs.Objects.{is_live, sd_at}
 use Rattle.ad_dir_model.specs.Protection.{frozen, IsProtected}
 use Rattle.ad_dir_model.specs.Soundness.{IsSound}
 use Rattle.ad_engine.specs.Answer.{answer}
-use Rattle.ad_engine.specs.Output.{run_output}
+use Rattle.ad_engine_answer.specs.Output.{run_output}
 use Rattle.ad_engine.specs.Runs.{out, after}
 
 -- the answers to the first n frames, joined, and the directory after them

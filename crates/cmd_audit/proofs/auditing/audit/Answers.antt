@@ -1,5 +1,5 @@
 use Rattle.std.proofs.Common.{Err, ap, sym, subst}
-use Rattle.ad_engine.specs.declared.fault.OpenFault.{OpenFault}
+use Rattle.ad_engine_store.specs.declared.fault.OpenFault.{OpenFault}
 use Rattle.cmd_audit.specs.Steps.{Ended}
 use Rattle.cmd_audit.proofs.Unopened.{unopened}
 use Rattle.cmd_audit.proofs.auditing.audit.Goals as goal

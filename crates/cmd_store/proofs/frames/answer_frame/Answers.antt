@@ -1,6 +1,6 @@
 use Rattle.std.proofs.Common.{◌≡◌, ◌∙◌, ℕ, List, inl, inr, ⊎_elim, refl, sym, subst, arith}
 use Rattle.site_io.specs.Counts.{HasRisen}
-use Rattle.ad_engine.proofs.Keeping.{emit_stands_still}
+use Rattle.ad_engine_store.proofs.Keeping.{emit_stands_still}
 use Rattle.cmd_call.specs.Store.{Emits, EmitsPart}
 use Rattle.cmd_call.proofs.Moments.{IsLawful, emits_on, part_on, goes_on_on}
 use Rattle.cmd_store.specs.serving.One.{answered_by, IsOfSite}

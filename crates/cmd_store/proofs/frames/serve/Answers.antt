@@ -1,5 +1,5 @@
 use Rattle.std.proofs.Common.{◌∙◌, Err, ap, sym, subst}
-use Rattle.ad_engine.specs.declared.fault.OpenFault.{OpenFault}
+use Rattle.ad_engine_store.specs.declared.fault.OpenFault.{OpenFault}
 use Rattle.cmd_call.proofs.Moments.{IsLawful}
 use Rattle.cmd_store.proofs.serving.Unopened.{Serves, unopened, no_source}
 use Rattle.cmd_store.proofs.frames.serve.Goals as goal

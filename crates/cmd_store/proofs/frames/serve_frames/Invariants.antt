@@ -1,5 +1,5 @@
 use Rattle.std.proofs.Common.{◌≡◌, ◌-◌, false}
-use Rattle.ad_engine.specs.Standing.{StandsIn}
+use Rattle.ad_engine_store.specs.Standing.{StandsIn}
 use Rattle.cmd_store.specs.Ready.{IsReady}
 use Rattle.cmd_store.proofs.serving.Loop.{IsServing}
 use Rattle.cmd_store.proofs.frames.serve_frames.Given as goal

@@ -1,5 +1,5 @@
 use Rattle.std.proofs.Common.{◌≡◌, false, refl, sym, ap, subst, ⊎_elim, Err}
-use Rattle.ad_engine.specs.declared.engine_fault.EngineFault.{EngineFault}
+use Rattle.ad_engine_store.specs.declared.engine_fault.EngineFault.{EngineFault}
 use Rattle.cmd_call.specs.declared.outcome.Outcome.{Outcome}
 use Rattle.cmd_call.proofs.Moments.{IsLawful, rises_from}
 use Rattle.cmd_store.specs.Settle.{IsSettledReady}
