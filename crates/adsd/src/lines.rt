@@ -2,7 +2,7 @@
 //! of what is told.
 
 use ad_nearest::unknown_in_lines;
-use cmd_store::Engine;
+use cmd_store_open::DirStore;
 use site_io::FileSite;
 use std::io::Stdout;
 
@@ -13,8 +13,8 @@ pub fn tell_unknown_in_lines(
     text: &[u8],
     site: &mut FileSite<HostRuntime, Stdout>,
 ) {
-    if let Ok(engine) = Engine::resume(rt.alloc(), site) {
-        if let Ok(Some(hint)) = unknown_in_lines(rt.alloc(), engine.dir(), text) {
+    if let Ok(opened) = DirStore::resume(rt.alloc(), site) {
+        if let Ok(Some(hint)) = unknown_in_lines(rt.alloc(), opened.dir(), text) {
             let _ = eprintln!(rt; "adsd: {hint}");
         }
     }

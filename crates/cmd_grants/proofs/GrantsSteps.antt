@@ -13,9 +13,9 @@ use Rattle.ad_ldap.specs.declared.requests.Message.{Message}
 use Rattle.ad_dir_model.specs.Directory.{Directory}
 use Rattle.ad_rows_write.specs.Rows.{IsStoreOf}
 use Rattle.ad_rows.proofs.Once.{one_store}
-use Rattle.cmd_store.specs.EngineWords.{IsOpenedAs}
-use Rattle.cmd_store.specs.EngineWords.{OpenFault}
-use Rattle.cmd_store.specs.OpenFaults as slots
+use Rattle.cmd_store_open.specs.EngineWords.{IsOpenedAs}
+use Rattle.cmd_store_open.specs.EngineWords.{OpenFault}
+use Rattle.cmd_store_open.specs.OpenFaults as slots
 use Rattle.ad_ldifmod.specs.declared.fault.GrantFault.{GrantFault}
 use Rattle.ad_ldifmod.specs.declared.fault.GrantFault.TheVariants.{Bad, Memory}
 use Rattle.cmd_call.specs.Call.{IsTold}
@@ -25,9 +25,9 @@ use Rattle.cmd_call.specs.declared.outcome.Outcome.TheVariants.{Done, NotOfForm,
 use Rattle.cmd_call.specs.declared.outcome.Outcome.TheVariants.{TooMany, SourceFailed, SiteFailed, NoMemory}
 use Rattle.cmd_call.proofs.Moments.{told_map, told_meets, told_clash, looks_keep, keeps_on, emits_on, part_on}
 use Rattle.cmd_call.proofs.Telling.{unhealthy}
-use Rattle.cmd_store.specs.Opened.{NoDirStore}
-use Rattle.cmd_store.specs.Refused.{Refused}
-use Rattle.cmd_store.proofs.Refusing.{never_with, Ends, refused, failed, stopped, refusal_by, partly_said}
+use Rattle.cmd_store_open.specs.Opened.{NoDirStore}
+use Rattle.cmd_store_open.specs.Refused.{Refused}
+use Rattle.cmd_store_open.proofs.Refusing.{never_with, Ends, refused, failed, stopped, refusal_by, partly_said}
 use Rattle.cmd_grants.specs.Lines.{given_by, text_for, outcome_for}
 use Rattle.cmd_grants.specs.Given.{Gave, IsTextOf}
 use Rattle.cmd_grants.specs.Grants.{GrantsDoes, IsTextFor, IsPartlyGiven}

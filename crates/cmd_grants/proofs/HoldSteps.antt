@@ -2,7 +2,6 @@
 use Rattle.std.proofs.Common.{◌≡◌, ◌∙◌, ◌⊎◌, inl, inr, ⊎_elim, ℕ, ◌≤◌, List, [], ◌∷◌, ◌++◌, length, Option, Some, None}
 use Rattle.std.proofs.Common.{Result, Ok, Err, refl, sym, ap, subst, append_assoc, arith}
 use Rattle.std.specs.Prelude.{IfErr, OnOk}
-use Rattle.std.specs.List.{flat_map}
 use Rattle.std.proofs.lemmas.Bool.{cases_lt}
 use Rattle.std.proofs.lemmas.List.{append-nil}
 use Rattle.site_io.specs.Counts.{HasRisen}
@@ -20,8 +19,8 @@ use Rattle.cmd_call.specs.Store.{Emits, EmitsPart, Says}
 use Rattle.cmd_call.specs.declared.outcome.Outcome.{Outcome}
 use Rattle.cmd_call.specs.declared.outcome.Outcome.TheVariants.{SiteFailed, NoMemory}
 use Rattle.cmd_call.proofs.Moments.{IsLawful, stays_on, stays_same, keeps_not, goes_not, goes_on_on, rises_from}
-use Rattle.cmd_store.proofs.serving.OneFrame.{part_none, part_whole}
-use Rattle.cmd_store.proofs.serving.Ending.{part_longer, part_more}
+use Rattle.cmd_store_open.proofs.Parts.{part_none}
+use Rattle.cmd_store_open.proofs.Parts.{part_longer, part_more}
 use Rattle.cmd_grants.specs.Frames.{frame_of, frames_of}
 use Rattle.cmd_grants.specs.Sending.{frame_if, GivesRest, OnlyEmits, IsCut, Sends, HoldsRest, Holds, IsSending}
 use Rattle.cmd_grants.specs.Sending.{StepsTo, StopsAt, SendsFrames, Gives}

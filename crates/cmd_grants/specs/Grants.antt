@@ -7,8 +7,8 @@ use Rattle.site_io.specs.declared.site.Site.{Ghosts as SiteGhosts}
 use Rattle.ad_ldap.specs.declared.requests.Message.{Message}
 use Rattle.ad_dir_model.specs.Directory.{Directory}
 use Rattle.ad_rows_write.specs.Rows.{IsStoreOf}
-use Rattle.cmd_store.specs.EngineWords.{Refuses}
-use Rattle.cmd_store.specs.EngineWords.{OpenFault}
+use Rattle.cmd_store_open.specs.EngineWords.{Refuses}
+use Rattle.cmd_store_open.specs.EngineWords.{OpenFault}
 use Rattle.ad_ldifmod.specs.declared.fault.GrantKind.{GrantKind}
 use Rattle.ad_ldifmod.specs.declared.fault.GrantFault.TheVariants.{Bad}
 use Rattle.cmd_call.specs.declared.outcome.Outcome.{Outcome}
@@ -17,8 +17,8 @@ use Rattle.cmd_call.specs.declared.outcome.Outcome.TheVariants.{SiteFailed, NoMe
 use Rattle.cmd_call.specs.Call.{IsTold}
 use Rattle.cmd_call.specs.Outcome.{IsOfLoad}
 use Rattle.cmd_call.specs.Store.{Emits, EmitsPart, KeepsSlots, IsSiteHealthy, IsAllHealthy}
-use Rattle.cmd_store.specs.Opened.{NoDirStore, IsNoStore}
-use Rattle.cmd_store.specs.Lines.{store_line}
+use Rattle.cmd_store_open.specs.Opened.{NoDirStore, IsNoStore}
+use Rattle.cmd_store_open.specs.Lines.{store_line}
 use Rattle.cmd_grants.specs.Frames.{frames_of}
 use Rattle.cmd_grants.specs.Lines.{given_by, grant_line, text_for, outcome_for}
 use Rattle.cmd_grants.specs.Given.{GivesMessages, GoesWrong}

@@ -12,7 +12,7 @@ use crate::judging::{Judged, judge_input};
 use crate::sending::send_frames;
 use ad_dir::Dir;
 use cmd_call::{Outcome, say};
-use cmd_store::{Engine, refuse};
+use cmd_store_open::{DirStore, refuse};
 use site_io::{Site, Source};
 use std::alloc::Global;
 
@@ -50,7 +50,7 @@ pub fn grants<I: Source, S: Site>(alloc: Global, source: &mut I, site: &mut S) -
         (I.faults source.new) }
     ensures site_failed { result ≡ SiteFailed → HasFailed S.Site site.old site.new }
 {
-    match Engine::resume(alloc, site) {
+    match DirStore::resume(alloc, site) {
         Ok(engine) => give_in(alloc, source, site, engine.dir()),
         Err(fault) => refuse(alloc, site, fault),
     }

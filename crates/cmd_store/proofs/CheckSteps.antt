@@ -15,9 +15,9 @@ use Rattle.cmd_call.specs.declared.outcome.Outcome.TheVariants.{Done, SiteFailed
 use Rattle.cmd_call.specs.Store.{HasFailed, KeepsSlots, SaysUnless}
 use Rattle.cmd_call.proofs.Moments.{told_map}
 use Rattle.cmd_call.proofs.Telling.{Tells, whole, part, nothing, telling_by, unhealthy}
-use Rattle.cmd_store.specs.Refused.{Refused}
-use Rattle.cmd_store.proofs.Refusing.{stands_clash, never_refused, Ends, refused, failed, stopped}
-use Rattle.cmd_store.proofs.Refusing.{refusal_by, partly_said}
+use Rattle.cmd_store_open.specs.Refused.{Refused}
+use Rattle.cmd_store_open.proofs.Refusing.{stands_clash, never_refused, Ends, refused, failed, stopped}
+use Rattle.cmd_store_open.proofs.Refusing.{refusal_by, partly_said}
 use Rattle.cmd_store.specs.Check.{check_text, IsCheckText, IsPartlyChecked, CheckDoes}
 
 module _ {S : Type 0} (site : SiteGhosts S) where

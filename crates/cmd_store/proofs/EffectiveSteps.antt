@@ -20,8 +20,8 @@ use Rattle.cmd_call.specs.declared.outcome.Outcome.TheVariants.{Done, NotOfForm,
 use Rattle.cmd_call.specs.declared.outcome.Outcome.TheVariants.{TooMany, SourceFailed, SiteFailed, NoMemory}
 use Rattle.cmd_call.proofs.Moments.{told_map, looks_keep}
 use Rattle.cmd_call.proofs.Telling.{Tells, whole, part, nothing, telling_by, unhealthy}
-use Rattle.cmd_store.specs.Refused.{Refused}
-use Rattle.cmd_store.proofs.Refusing.{never_with, Ends, refused, failed, stopped, refusal_by, partly_said}
+use Rattle.cmd_store_open.specs.Refused.{Refused}
+use Rattle.cmd_store_open.proofs.Refusing.{never_with, Ends, refused, failed, stopped, refusal_by, partly_said}
 use Rattle.cmd_store.specs.Answering.{IsUnanswered, AnswersAt, AnswersFor}
 use Rattle.cmd_store.specs.Effective.{EffectiveDoes, IsTokenFor, IsTextFor, IsLineFor, IsPartlyAnswered}
 use Rattle.cmd_store.specs.List.{HasObject, IsStoreNamed, number_named, no_object_line}

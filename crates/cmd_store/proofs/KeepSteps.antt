@@ -19,9 +19,9 @@ use Rattle.cmd_call.specs.Call.{IsTold}
 use Rattle.cmd_call.specs.Store.{AreEmpty, IsTaken, KeepsSlots, Says}
 use Rattle.cmd_call.proofs.Moments.{told_on, stays_same, emits_on, part_on}
 use Rattle.cmd_call.proofs.Moments.{goes_on_on, IsLawful, says_nothing, goes_not, keeps_not, quiet_not, keeps_said}
-use Rattle.cmd_store.specs.Lines.{objects_line, store_line}
+use Rattle.cmd_store_open.specs.Lines.{objects_line, store_line}
 use Rattle.cmd_store.specs.Loading.{Keeps}
-use Rattle.cmd_store.specs.Refused.{Refused}
+use Rattle.cmd_store_open.specs.Refused.{Refused}
 
 -- the output of each moment is the one from before, or the crash states represent the directory
 abbrev pub Crash : {S : Type 0} (s : SiteGhosts S) (dir : Directory) (old new : S) → Type 0

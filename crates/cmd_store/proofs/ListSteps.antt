@@ -20,9 +20,9 @@ use Rattle.cmd_call.specs.declared.outcome.Outcome.{Outcome}
 use Rattle.cmd_call.specs.declared.outcome.Outcome.TheVariants.{SiteFailed, NoMemory}
 use Rattle.cmd_call.proofs.Moments.{told_clash, told_map, told_meets}
 use Rattle.cmd_call.proofs.Telling.{Tells, whole, part, nothing, telling_by, unhealthy}
-use Rattle.cmd_store.specs.Opened.{IsDirStore, NoDirStore}
-use Rattle.cmd_store.specs.Refused.{Refused}
-use Rattle.cmd_store.proofs.Refusing.{never_with, Ends, refused, failed, stopped, refusal_by, partly_said}
+use Rattle.cmd_store_open.specs.Opened.{IsDirStore, NoDirStore}
+use Rattle.cmd_store_open.specs.Refused.{Refused}
+use Rattle.cmd_store_open.proofs.Refusing.{never_with, Ends, refused, failed, stopped, refusal_by, partly_said}
 use Rattle.cmd_store.specs.List.{ListDoes, IsStoreNamed, HasObject, HasNoObject, IsListText, IsPartlyListed}
 use Rattle.cmd_store.specs.List.{number_named, text_for, list_text, outcome_for, list_outcome}
 

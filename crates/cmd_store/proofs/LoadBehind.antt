@@ -18,7 +18,7 @@ use Rattle.cmd_call.specs.Call.{IsTold}
 use Rattle.cmd_call.specs.Store.{HasFailed, AreEmpty, IsTaken, IsAllHealthy, Says}
 use Rattle.cmd_call.proofs.Moments.{told_map, told_back, stays_on, emits_on, part_on, rises_from}
 use Rattle.cmd_call.proofs.Moments.{IsLawful, says_nothing, looks_quiet, looks_keep, keeps_on, keeps_said}
-use Rattle.cmd_store.specs.Lines.{objects_line, store_line}
+use Rattle.cmd_store_open.specs.Lines.{objects_line, store_line}
 use Rattle.cmd_store.specs.Causes.{load_line}
 use Rattle.cmd_store.specs.Load.{IsPartlyTold, LoadDoes}
 use Rattle.cmd_store.specs.Loading.{LoadsEmpty}

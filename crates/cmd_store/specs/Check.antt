@@ -14,8 +14,8 @@ use Rattle.cmd_call.specs.Call.{IsTold}
 use Rattle.cmd_call.specs.Lines.{counted}
 use Rattle.cmd_call.specs.Outcome.{IsOfStore}
 use Rattle.cmd_call.specs.Store.{Emits, EmitsPart, KeepsSlots, IsSiteHealthy}
-use Rattle.cmd_store.specs.Opened.{IsDirStore, NoDirStore, IsNoStore}
-use Rattle.cmd_store.specs.Lines.{objects_line, store_line}
+use Rattle.cmd_store_open.specs.Opened.{IsDirStore, NoDirStore, IsNoStore}
+use Rattle.cmd_store_open.specs.Lines.{objects_line, store_line}
 use Rattle.cmd_store.specs.Stale.{stale}
 
 -- how many objects there are, how many are pending, how many are stale, and how many different descriptors are stored

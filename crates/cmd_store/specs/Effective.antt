@@ -16,8 +16,8 @@ use Rattle.cmd_call.specs.declared.outcome.Outcome.TheVariants.{NoMemory}
 use Rattle.cmd_call.specs.Call.{IsTold}
 use Rattle.cmd_call.specs.Outcome.{IsStopped, IsOfEffective}
 use Rattle.cmd_call.specs.Store.{Emits, EmitsPart, KeepsSlots, IsSiteHealthy, IsAllHealthy}
-use Rattle.cmd_store.specs.Opened.{NoDirStore, IsNoStore}
-use Rattle.cmd_store.specs.Lines.{store_line}
+use Rattle.cmd_store_open.specs.Opened.{NoDirStore, IsNoStore}
+use Rattle.cmd_store_open.specs.Lines.{store_line}
 use Rattle.cmd_store.specs.List.{IsStoreNamed, HasObject, HasNoObject, IsNoObject, number_named, no_object_line}
 
 -- the bytes are a token, or none

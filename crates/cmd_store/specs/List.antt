@@ -15,8 +15,8 @@ use Rattle.cmd_call.specs.declared.outcome.Outcome.TheVariants.{Done, NoStore, N
 use Rattle.cmd_call.specs.Call.{IsTold}
 use Rattle.cmd_call.specs.Outcome.{IsOfList}
 use Rattle.cmd_call.specs.Store.{Emits, EmitsPart, KeepsSlots, IsSiteHealthy}
-use Rattle.cmd_store.specs.Opened.{NoDirStore, IsNoStore}
-use Rattle.cmd_store.specs.Lines.{store_line}
+use Rattle.cmd_store_open.specs.Opened.{NoDirStore, IsNoStore}
+use Rattle.cmd_store_open.specs.Lines.{store_line}
 
 -- the number of the object that has the name of the text; none where no object has it, and where the text is no
 -- name's

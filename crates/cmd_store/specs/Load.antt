@@ -15,7 +15,7 @@ use Rattle.cmd_call.specs.declared.outcome.Outcome.TheVariants.{Done, NotOfForm,
 use Rattle.cmd_call.specs.Call.{IsTold}
 use Rattle.cmd_call.specs.Outcome.{IsStopped, WritesNothing}
 use Rattle.cmd_call.specs.Store.{Emits, EmitsPart, AreEmpty, IsTaken, KeepsSlots, IsSiteHealthy, IsAllHealthy}
-use Rattle.cmd_store.specs.Lines.{objects_line, store_line}
+use Rattle.cmd_store_open.specs.Lines.{objects_line, store_line}
 use Rattle.cmd_store.specs.Causes.{load_line}
 
 -- the text is that of this directory, or of none, with its first fault

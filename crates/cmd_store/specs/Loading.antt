@@ -15,7 +15,7 @@ use Rattle.cmd_call.specs.declared.outcome.Outcome.TheVariants.{NoMemory}
 use Rattle.cmd_call.specs.Call.{IsTold}
 use Rattle.cmd_call.specs.Outcome.{IsStopped, WritesNothing, IsOfStore, IsOfLoad}
 use Rattle.cmd_call.specs.Store.{HasFailed, Emits, EmitsPart, AreEmpty, IsTaken, KeepsSlots, IsAllHealthy}
-use Rattle.cmd_store.specs.Lines.{objects_line, store_line}
+use Rattle.cmd_store_open.specs.Lines.{objects_line, store_line}
 use Rattle.cmd_store.specs.declared.loading.Given.{Given}
 use Rattle.cmd_store.specs.declared.loading.Given.TheVariants as given
 use Rattle.cmd_store.specs.Load.{LoadsAs, FailsAt, IsDirectory, NoDirectory, IsLoaded, IsRefused, IsPartlyTold}

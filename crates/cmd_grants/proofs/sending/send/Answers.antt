@@ -1,5 +1,5 @@
 use Rattle.std.proofs.Common.{inl, refl}
-use Rattle.cmd_store.proofs.serving.OneFrame.{part_whole}
+use Rattle.cmd_store_open.proofs.Parts.{part_whole}
 use Rattle.cmd_grants.proofs.HoldSteps.{only_said}
 use Rattle.cmd_grants.proofs.sending.send.Goals as goal
 
