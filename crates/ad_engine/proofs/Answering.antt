@@ -33,7 +33,7 @@ use Rattle.ad_engine_store.specs.Stepping.{made_by, MayCommit}
 use Rattle.ad_engine_store.specs.declared.dir_store.DirStore.{DirStore}
 use Rattle.ad_engine_store.specs.declared.engine_fault.EngineFault.{EngineFault}
 use Rattle.ad_engine_store.specs.declared.engine_fault.EngineFault.TheVariants.{Spent, Site, Memory}
-use Rattle.ad_engine_store.proofs.Committing.{untouched_moments}
+use Rattle.ad_engine_store.proofs.Commits.{untouched_moments}
 use Rattle.ad_engine_store.proofs.CommitLaws.{lasts_still, none_made}
 
 err_same : {T : Type 0} (a b : EngineFault) → ◌≡◌ {A = Result T EngineFault} (Err a) (Err b) → a ≡ b

@@ -31,7 +31,7 @@ use Rattle.ad_engine_store.specs.Settling.{LastsAs}
 use Rattle.ad_engine_store.specs.Standing.{HoldsDir}
 use Rattle.ad_engine_store.specs.declared.dir_store.DirStore.{DirStore}
 use Rattle.ad_engine_store.proofs.Opening.{store_of}
-use Rattle.ad_engine_store.proofs.Committing.{begun_or}
+use Rattle.ad_engine_store.proofs.Commits.{begun_or}
 
 -- ---- a snapshot
 

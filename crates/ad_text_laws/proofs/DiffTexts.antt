@@ -93,35 +93,29 @@ principal_is : (after : Directory) (g : Grouped) → HasForms after → HasNumbe
 unfolding principal_line name_text
 principal_is after g forms small live some = by (g.group == 0) (self_sid after g.both.after) refl some
   where
-    n : ℕ
-    n = g.both.after
-
-    by : (t : Bool) (sid : Option SidValue) → self_sid after n ≡ sid → is_some sid ≡ true
+    by : (t : Bool) (sid : Option SidValue) → self_sid after g.both.after ≡ sid → is_some sid ≡ true
         → IsText (if t then [] else codes "principal " ++ (spaced (decimal g.group)
-        ++ (option_map_or (λ (s : SidValue). spaced (sid_text s)) sid [] ++ ended (dn_text (name_at after n)))))
-        (if t then [] else option_map_or (λ (s : SidValue). principal g.group s (name_at after n) ∷ []) sid [])
+        ++ (option_map_or (λ (s : SidValue). spaced (sid_text s)) sid [] ++ ended (dn_text (name_at after g.both.after)))))
+        (if t then [] else option_map_or (λ (s : SidValue). principal g.group s (name_at after g.both.after) ∷ []) sid [])
     by true sid e there = none_text
     by false None e there = absurd (false≢true there)
     by false (Some sid) e there =
-        subst (λ (t : List ℕ). IsText t (principal g.group sid (name_at after n) ∷ []))
-        (sym (principal_text g.group sid (name_at after n)))
-        (one_text (principal g.group sid (name_at after n))
-        (omega (arith, small), forms.sids n sid e, forms.names n live))
+        subst (λ (t : List ℕ). IsText t (principal g.group sid (name_at after g.both.after) ∷ []))
+        (sym (principal_text g.group sid (name_at after g.both.after)))
+        (one_text (principal g.group sid (name_at after g.both.after))
+        (omega (arith, small), forms.sids g.both.after sid e, forms.names g.both.after live))
 
 object_is : (after : Directory) (g : Grouped) → HasForms after → HasNumber g
     → is_live after.objects g.both.after ≡ true → IsText (object_line after g) (object_told after g)
 unfolding object_line name_text
 object_is after g forms small live = by (g.group == 0)
   where
-    n : ℕ
-    n = g.both.after
-
-    by : (t : Bool) → IsText (if t then [] else codes "object " ++ (spaced (decimal g.group) ++ ended (dn_text (name_at after n))))
-        (if t then [] else object g.group (name_at after n) ∷ [])
+    by : (t : Bool) → IsText (if t then [] else codes "object " ++ (spaced (decimal g.group) ++ ended (dn_text (name_at after g.both.after))))
+        (if t then [] else object g.group (name_at after g.both.after) ∷ [])
     by true = none_text
-    by false = subst (λ (t : List ℕ). IsText t (object g.group (name_at after n) ∷ []))
-        (sym (object_text g.group (name_at after n)))
-        (one_text (object g.group (name_at after n)) (omega (arith, small), forms.names n live))
+    by false = subst (λ (t : List ℕ). IsText t (object g.group (name_at after g.both.after) ∷ []))
+        (sym (object_text g.group (name_at after g.both.after)))
+        (one_text (object g.group (name_at after g.both.after)) (omega (arith, small), forms.names g.both.after live))
 
 -- ---- what is gained and lost
 
@@ -242,19 +236,29 @@ row_is : (o n : ℕ) (row : List (List ℕ)) → ((p : ℕ) → IsCellText o (n 
 unfolding row_text row_told
 row_is o n [] each = none_text
 row_is o n (lines ∷ others) each =
+    let here : n + 0 ≡ n = omega arith in
+    let later : (p : ℕ) → IsCellText o ((n + 1) + p) (get_or others p []) = λ p.
+    let same : n + suc p ≡ (n + 1) + p = omega arith in
+    subst (λ (m : ℕ). IsCellText o m (get_or others p [])) same (each (suc p)) in
     both_texts (cell_text o n lines) (row_text o (n + 1) others) (cell_told o n lines) (row_told o (n + 1) others)
-    (subst (λ (m : ℕ). IsCellText o m lines) (omega arith) (each 0))
-    (row_is o (n + 1) others (λ p. subst (λ (m : ℕ). IsCellText o m (get_or others p [])) (omega arith) (each (suc p))))
+    (subst (λ (m : ℕ). IsCellText o m lines) here (each 0)) (row_is o (n + 1) others later)
 
 table_is : (n : ℕ) (rows : List (List (List ℕ))) → ((o p : ℕ) → IsCellText (n + o) p (get_or (get_or rows o []) p []))
     → IsText (table_text n rows) (table_told n rows)
 unfolding table_text table_told
 table_is n [] each = none_text
 table_is n (row ∷ rows) each =
+    let here : n + 0 ≡ n = omega arith in
+    let own : (p : ℕ) → IsCellText n p (get_or row p []) = λ p.
+    subst (λ (m : ℕ). IsCellText m p (get_or row p [])) here (each 0 p) in
+    let later : (o p : ℕ) → IsCellText ((n + 1) + o) p (get_or (get_or rows o []) p []) = λ o p.
+    let same : n + suc o ≡ (n + 1) + o = omega arith in
+    subst (λ (m : ℕ). IsCellText m p (get_or (get_or rows o []) p [])) same (each (suc o) p) in
     both_texts (row_text n 0 row) (table_text (n + 1) rows) (row_told n 0 row) (table_told (n + 1) rows)
-    (row_is n 0 row (λ p. subst (λ (m : ℕ). IsCellText m p (get_or row p [])) (omega arith) (each 0 p)))
-    (table_is (n + 1) rows (λ o p. subst (λ (m : ℕ). IsCellText m p (get_or (get_or rows o []) p [])) (omega arith)
-    (each (suc o) p)))
+    (row_is n 0 row (λ p.
+    let same : p ≡ 0 + p = omega arith in
+    subst (λ (m : ℕ). IsCellText n m (get_or row p [])) same (own p)))
+    (table_is (n + 1) rows later)
 
 -- ---- what isn't compared
 
@@ -291,8 +295,15 @@ module _ (before after : Directory) (text : List ℕ) (told : IsDiffText before 
   objects_stand = all_members (IsLiveBoth before after) told.objects
       (subst (All (IsLiveBoth before after)) (sym told.are_objects) (all_live before after second.rise))
 
+  cells : (o p : ℕ) → IsCellText (0 + o) p (get_or (get_or told.table o []) p [])
+  unfolding cell
+  cells o p =
+      let same : o ≡ 0 + o = omega arith in
+      subst (λ (m : ℕ). IsCellText m p (get_or (get_or told.table o []) p [])) same
+      (cell_at before after text told first second o p)
+
   whole : IsText text (lines_told before after told.principals told.objects told.table)
-  unfolding only_text cell
+  unfolding only_text
   whole = subst (λ (t : List ℕ). IsText t (lines_told before after told.principals told.objects told.table))
       (sym told.lines)
       (both_texts (flat_map (principal_line after) told.principals) _ (flat_map (principal_told after) told.principals) _
@@ -304,7 +315,7 @@ module _ (before after : Directory) (text : List ℕ) (told : IsDiffText before 
       (λ i d lt. object_is after (get_or told.objects i d) second.forms (told.numbered_objects i d lt)
       (objects_stand i d lt).second))
       (both_texts (table_text 0 told.table) _ (table_told 0 told.table) _
-      (table_is 0 told.table (λ o p. cell_at before after text told first second o p))
+      (table_is 0 told.table cells)
       (both_texts (flat_map (only_line (codes "only before ") before after) (numbers before.objects)) _
       (flat_map (only_told only_before before after) (numbers before.objects)) _
       (each_text (only_line (codes "only before ") before after) (only_told only_before before after)

@@ -3,7 +3,7 @@
 //! A name is one line, since no control stands in its text (`ad_dn`); identifiers, numbers and codes are words, in which
 //! no blank stands either. So whoever splits a text at its line ends, and a line at its blanks, has what was told, and no
 //! name can be made to read as another line. The definitions say how: `Lines` splits, and `Facts`, `Tokens`, `Events`,
-//! `Listings` and `Words` say what each line tells.
+//! `Listings`, `Diff` and `Words` say what each line tells; `Printed` and `DiffTold` say which lines are printed.
 //!
 //! # Example
 //!
@@ -14,9 +14,10 @@
 //!
 //! # Proved
 //!
-//! The lines of `token`, `who`, `can`, `list` and `audit` give back the facts that they were written of, in their order;
-//! `effective` is of lines of words, and these give back their words. Of `list` and `effective` this holds where the names
-//! of the schema that stand in them are words: those of attributes and classes are, the `cn` of a right may be any bytes.
+//! The lines of `token`, `who`, `can`, `list`, `audit` and `diff` give back the facts that they were written of, in their
+//! order; `effective` is of lines of words, and these give back their words. Of `list` and `effective` this holds where
+//! the names of the schema that stand in them are words, and of `diff` where they have no line end: those of attributes
+//! and classes are words, the `cn` of a right may be any bytes.
 //!
 //! # The caller owes
 //!

@@ -31,7 +31,7 @@ use Rattle.cmd_store_open.proofs.Refusing.{never_with, Ends, refused, failed, st
 use Rattle.cmd_grants.specs.Lines.{given_by, text_for, outcome_for}
 use Rattle.cmd_grants.specs.Given.{Gave, IsTextOf}
 use Rattle.cmd_grants.specs.Grants.{GrantsDoes, IsTextFor, IsPartlyGiven}
-use Rattle.cmd_grants.specs.Sending.{Gives}
+use Rattle.cmd_grants.specs.Sending.{IsCut}
 use Rattle.cmd_grants.specs.Answering.{IsUnread, AnswersIn}
 
 -- ---- the one directory, and the one input
@@ -231,25 +231,27 @@ module _ {I S : Type 0} (source : SourceGhosts I) (site : SiteGhosts S) where
             (of_input dir (source.rest from) (source.rest to) is.given is.gave),
       )) stands
 
+  -- a part of a text was emitted
+  given_part : (from to : I) (x z : S) (outcome : Outcome) → KeepsSlots site x z → IsPartlyGiven source site from x z
+      → IsCut site x z outcome → Answers from to x z outcome
+  given_part from to x z outcome keeps partly (inl failed) = subst (Answers from to x z) (sym failed.0)
+      (answered_failed from to x z keeps (inr failed.1) partly)
+  given_part from to x z outcome keeps partly (inr memory) = subst (Answers from to x z) (sym memory)
+      (answered_memory from to x z keeps partly)
+
   given_so : (from to : I) (x z : S) (dir : Directory) (text : List ℕ) (next outcome : Outcome)
       → IfSome (site.reads x) (λ held. IsStoreOf held dir)
       → IsTextOf dir (source.rest from) (source.rest to) text next → KeepsSlots site x z
-      → (HasRisen (site.out_faults x) (site.out_faults z) → HasFailed site x z)
       → ((outcome ≡ next) × Emits (site.emitted x) (site.emitted z) text)
-      ⊎ (EmitsPart (site.emitted x) (site.emitted z) text
-      × (((outcome ≡ SiteFailed) × HasRisen (site.out_faults x) (site.out_faults z)) ⊎ (outcome ≡ NoMemory)))
+      ⊎ (EmitsPart (site.emitted x) (site.emitted z) text × IsCut site x z outcome)
       → Answers from to x z outcome
-  given_so from to x z dir text next outcome stands is keeps cause (inl (done, said)) = subst (Answers from to x z)
-      (sym (done ∙ is.next_is))
+  given_so from to x z dir text next outcome stands is keeps (inl done) = subst (Answers from to x z)
+      (sym (done.0 ∙ is.next_is))
       (given_whole from to x z dir is.given stands is.gave keeps
-      (subst (Emits (site.emitted x) (site.emitted z)) is.text_is said))
-  given_so from to x z dir text next outcome stands is keeps cause (inr (said, inl (cut, risen))) =
-      subst (Answers from to x z) (sym cut)
-      (answered_failed from to x z keeps (cause risen)
-      (inr (text, text_stands from to x dir text next stands is, said)))
-  given_so from to x z dir text next outcome stands is keeps cause (inr (said, inr memory)) =
-      subst (Answers from to x z) (sym memory)
-      (answered_memory from to x z keeps (inr (text, text_stands from to x dir text next stands is, said)))
+      (subst (Emits (site.emitted x) (site.emitted z)) is.text_is done.1))
+  given_so from to x z dir text next outcome stands is keeps (inr cut) =
+      given_part from to x z outcome keeps
+      (inr (text, text_stands from to x dir text next stands is, cut.0)) cut.1
 
   -- the input wasn't read to its end, or memory ran out
   unread : (from to : I) (x y : S) (dir : Directory) (outcome : Outcome) → OnlyLooks site x y
@@ -282,35 +284,30 @@ module _ {I S : Type 0} (source : SourceGhosts I) (site : SiteGhosts S) where
   unread from to x y dir SiteFailed looks stands gave = absurd gave.only
 
   -- what was emitted since an earlier moment from which on nothing was
-  ended_since : (x y z : S) (text : List ℕ) (next outcome : Outcome) → OnlyLooks site x y
-      → Gives site text next y z outcome → ((outcome ≡ next) × Emits (site.emitted x) (site.emitted z) text)
-      ⊎ (EmitsPart (site.emitted x) (site.emitted z) text
-      × (((outcome ≡ SiteFailed) × HasRisen (site.out_faults x) (site.out_faults z)) ⊎ (outcome ≡ NoMemory)))
-  ended_since x y z text next outcome looks gave = by gave.ended
-    where
-      since : ((outcome ≡ SiteFailed) × HasRisen (site.out_faults y) (site.out_faults z)) ⊎ (outcome ≡ NoMemory)
-          → ((outcome ≡ SiteFailed) × HasRisen (site.out_faults x) (site.out_faults z)) ⊎ (outcome ≡ NoMemory)
-      since (inl cut) = inl (cut.0, subst (λ k. HasRisen k (site.out_faults z)) looks.out_faults cut.1)
-      since (inr memory) = inr memory
+  cut_since : (x y z : S) (outcome : Outcome) → OnlyLooks site x y → IsCut site y z outcome → IsCut site x z outcome
+  cut_since x y z outcome looks (inl failed) = inl
+      (failed.0, subst (λ (k : ℕ). HasRisen k (site.out_faults z)) looks.out_faults failed.1)
+  cut_since x y z outcome looks (inr memory) = inr memory
 
-      by : ((outcome ≡ next) × Emits (site.emitted y) (site.emitted z) text)
-          ⊎ (EmitsPart (site.emitted y) (site.emitted z) text
-          × (((outcome ≡ SiteFailed) × HasRisen (site.out_faults y) (site.out_faults z)) ⊎ (outcome ≡ NoMemory)))
-          → ((outcome ≡ next) × Emits (site.emitted x) (site.emitted z) text)
-          ⊎ (EmitsPart (site.emitted x) (site.emitted z) text
-          × (((outcome ≡ SiteFailed) × HasRisen (site.out_faults x) (site.out_faults z)) ⊎ (outcome ≡ NoMemory)))
-      by (inl done) = inl
-          (done.0, emits_on (site.emitted x) (site.emitted y) (site.emitted z) text looks.output done.1)
-      by (inr cut) = inr
-          (part_on (site.emitted x) (site.emitted y) (site.emitted z) text looks.output cut.0, since cut.1)
+  ended_since : (x y z : S) (text : List ℕ) (next outcome : Outcome) → OnlyLooks site x y
+      → ((outcome ≡ next) × Emits (site.emitted y) (site.emitted z) text)
+      ⊎ (EmitsPart (site.emitted y) (site.emitted z) text × IsCut site y z outcome)
+      → ((outcome ≡ next) × Emits (site.emitted x) (site.emitted z) text)
+      ⊎ (EmitsPart (site.emitted x) (site.emitted z) text × IsCut site x z outcome)
+  ended_since x y z text next outcome looks (inl done) = inl
+      (done.0, emits_on (site.emitted x) (site.emitted y) (site.emitted z) text looks.output done.1)
+  ended_since x y z text next outcome looks (inr cut) = inr (
+    part_on (site.emitted x) (site.emitted y) (site.emitted z) text looks.output cut.0,
+    cut_since x y z outcome looks cut.1,
+  )
 
   pub answered_told : (from to : I) (x y z : S) (dir : Directory) (outcome : Outcome) → OnlyLooks site x y
       → IfSome (site.reads x) (λ held. IsStoreOf held dir)
       → AnswersIn source site dir from to y z outcome → Answers from to x z outcome
   answered_told from to x y z dir outcome looks stands (inl (text, next, is, gave)) =
       given_so from to x z dir text next outcome stands is
-      (keeps_on site x y z looks gave.emits.moments gave.emits.slots) (λ risen. inr risen)
-      (ended_since x y z text next outcome looks gave)
+      (keeps_on site x y z looks gave.emits.moments gave.emits.slots)
+      (ended_since x y z text next outcome looks gave.ended)
   answered_told from to x y z dir outcome looks stands (inr gave) =
       subst (λ (s : S). Answers from to x s outcome) (sym gave.1) (unread from to x y dir outcome looks stands gave.0)
 

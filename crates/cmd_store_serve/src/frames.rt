@@ -74,7 +74,10 @@ fn serve_opened<I: Source, S: Site>(
         result }
 {
     match make_ready(site, &mut opened) {
-        Ok(()) => serve_frames(alloc, source, site, &mut Engine::new(opened)),
+        Ok(()) => {
+            let mut engine = Engine::new(opened);
+            serve_frames(alloc, source, site, &mut engine)
+        }
         Err(outcome) => outcome,
     }
 }

@@ -1,5 +1,5 @@
 use Rattle.gate_log.proofs.Outside.{touches_not}
-use Rattle.ad_engine_store.proofs.Committing.{untouched_moments}
+use Rattle.ad_engine_store.proofs.Commits.{untouched_moments}
 use Rattle.ad_engine.proofs.serving.serve.Goals as goal
 
 pub returns-then-engine-clause-any_moment : goal.returns-then-engine-clause-any_moment

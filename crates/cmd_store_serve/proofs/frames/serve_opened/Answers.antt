@@ -11,19 +11,19 @@ pub serve_frames-requires-clause-stands : goal.serve_frames-requires-clause-stan
 serve_frames-requires-clause-stands g c =
     let s = g.S.Site in
     let y = c.make_ready.new.site in
-    subst (λ (e : DirStore). StandsIn e (s.reads y) (s.now y) (s.left y)) (sym c.new.ensures) c.in-Ok.ensures.stands
+    subst (λ (e : DirStore). StandsIn e (s.reads y) (s.now y) (s.left y)) (sym c.new-engine.ensures) c.in-Ok.ensures.stands
 
 pub serve_frames-requires-clause-unspent : goal.serve_frames-requires-clause-unspent
-serve_frames-requires-clause-unspent g c = ap (λ (e : DirStore). e.spent) c.new.ensures ∙ c.in-Ok.ensures.unspent
+serve_frames-requires-clause-unspent g c = ap (λ (e : DirStore). e.spent) c.new-engine.ensures ∙ c.in-Ok.ensures.unspent
 
 pub serve_frames-requires-clause-tokens : goal.serve_frames-requires-clause-tokens
-serve_frames-requires-clause-tokens g c = ap (λ (e : DirStore). e.tokens) c.new.ensures ∙ c.in-Ok.ensures.tokens
+serve_frames-requires-clause-tokens g c = ap (λ (e : DirStore). e.tokens) c.new-engine.ensures ∙ c.in-Ok.ensures.tokens
     ∙ c.requires.tokens
 
 pub returns-in-Ok : goal.returns-in-Ok
 returns-in-Ok g c = λ old looks store.
     let made = c.in-Ok.ensures in
-    let dir = ap (λ (e : DirStore). e.dir) c.new.ensures ∙ made.dir in
+    let dir = ap (λ (e : DirStore). e.dir) c.new-engine.ensures ∙ made.dir in
     c.serve_frames.ensures old (subst (λ (d : Directory). IsReady g.S.Site d old c.make_ready.new.site) (sym dir)
     (made.ready old looks store))
 

@@ -3,7 +3,7 @@ use Rattle.std.specs.Result.{OnOk}
 use Rattle.ad_dir_model.specs.Directory.{Directory}
 use Rattle.gate_log.proofs.Outside.{touches_not, touches_on}
 use Rattle.ad_engine_store.specs.Stepping.{made_by, MayCommit}
-use Rattle.ad_engine_store.proofs.Committing.{untouched_moments}
+use Rattle.ad_engine_store.proofs.Commits.{untouched_moments}
 use Rattle.ad_engine_store.proofs.CommitLaws.{lasts_still, is_empty, is_full, none_made}
 use Rattle.std.proofs.lemmas.Result.{on_ok_weaker}
 use Rattle.ad_engine_store.proofs.Rewriting.{room_then, room_failed, as_behind, on_as, rises_behind}

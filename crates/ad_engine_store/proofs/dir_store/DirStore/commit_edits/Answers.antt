@@ -7,8 +7,8 @@ use Rattle.ad_dir_model.specs.Soundness.{IsSound}
 use Rattle.ad_rows_write.specs.Batch.{AreRowsOfEdits}
 use Rattle.gate_log.proofs.Outside.{touches_not}
 use Rattle.ad_engine_store.specs.Stepping.{made_by}
-use Rattle.ad_engine_store.proofs.Committing.{untouched_moments, commit_moments, commit_crash, commit_holds}
-use Rattle.ad_engine_store.proofs.Committing.{never_spent}
+use Rattle.ad_engine_store.proofs.Commits.{untouched_moments, commit_moments, commit_crash, commit_holds}
+use Rattle.ad_engine_store.proofs.Commits.{never_spent}
 use Rattle.ad_engine_store.proofs.CommitLaws.{rows_kept, dir_kept}
 use Rattle.ad_engine_store.proofs.Rewriting.{bounded, last_told}
 use Rattle.ad_engine_store.proofs.dir_store.DirStore.commit_edits.Goals as goal

@@ -6,9 +6,9 @@ use Rattle.row_store.specs.declared.row.Row.{Row}
 use Rattle.row_store.specs.Row.{batch_size}
 use Rattle.ad_rows_write.specs.Batch.{AreRowsOfEdits}
 use Rattle.gate_log.proofs.Outside.{touches_not}
-use Rattle.ad_engine_store.proofs.Committing.{untouched_moments, commit_moments, commit_crash, commit_holds}
-use Rattle.ad_engine_store.proofs.Committing.{still_holds}
-use Rattle.ad_engine_store.proofs.Committing.{never_spent}
+use Rattle.ad_engine_store.proofs.Commits.{untouched_moments, commit_moments, commit_crash, commit_holds}
+use Rattle.ad_engine_store.proofs.Commits.{still_holds}
+use Rattle.ad_engine_store.proofs.Commits.{never_spent}
 use Rattle.ad_engine_store.proofs.Made.{made_all, made_count}
 use Rattle.ad_engine_store.proofs.Rewriting.{bounded, last_told}
 use Rattle.ad_engine_store.proofs.dir_store.DirStore.commit_steps.Goals as goal

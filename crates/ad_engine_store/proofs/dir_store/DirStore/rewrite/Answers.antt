@@ -1,7 +1,7 @@
 use Rattle.row_store.specs.Table.{table_of}
 use Rattle.gate_log.proofs.Outside.{touches_not}
 use Rattle.std.proofs.Common.{refl}
-use Rattle.ad_engine_store.proofs.Committing.{never_spent}
+use Rattle.ad_engine_store.proofs.Commits.{never_spent}
 use Rattle.ad_engine_store.proofs.Rewriting.{moments_still, untouched_still, snapshot_crash, snapshot_holds}
 use Rattle.ad_engine_store.proofs.dir_store.DirStore.rewrite.Goals as goal
 

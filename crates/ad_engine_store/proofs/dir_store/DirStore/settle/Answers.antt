@@ -1,5 +1,5 @@
 use Rattle.gate_log.proofs.Outside.{touches_not}
-use Rattle.ad_engine_store.proofs.Committing.{no_steps}
+use Rattle.ad_engine_store.proofs.Commits.{no_steps}
 use Rattle.ad_engine_store.proofs.dir_store.DirStore.settle.Goals as goal
 
 pub returns-then-self-clause-any_moment : goal.returns-then-self-clause-any_moment

@@ -1,8 +1,8 @@
 use Rattle.std.proofs.Common.{◌∙◌, ◌+◌, ◌<◌, ℕ, sym, ap, subst, arith}
 use Rattle.ad_engine_store.specs.Stepping.{IsSettling}
-use Rattle.ad_engine_store.proofs.Committing.{settling_from, settling_more, moments_on, moments_of_steps, are_more}
-use Rattle.ad_engine_store.proofs.Committing.{are_few}
-use Rattle.ad_engine_store.proofs.Committing.{work_smaller, same_end, same_lasts, same_bound}
+use Rattle.ad_engine_store.proofs.Commits.{settling_from, settling_more, moments_on, moments_of_steps, are_more}
+use Rattle.ad_engine_store.proofs.Commits.{are_few}
+use Rattle.ad_engine_store.proofs.Commits.{work_smaller, same_end, same_lasts, same_bound}
 use Rattle.ad_engine_store.proofs.dir_store.DirStore.settle_all.Goals as goal
 
 pub loop-n-init : goal.loop-n-init

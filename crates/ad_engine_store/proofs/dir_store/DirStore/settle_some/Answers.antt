@@ -7,7 +7,7 @@ use Rattle.gate_log.proofs.Outside.{touches_not, touches_on}
 use Rattle.ad_engine_store.specs.Settling.{steps_made}
 use Rattle.ad_engine_store.specs.Settling.{AreSteps, LastsAs}
 use Rattle.ad_engine_store.specs.Bound.{IsBounded}
-use Rattle.ad_engine_store.proofs.Committing.{untouched_moments}
+use Rattle.ad_engine_store.proofs.Commits.{untouched_moments}
 use Rattle.ad_engine_store.proofs.Made.{some_made, none_due, are_none}
 use Rattle.ad_engine_store.proofs.Rewriting.{room_then, room_failed, as_behind, rises_behind}
 use Rattle.ad_engine_store.proofs.dir_store.DirStore.settle_some.Goals as goal

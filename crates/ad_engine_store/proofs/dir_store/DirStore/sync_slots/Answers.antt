@@ -1,5 +1,5 @@
 use Rattle.std.proofs.Common.{refl}
-use Rattle.ad_engine_store.proofs.Committing.{never_spent}
+use Rattle.ad_engine_store.proofs.Commits.{never_spent}
 use Rattle.ad_engine_store.proofs.Keeping.{sync_crash, sync_holds}
 use Rattle.ad_engine_store.proofs.dir_store.DirStore.sync_slots.Goals as goal
 
