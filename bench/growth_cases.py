@@ -37,17 +37,30 @@ def asked(text, requests, code, groups=(), controls=()):
     return Call(text, given, answers(code, len(requests)))
 
 
+def one_by_name(count):
+    """Searches of one object by its name, which an index finds among so many, once for each eight of them."""
+    name = ber.sequence(ber.octets(b"name"), ber.octets(b"u7"), tag=0xA3)
+    return with_users(count), [search(ROOT, name, scope=2)] * (count // 8)
+
+
+def served(count):
+    return asked(*one_by_name(count), 0)
+
+
 # ---- the cases: their names, with the size where all are counted whole, and that of the short table
 
 CASES = {}
 # Cases that are known to grow faster, with the reason: they are told, and don't fail.
 KNOWN = {}
+# Cases that are counted at one size: what they are held against, and how many times as much they may take.
+AGAINST = {}
 
 
-def case(name, whole, short, known=""):
+def case(name, whole, short, known="", against=None):
     def put(made):
         CASES[name] = made, whole, short
         KNOWN.update({name: known} if known else {})
+        AGAINST.update({name: against} if against else {})
         return made
 
     return put
@@ -246,6 +259,14 @@ def open_values(count):
 def open_members(count):
     """Opening a store of a group of so many members, beyond that of the members."""
     return opens(with_members(count), with_users(count))
+
+
+@case("audit-search", 2000, 500, against=(served, 2))
+def audit_search(count):
+    """The audit of searches of one among so many objects, which an index finds, against the searches themselves."""
+    text, requests = one_by_name(count)
+    given = frame(1, 1, token()) + b"".join(message(one) for one in requests)
+    return Call(text, given, lambda said: not said, ("audit", "S"))
 
 
 def with_descriptors(count):

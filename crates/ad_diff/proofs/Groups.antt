@@ -7,7 +7,7 @@ use Rattle.std.proofs.lemmas.List.{get_or_append_left, length-map, append-nil, m
 use Rattle.std.proofs.lemmas.List.Elements.{All-append, All-cons, All-nil}
 use Rattle.std.proofs.lemmas.Option.{slice_get_within}
 use Rattle.ad_diff_rights.specs.declared.both.Both.{Both}
-use Rattle.ad_diff_rights.specs.declared.steady.Sides.{Sides}
+use Rattle.ad_diff_rights.specs.declared.unchanged.Sides.{Sides}
 use Rattle.ad_diff.specs.declared.numbering.Grouped.{Grouped}
 use Rattle.ad_diff.specs.declared.bases.Frame.{Frame}
 use Rattle.ad_diff.specs.declared.columns.Column.{Column}
@@ -25,6 +25,7 @@ added_none frame columns column none = record {
   are = sym (append-nil columns);
   within = omega arith;
   lines = λ place. sym (none place);
+  count = inl refl;
 }
 
 pub added_same : (frame : Frame) (columns : List Column) (column other : Column) (group n : ℕ) → group ≡ suc n
@@ -40,6 +41,7 @@ added_same frame columns column other group n own there same =
           ap (λ (g : ℕ). group_lines frame columns g place) own
           ∙ ap (λ (o : Option Column). option_map_or (λ (c : Column). lines_at frame c place) o []) there
           ∙ same place;
+      count = inl refl;
     }
 
 pub added_new : (frame : Frame) (old new : List Column) (column : Column) (group : ℕ)
@@ -57,6 +59,7 @@ added_new frame old new column group are count =
           (slice_get all (length old)) []) are
           ∙ ap (λ (o : Option Column). option_map_or (λ (c : Column). lines_at frame c place) o [])
           (last_at old column);
+      count = inr (omega (arith, many), count);
     }
 
 -- ---- objects that are placed
@@ -125,12 +128,18 @@ row_last frame columns old new place group are count =
       are = are;
       row = row_by frame columns new place (length old) place group own
           (ap (λ (all : List ℕ). slice_get all (length old)) are ∙ last_at old place) (λ i d lt. refl);
+      count = inr (omega (arith, many), count);
     }
 
 pub row_same : (frame : Frame) (columns : List Column) (leaders : List ℕ) (place group : ℕ)
     → IsRow frame columns leaders place group
     → IsLed frame columns leaders leaders place group
-row_same frame columns leaders place group row = record { more = []; are = sym (append-nil leaders); row = row }
+row_same frame columns leaders place group row = record {
+  more = [];
+  are = sym (append-nil leaders);
+  row = row;
+  count = inl refl;
+}
 
 row_still : (frame : Frame) (columns : List Column) (old new more : List ℕ) (place group : ℕ) → new ≡ old ++ more
     → IsRow frame columns old place group → IsRow frame columns new place group

@@ -1,9 +1,10 @@
 pub mod Lists
 pub mod Texts
-pub mod Grounds
+pub mod Contexts
 pub mod Putting
 pub mod Exact
 pub mod Groups
+pub mod Used
 pub mod Refusals
 pub mod Whole
 pub mod Steps

@@ -11,7 +11,7 @@ use Rattle.std.specs.Map.{lookup}
 use Rattle.indexmap.specs.IndexMap.{get, Updates}
 use Rattle.ad_dir_model.specs.Protection.{has}
 use Rattle.ad_diff_rights.specs.declared.both.Both.{Both}
-use Rattle.ad_diff_rights.specs.declared.steady.Sides.{Sides}
+use Rattle.ad_diff_rights.specs.declared.unchanged.Sides.{Sides}
 use Rattle.ad_diff_rights.specs.declared.tokens.Party.{Party}
 use Rattle.ad_diff_rights.specs.Own.{asked_in, changes_in}
 use Rattle.ad_diff_rights.specs.Sides.{changes_at}
@@ -19,11 +19,11 @@ use Rattle.ad_diff_rights.specs.Parties.{IsParty}
 use Rattle.ad_diff_rights.proofs.Owned.{changes_bare}
 use Rattle.ad_diff.specs.declared.bases.Frame.{Frame}
 use Rattle.ad_diff.specs.declared.columns.Column.{Column}
-use Rattle.ad_diff.specs.declared.ground.Ground.{Ground}
+use Rattle.ad_diff.specs.declared.context.Context.{Context}
 use Rattle.ad_diff.specs.Holders.{listed_if}
-use Rattle.ad_diff.specs.Frames.{base_at, HasBase, lines_at, IsRight, Keeps, IsPut, IsGround}
+use Rattle.ad_diff.specs.Frames.{base_at, HasBase, lines_at, IsRight, Keeps, IsPut, IsContext}
 use Rattle.ad_diff.proofs.Lists.{all_at, all_has}
-use Rattle.ad_diff.proofs.Grounds.{bare_party, not_holder}
+use Rattle.ad_diff.proofs.Contexts.{bare_party, not_holder}
 
 -- ---- no other lines
 
@@ -70,24 +70,24 @@ put_keeps sides o frame old new place lines are put other right =
 
 -- ---- all
 
-module _ (sides : Sides) (o : Both) (ground : Ground) (family : ℕ) (plain mid new : Column) (first second : List ℕ)
+module _ (sides : Sides) (o : Both) (context : Context) (family : ℕ) (plain mid new : Column) (first second : List ℕ)
   where
     pub column_right : All (IsParty sides.before.now sides.after.now) sides.parties.now
-        → IsGround sides.parties.now ground → HasBase sides ground.frame family o
-        → ((place : ℕ) → lines_at ground.frame plain place ≡ base_at ground.frame family place)
-        → first ≡ listed_if ground.holders.places (asked_in sides.before.now o.before)
-        → second ≡ listed_if ground.holders_after.places (asked_in sides.after.now o.after)
-        → All (IsRight sides o ground.frame mid) first → Keeps sides o ground.frame plain mid
-        → All (IsRight sides o ground.frame new) second → Keeps sides o ground.frame mid new
-        → (place : ℕ) → IsRight sides o ground.frame new place
+        → IsContext sides.parties.now context → HasBase sides context.frame family o
+        → ((place : ℕ) → lines_at context.frame plain place ≡ base_at context.frame family place)
+        → first ≡ listed_if context.holders.places (asked_in sides.before.now o.before)
+        → second ≡ listed_if context.holders_after.places (asked_in sides.after.now o.after)
+        → All (IsRight sides o context.frame mid) first → Keeps sides o context.frame plain mid
+        → All (IsRight sides o context.frame new) second → Keeps sides o context.frame mid new
+        → (place : ℕ) → IsRight sides o context.frame new place
     column_right are is base plainly is_first is_second right keeps right_too keeps_too place =
         let before = sides.before.now in
         let after = sides.after.now in
         let parties = sides.parties.now in
         elim (cases_Bool (has first place)) [
-          | inl held ↦ keeps_too place (all_has (IsRight sides o ground.frame mid) first place right held)
+          | inl held ↦ keeps_too place (all_has (IsRight sides o context.frame mid) first place right held)
           | inr none ↦ elim (cases_Bool (has second place)) [
-            | inl held ↦ all_has (IsRight sides o ground.frame new) second place right_too held
+            | inl held ↦ all_has (IsRight sides o context.frame new) second place right_too held
             | inr neither ↦ λ party own.
                 let bare = bare_party before after party (all_at (IsParty before after) parties place party are own) in
                 keeps_too place (keeps place (λ one there.
@@ -95,10 +95,10 @@ module _ (sides : Sides) (o : Both) (ground : Ground) (family : ℕ) (plain mid 
                 ∙ ap (λ (p : Party). changes_in before after p.was p.is false o)
                 (same_Some one party (sym there ∙ own))
                 ∙ sym (changes_bare before after party.was party.is o bare.0 bare.1
-                (not_holder ground.holders.places parties true (asked_in before o.before) place party
+                (not_holder context.holders.places parties true (asked_in before o.before) place party
                 is.before_holders own
                 (ap (λ (l : List ℕ). has l place) (sym is_first) ∙ none))
-                (not_holder ground.holders_after.places parties false (asked_in after o.after) place party
+                (not_holder context.holders_after.places parties false (asked_in after o.after) place party
                 is.after_holders own
                 (ap (λ (l : List ℕ). has l place) (sym is_second) ∙ neither)))
                 ∙ ap (λ (p : Party). changes_in before after p.was p.is true o)

@@ -1,12 +1,12 @@
 -- The whole text, of principals and objects in groups.
-use Rattle.std.proofs.Common.{◌≡◌, ◌∙◌, ◌<◌, ℕ, List, ◌++◌, map, refl, sym, ap, subst}
+use Rattle.std.proofs.Common.{◌≡◌, ◌∙◌, ◌<◌, ℕ, List, ◌++◌, length, map, refl, sym, ap, subst}
 use Rattle.std.specs.Prelude.{All, codes}
 use Rattle.std.specs.List.{flat_map}
 use Rattle.std.proofs.lemmas.List.{get_or-map, length-map}
 use Rattle.std.proofs.lemmas.List.Elements.{All-filter}
 use Rattle.ad_dir_model.specs.Directory.{Directory}
 use Rattle.ad_diff_rights.specs.declared.both.Both.{Both}
-use Rattle.ad_diff_rights.specs.declared.steady.Sides.{Sides}
+use Rattle.ad_diff_rights.specs.declared.unchanged.Sides.{Sides}
 use Rattle.ad_diff_rights.specs.declared.tokens.Party.{Party}
 use Rattle.ad_diff_rights.specs.Both.{are_principals, objects_of_both, principals_of_both, IsLiveBoth}
 use Rattle.ad_diff_rights.specs.Parties.{IsParty}
@@ -15,8 +15,9 @@ use Rattle.ad_diff.specs.declared.bases.Frame.{Frame}
 use Rattle.ad_diff.specs.declared.columns.Column.{Column}
 use Rattle.ad_diff.specs.Text.{members, principal_line, object_line, row_text, table_text, only_text, IsDiffText}
 use Rattle.ad_diff.specs.Frames.{lines_at}
-use Rattle.ad_diff.specs.Table.{ArePlaced, row_of, table_of, AreRows}
+use Rattle.ad_diff.specs.Table.{ArePlaced, row_of, table_of, AreRows, AreUsed}
 use Rattle.ad_diff.proofs.Exact.{exact_all, none_of_objects, none_of_principals}
+use Rattle.ad_diff.proofs.Used.{cells_of_members}
 
 table_is : (frame : Frame) (columns : List Column) (leaders : List ℕ)
     → table_text 1 (map (λ (column : Column). row_of leaders (lines_at frame column)) columns)
@@ -29,6 +30,7 @@ pub whole : (sides : Sides) (frame : Frame) (columns : List Column) (objects gro
     → map (λ (party : Party). party.both) sides.parties.now ≡ members groups
     → All (IsParty sides.before.now sides.after.now) sides.parties.now
     → ArePlaced sides frame columns objects → AreRows frame columns leaders groups
+    → AreUsed (length columns) objects → AreUsed (length leaders) groups
     → members groups ≡ principals_of_both sides.before.now sides.after.now
     → members objects ≡ objects_of_both sides.before.now sides.after.now
     → text ≡ flat_map (principal_line sides.after.now) groups ++ (flat_map (object_line sides.after.now) objects
@@ -36,7 +38,7 @@ pub whole : (sides : Sides) (frame : Frame) (columns : List Column) (objects gro
     ++ (only_text (codes "only before ") sides.before.now sides.after.now
     ++ only_text (codes "only after ") sides.after.now sides.before.now)))
     → IsDiffText sides.before.now sides.after.now text
-whole sides frame columns objects groups leaders text same are placed rows they_are things_are is =
+whole sides frame columns objects groups leaders text same are placed rows things they they_are things_are is =
     let before = sides.before.now in
     let after = sides.after.now in
     record {
@@ -48,6 +50,7 @@ whole sides frame columns objects groups leaders text same are placed rows they_
       exact = exact_all sides frame columns objects groups leaders same are placed rows;
       unlisted_objects = λ k. none_of_objects frame columns leaders k;
       unlisted_principals = λ l. none_of_principals frame columns leaders l;
+      of_members = λ l k. cells_of_members frame columns leaders objects groups things they l k;
       lines = is ∙ ap (λ (t : List ℕ). flat_map (principal_line after) groups ++ (flat_map (object_line after) objects
           ++ (t ++ (only_text (codes "only before ") before after ++ only_text (codes "only after ") after before))))
           (table_is frame columns leaders);

@@ -1,18 +1,18 @@
 -- Only for private contracts, invariants and proofs: the lines of kinds on families, and columns.
-use Rattle.std.specs.Prelude.{◌≡◌, ℕ, zero, suc, ◌<◌, true, false, nat_eq, Some, List, [], ◌++◌, map, get_or, length}
+use Rattle.std.specs.Prelude.{◌≡◌, ◌⊎◌, ℕ, zero, suc, ◌<◌, true, false, nat_eq, Some, List, [], ◌++◌, map, get_or, length}
 use Rattle.std.specs.Prelude.{slice_get}
 use Rattle.std.specs.Option.{option_map_or}
 use Rattle.std.specs.Global.{Vec}
 use Rattle.indexmap.specs.IndexMap.{get}
 use Rattle.ad_diff_rights.specs.declared.both.Both.{Both}
-use Rattle.ad_diff_rights.specs.declared.steady.Sides.{Sides}
+use Rattle.ad_diff_rights.specs.declared.unchanged.Sides.{Sides}
 use Rattle.ad_diff_rights.specs.declared.tokens.Party.{Party}
 use Rattle.ad_diff_rights.specs.Own.{changes_in}
 use Rattle.ad_diff_rights.specs.Sides.{changes_at}
 use Rattle.ad_diff_rights.specs.Steps.{texts}
 use Rattle.ad_diff.specs.declared.bases.Frame.{Frame}
 use Rattle.ad_diff.specs.declared.columns.Column.{Column}
-use Rattle.ad_diff.specs.declared.ground.Ground.{Ground}
+use Rattle.ad_diff.specs.declared.context.Context.{Context}
 use Rattle.ad_diff.specs.Holders.{AreHolders}
 
 -- ---- where own identifiers don't count
@@ -67,9 +67,9 @@ pub record IsPut (frame : Frame) (old new : Column) (place : ℕ) (lines : List 
 -- ---- what columns are made of
 
 -- who holds an identifier
-pub record IsGround (parties : List Party) (ground : Ground) : Type 0 where
-  pub before_holders : AreHolders parties true (length parties) ground.holders.places
-  pub after_holders : AreHolders parties false (length parties) ground.holders_after.places
+pub record IsContext (parties : List Party) (context : Context) : Type 0 where
+  pub before_holders : AreHolders parties true (length parties) context.holders.places
+  pub after_holders : AreHolders parties false (length parties) context.holders_after.places
 
 -- the families that begin with these objects have their lines
 abbrev pub AreBases : Sides → Frame → List Both → Type 0
@@ -78,15 +78,20 @@ AreBases sides frame firsts = (family : ℕ) (first : Both) → slice_get firsts
 
 -- ---- groups
 
+-- there are as many groups as before, or one more, of which this is the number
+abbrev pub IsNumbered : ℕ → ℕ → ℕ → Type 0
+IsNumbered old new group = (new ≡ old) ⊎ ((new ≡ suc old) × (group ≡ new))
+
 -- the lines of the principal at a place in the column of a group of objects; group 0 has none
 abbrev pub group_lines : Frame → List Column → ℕ → ℕ → List ℕ
 group_lines frame columns zero place = []
 group_lines frame columns (suc n) place = option_map_or (λ (column : Column). lines_at frame column place)
     (slice_get columns n) []
 
--- more columns stand after, and the group has the lines of this one
+-- More columns stand after, and the group has the lines of this one. No column is added but that of the group.
 pub record IsAdded (frame : Frame) (old new : List Column) (column : Column) (group : ℕ) : Type 0 where
   pub more : List Column
   pub are : new ≡ old ++ more
   pub within : group < suc (length new)
   pub lines : (place : ℕ) → group_lines frame new group place ≡ lines_at frame column place
+  pub count : IsNumbered (length old) (length new) group

@@ -1,14 +1,14 @@
 -- Only for private contracts, invariants and proofs: columns of the table and groups of its rows.
-use Rattle.std.specs.Prelude.{◌≡◌, ℕ, suc, ◌<◌, true, Some, List, [], ◌∷◌, ◌++◌, All, map, get_or, length, slice_get}
+use Rattle.std.specs.Prelude.{◌≡◌, ℕ, zero, suc, ◌<◌, true, Some, List, [], ◌∷◌, ◌++◌, All, map, get_or, length, slice_get}
 use Rattle.ad_diff_rights.specs.declared.both.Both.{Both}
-use Rattle.ad_diff_rights.specs.declared.steady.Sides.{Sides}
+use Rattle.ad_diff_rights.specs.declared.unchanged.Sides.{Sides}
 use Rattle.ad_diff_rights.specs.declared.tokens.Party.{Party}
 use Rattle.ad_diff_rights.specs.Own.{changes_in}
 use Rattle.ad_diff.specs.declared.numbering.Grouped.{Grouped}
 use Rattle.ad_diff.specs.declared.bases.Frame.{Frame}
 use Rattle.ad_diff.specs.declared.columns.Column.{Column}
-use Rattle.ad_diff.specs.Text.{members}
-use Rattle.ad_diff.specs.Frames.{lines_at, group_lines}
+use Rattle.ad_diff.specs.Text.{members, has_member}
+use Rattle.ad_diff.specs.Frames.{lines_at, group_lines, IsNumbered}
 
 -- ---- the table
 
@@ -39,16 +39,24 @@ pub record IsRow (frame : Frame) (columns : List Column) (leaders : List ℕ) (p
       ≡ get_or (row_of leaders (lines_at frame column)) group [])
       columns
 
--- more leaders stand after, and the principal at the place has such a group
+-- More leaders stand after, and the principal at the place has such a group. No leader is added but that of the group.
 pub record IsLed (frame : Frame) (columns : List Column) (old new : List ℕ) (place group : ℕ) : Type 0 where
   pub more : List ℕ
   pub are : new ≡ old ++ more
   pub row : IsRow frame columns new place group
+  pub count : IsNumbered (length old) (length new) group
 
 -- each of the first principals has such a group
 abbrev pub AreRows : Frame → List Column → List ℕ → List Grouped → Type 0
 AreRows frame columns leaders groups = (place : ℕ) (g : Grouped) → slice_get groups place ≡ Some g
     → IsRow frame columns leaders place g.group
+
+-- ---- groups in use
+
+-- each of the groups from 1 to this number has a member
+abbrev pub AreUsed : ℕ → List Grouped → Type 0
+AreUsed zero groups = Unit {0}
+AreUsed (suc n) groups = (has_member groups (suc n) ≡ true) × AreUsed n groups
 
 -- ---- what the steps keep
 
@@ -57,9 +65,11 @@ pub record AreGrouped (frame : Frame) (columns : List Column) (done : List Both)
     (leaders : List ℕ) : Type 0 where
   pub members_are : members groups ≡ done
   pub rows : AreRows frame columns leaders groups
+  pub used : AreUsed (length leaders) groups
 
 -- the objects so far are placed
 pub record IsPlacing (sides : Sides) (frame : Frame) (done : List Both) (objects : List Grouped)
     (columns : List Column) : Type 0 where
   pub members_are : members objects ≡ done
   pub placed : ArePlaced sides frame columns objects
+  pub used : AreUsed (length columns) objects

@@ -1,7 +1,7 @@
 -- The text of differences: principals and objects in groups, and for a group of each what its members gain and lose.
-use Rattle.std.specs.Prelude.{◌≡◌, ℕ, ◌+◌, ◌==◌, if◌then◌else◌, is_some, List, [], ◌∷◌}
+use Rattle.std.specs.Prelude.{◌≡◌, ◌⊎◌, ℕ, ◌+◌, Bool, true, ◌==◌, if◌then◌else◌, is_some, List, [], ◌∷◌}
 use Rattle.std.specs.Prelude.{◌++◌, codes, decimal, map, get_or, All}
-use Rattle.std.specs.List.{flat_map}
+use Rattle.std.specs.List.{flat_map, list_any}
 use Rattle.std.specs.Option.{option_map_or}
 use Rattle.ad_bytes.specs.Puts.{spaced, ended, labelled}
 use Rattle.ad_ids.specs.SidText.{sid_text}
@@ -18,6 +18,10 @@ use Rattle.ad_diff.specs.declared.numbering.Grouped.{Grouped}
 
 abbrev pub members : List Grouped → List Both
 members groups = map (λ (g : Grouped). g.both) groups
+
+-- one is in the group of this number
+abbrev pub has_member : List Grouped → ℕ → Bool
+has_member groups group = list_any (λ (g : Grouped). g.group == group) groups
 
 -- the lines of a group of objects and a group of principals, in a table of both; those that aren't in it have none
 unfoldable pub cell : List (List (List ℕ)) → ℕ → ℕ → List ℕ
@@ -71,7 +75,7 @@ only_text label dir other = flat_map (only_line label dir other) (numbers dir.ob
 -- ---- all
 
 -- Each principal and each object of both is in a group. On each object each principal gains and loses exactly what
--- the lines of their groups say; and group 0 of either has no lines.
+-- the lines of their groups say. Group 0 of either has no lines, nor has a group that nobody, or nothing, is in.
 pub record IsDiffText (before after : Directory) (text : List ℕ) : Type 0 where
   pub principals : List Grouped
   pub objects : List Grouped
@@ -82,6 +86,8 @@ pub record IsDiffText (before after : Directory) (text : List ℕ) : Type 0 wher
       (cell table o.group p.group)) objects) principals
   pub unlisted_objects : (principals : ℕ) → cell table 0 principals ≡ []
   pub unlisted_principals : (objects : ℕ) → cell table objects 0 ≡ []
+  pub of_members : (objects_group principals_group : ℕ) → (cell table objects_group principals_group ≡ [])
+      ⊎ ((has_member objects objects_group ≡ true) × (has_member principals principals_group ≡ true))
   pub lines : text ≡ flat_map (principal_line after) principals
       ++ (flat_map (object_line after) objects
       ++ (table_text 0 table

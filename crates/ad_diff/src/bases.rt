@@ -2,7 +2,7 @@
 
 ghost use Rattle.std.specs.Prelude.{◌≡◌, [], ℕ, true, All, get_or, IfOk};
 ghost use Rattle.ad_diff_rights.specs.Both.{IsLiveBoth};
-ghost use Rattle.ad_diff_rights.specs.Sides.{AreMarked};
+ghost use Rattle.ad_diff_rights.specs.Sides.{AreFlagged};
 ghost use Rattle.ad_diff_rights.specs.Steps.{texts};
 ghost use Rattle.ad_diff.specs.Frames.{bares_on, all_bares, row_texts, base_at};
 
@@ -24,7 +24,7 @@ fn row_of(
     o: Both,
 ) -> Result<Vec<Vec<u8>>, AllocError>
     requires live { IsLiveBoth sides.now.before.now sides.now.after.now o }
-    requires marked { AreMarked sides.now }
+    requires flagged { AreFlagged sides.now }
     ensures { IfOk result (λ row. texts row.items ≡ bares_on sides.now places.now o) }
 {
     let mut row = Vec::new(alloc);
@@ -48,7 +48,7 @@ pub(crate) fn rows_of(
     objects: &[Both],
 ) -> Result<Vec<Vec<Vec<u8>>>, AllocError>
     requires live { All (IsLiveBoth sides.now.before.now sides.now.after.now) objects.now }
-    requires marked { AreMarked sides.now }
+    requires flagged { AreFlagged sides.now }
     ensures { IfOk result (λ rows. row_texts rows.items
         ≡ all_bares sides.now places.now objects.now) }
 {

@@ -4,12 +4,12 @@ ghost use Rattle.std.specs.Prelude.{◌≡◌, ℕ, true, All, IfOk, OnOk};
 ghost use Rattle.ad_diff_rights.specs.Both.{IsLiveBoth};
 ghost use Rattle.ad_diff_rights.specs.Parties.{IsParty};
 ghost use Rattle.ad_diff_rights.specs.Same.{IsUnchanged};
-ghost use Rattle.ad_diff_rights.specs.Sides.{AreMarked};
+ghost use Rattle.ad_diff_rights.specs.Sides.{AreFlagged};
 ghost use Rattle.ad_diff.specs.declared.bases.Frame.{Frame as FrameValue};
-ghost use Rattle.ad_diff.specs.Frames.{lines_at, base_at, HasBase, IsRight, Keeps, IsPut, IsGround};
+ghost use Rattle.ad_diff.specs.Frames.{lines_at, base_at, HasBase, IsRight, Keeps, IsPut, IsContext};
 
 use crate::bases::{Frame, base_at};
-use crate::ground::Ground;
+use crate::context::Context;
 use crate::holders::holders_of;
 use crate::numbering::Grouped;
 use ad_diff_rights::{Both, Sides, asked_in, changes_at, is_unchanged};
@@ -57,7 +57,7 @@ fn judge(
     place: usize,
 ) -> Result<(), AllocError>
     requires live { IsLiveBoth sides.now.before.now sides.now.after.now o }
-    requires marked { AreMarked sides.now }
+    requires flagged { AreFlagged sides.now }
     requires unchanged { unchanged ≡ true
         → IsUnchanged sides.now.before.now sides.now.after.now o }
     ensures right { OnOk result (IsRight sides.now o frame.now column.new place) }
@@ -79,7 +79,7 @@ fn judge_all(
     places: &[usize],
 ) -> Result<(), AllocError>
     requires live { IsLiveBoth sides.now.before.now sides.now.after.now o }
-    requires marked { AreMarked sides.now }
+    requires flagged { AreFlagged sides.now }
     requires unchanged { unchanged ≡ true
         → IsUnchanged sides.now.before.now sides.now.after.now o }
     ensures right { OnOk result (All (IsRight sides.now o frame.now column.new) places.now) }
@@ -111,25 +111,25 @@ fn plain(alloc: Global, family: u32) -> Column
 pub(crate) fn column_of(
     alloc: Global,
     sides: &Sides<'_>,
-    ground: &Ground,
+    context: &Context,
     g: Grouped,
 ) -> Result<Column, AllocError>
     requires live { IsLiveBoth sides.now.before.now sides.now.after.now g.both }
-    requires marked { AreMarked sides.now }
+    requires flagged { AreFlagged sides.now }
     requires parties { All (IsParty sides.now.before.now sides.now.after.now)
         sides.now.parties.now }
-    requires ground { IsGround sides.now.parties.now ground.now }
-    requires base { HasBase sides.now ground.now.frame g.group g.both }
-    ensures { IfOk result (λ column. (place : ℕ) → IsRight sides.now g.both ground.now.frame
+    requires context { IsContext sides.now.parties.now context.now }
+    requires base { HasBase sides.now context.now.frame g.group g.both }
+    ensures { IfOk result (λ column. (place : ℕ) → IsRight sides.now g.both context.now.frame
         column place) }
 {
-    let frame = &ground.frame;
+    let frame = &context.frame;
     let o = g.both;
     let unchanged = is_unchanged(sides.before, sides.after, o);
     let mut column = plain(alloc, g.group);
-    let first = holders_of(&ground.holders, asked_in(sides.before, o.before));
+    let first = holders_of(&context.holders, asked_in(sides.before, o.before));
     judge_all(alloc, sides, frame, &mut column, o, unchanged, first)?;
-    let second = holders_of(&ground.holders_after, asked_in(sides.after, o.after));
+    let second = holders_of(&context.holders_after, asked_in(sides.after, o.after));
     judge_all(alloc, sides, frame, &mut column, o, unchanged, second)?;
     Ok(column)
 }

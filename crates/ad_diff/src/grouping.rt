@@ -1,18 +1,18 @@
 //! The objects in groups: those of a group have one column of lines, and those of group 0 have none.
 
-ghost use Rattle.std.specs.Prelude.{◌≡◌, ◌++◌, ◌∷◌, [], ℕ, true, All, slice_get, OnOk, IfOk};
+ghost use Rattle.std.specs.Prelude.{◌≡◌, ◌++◌, ◌∷◌, [], ℕ, true, All, length, slice_get, OnOk, IfOk};
 ghost use Rattle.std.specs.Option.{option_copied};
 ghost use Rattle.ad_diff_rights.specs.Both.{IsLiveBoth};
 ghost use Rattle.ad_diff_rights.specs.Parties.{IsParty};
-ghost use Rattle.ad_diff_rights.specs.Sides.{AreMarked};
+ghost use Rattle.ad_diff_rights.specs.Sides.{AreFlagged};
 ghost use Rattle.ad_diff.specs.declared.bases.Frame.{Frame as FrameValue};
 ghost use Rattle.ad_diff.specs.Text.{members};
-ghost use Rattle.ad_diff.specs.Frames.{lines_at, HasBase, IsGround, IsAdded};
-ghost use Rattle.ad_diff.specs.Table.{ArePlaced};
+ghost use Rattle.ad_diff.specs.Frames.{lines_at, HasBase, IsContext, IsAdded};
+ghost use Rattle.ad_diff.specs.Table.{ArePlaced, AreUsed};
 
 use crate::bases::{Frame, is_quiet_family};
 use crate::columns::{Column, column_of, is_plain};
-use crate::ground::Ground;
+use crate::context::Context;
 use crate::numbering::{Grouped, number_of};
 use ad_diff_rights::Sides;
 use indexmap::IndexMap;
@@ -93,26 +93,29 @@ fn group_of(
 fn place(
     alloc: Global,
     sides: &Sides<'_>,
-    ground: &Ground,
+    context: &Context,
     placing: &mut Placing,
     hint: Option<u32>,
     g: Grouped,
 ) -> Result<u32, AllocError>
     requires live { IsLiveBoth sides.now.before.now sides.now.after.now g.both }
-    requires marked { AreMarked sides.now }
+    requires flagged { AreFlagged sides.now }
     requires parties { All (IsParty sides.now.before.now sides.now.after.now)
         sides.now.parties.now }
-    requires ground { IsGround sides.now.parties.now ground.now }
-    requires base { HasBase sides.now ground.now.frame g.group g.both }
-    requires placed { ArePlaced sides.now ground.now.frame placing.now.columns.items
+    requires context { IsContext sides.now.parties.now context.now }
+    requires base { HasBase sides.now context.now.frame g.group g.both }
+    requires placed { ArePlaced sides.now context.now.frame placing.now.columns.items
         placing.now.objects.items }
+    requires used { AreUsed (length placing.now.columns.items) placing.now.objects.items }
     ensures members { OnOk result (members placing.new.objects.items
         ≡ members placing.old.objects.items ++ (g.both ∷ [])) }
-    ensures placed { OnOk result (ArePlaced sides.now ground.now.frame placing.new.columns.items
+    ensures placed { OnOk result (ArePlaced sides.now context.now.frame placing.new.columns.items
+        placing.new.objects.items) }
+    ensures used { OnOk result (AreUsed (length placing.new.columns.items)
         placing.new.objects.items) }
 {
-    let column = column_of(alloc, sides, ground, g)?;
-    let group = group_of(&ground.frame, &mut placing.columns, hint, column)?;
+    let column = column_of(alloc, sides, context, g)?;
+    let group = group_of(&context.frame, &mut placing.columns, hint, column)?;
     placing.objects.push(Grouped {
         both: g.both,
         group,
@@ -129,20 +132,22 @@ fn place(
 pub(crate) fn placed(
     alloc: Global,
     sides: &Sides<'_>,
-    ground: &Ground,
+    context: &Context,
     objects: &[Grouped],
 ) -> Result<Placing, AllocError>
     requires live { All (λ g. IsLiveBoth sides.now.before.now sides.now.after.now g.both)
         objects.now }
-    requires marked { AreMarked sides.now }
+    requires flagged { AreFlagged sides.now }
     requires parties { All (IsParty sides.now.before.now sides.now.after.now)
         sides.now.parties.now }
-    requires ground { IsGround sides.now.parties.now ground.now }
-    requires bases { All (λ g. HasBase sides.now ground.now.frame g.group g.both) objects.now }
+    requires context { IsContext sides.now.parties.now context.now }
+    requires bases { All (λ g. HasBase sides.now context.now.frame g.group g.both) objects.now }
     ensures members { IfOk result (λ placing. members placing.objects.items
         ≡ members objects.now) }
-    ensures placed { IfOk result (λ placing. ArePlaced sides.now ground.now.frame
+    ensures placed { IfOk result (λ placing. ArePlaced sides.now context.now.frame
         placing.columns.items placing.objects.items) }
+    ensures used { IfOk result (λ placing. AreUsed (length placing.columns.items)
+        placing.objects.items) }
 {
     let mut hints: IndexMap<u32, u32> = IndexMap::new(alloc);
     let mut placing = Placing {
@@ -151,7 +156,7 @@ pub(crate) fn placed(
     };
     for g in objects {
         let hint = hints.get(&g.group).copied();
-        let group = place(alloc, sides, ground, &mut placing, hint, *g)?;
+        let group = place(alloc, sides, context, &mut placing, hint, *g)?;
         hints.insert(g.group, group)?;
     }
     Ok(placing)

@@ -33,8 +33,8 @@
 mod alike;
 mod bases;
 mod columns;
+mod context;
 mod families;
-mod ground;
 mod grouping;
 mod holders;
 mod kinds;
@@ -50,4 +50,4 @@ mod telling;
 pub use ad_diff_rights::Both;
 pub use laws::no_difference_is_both_told_and_refused;
 pub use numbering::Grouped;
-pub use telling::{Told, diff};
+pub use telling::{Answer, diff};

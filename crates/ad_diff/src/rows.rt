@@ -1,11 +1,11 @@
 //! The principals in groups: those of a group have the same lines in each column, and those of group 0 have none.
 
-ghost use Rattle.std.specs.Prelude.{◌≡◌, ◌++◌, ◌∷◌, [], true, List, All, IfOk, OnOk};
+ghost use Rattle.std.specs.Prelude.{◌≡◌, ◌++◌, ◌∷◌, [], true, List, All, length, IfOk, OnOk};
 ghost use Rattle.ad_diff.specs.declared.bases.Frame.{Frame as FrameValue};
 ghost use Rattle.ad_diff.specs.declared.columns.Column.{Column as ColumnValue};
 ghost use Rattle.ad_diff.specs.Text.{members};
 ghost use Rattle.ad_diff.specs.Frames.{lines_at};
-ghost use Rattle.ad_diff.specs.Table.{IsRow, IsLed, AreRows};
+ghost use Rattle.ad_diff.specs.Table.{IsRow, IsLed, AreRows, AreUsed};
 
 use crate::alike::{NOTHING, mixed, mixed_bytes};
 use crate::bases::Frame;
@@ -159,11 +159,13 @@ fn join(
     hint: Option<u32>,
     principal: Both,
 ) -> Result<u32, AllocError>
-    requires { AreRows frame.now columns.now rows.now.leaders.items rows.now.groups.items }
+    requires rows { AreRows frame.now columns.now rows.now.leaders.items rows.now.groups.items }
+    requires used { AreUsed (length rows.now.leaders.items) rows.now.groups.items }
     ensures members { OnOk result (members rows.new.groups.items
         ≡ members rows.old.groups.items ++ (principal ∷ [])) }
     ensures rows { OnOk result (AreRows frame.now columns.now rows.new.leaders.items
         rows.new.groups.items) }
+    ensures used { OnOk result (AreUsed (length rows.new.leaders.items) rows.new.groups.items) }
 {
     let place = rows.groups.as_slice().len();
     let group = group_of(frame, columns, &mut rows.leaders, place, hint)?;
@@ -188,6 +190,7 @@ pub(crate) fn grouped(
     ensures members { IfOk result (λ rows. members rows.groups.items ≡ principals.now) }
     ensures rows { IfOk result (λ rows. AreRows frame.now columns.now rows.leaders.items
         rows.groups.items) }
+    ensures used { IfOk result (λ rows. AreUsed (length rows.leaders.items) rows.groups.items) }
 {
     let hashes = hashes_of(alloc, frame, columns)?;
     let mut hints: IndexMap<u64, u32> = IndexMap::new(alloc);

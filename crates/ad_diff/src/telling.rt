@@ -4,29 +4,29 @@ ghost use Rattle.std.specs.Prelude.{◌≡◌, ◌++◌, false, true, All, map, 
 ghost use Rattle.std.specs.List.{flat_map};
 ghost use Rattle.ad_diff_rights.specs.Both.{objects_of_both, principals_of_both, IsLiveBoth};
 ghost use Rattle.ad_diff_rights.specs.Parties.{IsParty, AreNoParties, IsOfLive};
-ghost use Rattle.ad_diff_rights.specs.Sides.{AreMarked};
+ghost use Rattle.ad_diff_rights.specs.Sides.{AreFlagged};
 ghost use Rattle.ad_diff.specs.Text.{principal_line, object_line, table_text, only_text, IsDiffText};
 ghost use Rattle.ad_diff.specs.Answers.{DiffTold};
 ghost use Rattle.ad_diff.specs.Frames.{lines_at};
 ghost use Rattle.ad_diff.specs.Table.{row_of};
 
 use crate::bases::Frame;
+use crate::context::comparison_context;
 use crate::families::families_of;
-use crate::ground::ground_of;
 use crate::grouping::{Placing, placed};
 use crate::listing::{put_object_lines, put_only, put_principal_lines};
 use crate::refusing::line_of;
 use crate::rows::{Rows, grouped};
 use crate::table::put_table;
 use ad_diff_rights::{
-    Both, DiffFault, Sides, objects_of_both, parties, principals_among, steady_marks,
+    Both, DiffFault, Sides, objects_of_both, parties, principals_among, unchanged_flags,
 };
 use ad_dir::Dir;
 use std::alloc::{AllocError, Global};
 
 /// A text, and whether it is an answer; else it is the line that says why there is none.
 #[derive(Drop)]
-pub struct Told {
+pub struct Answer {
     pub answered: bool,
     pub text: Vec<u8>,
 }
@@ -81,19 +81,24 @@ fn text_by(
     requires both { map (λ party. party.both) sides.now.parties.now ≡ principals.now }
     requires parties { All (IsParty sides.now.before.now sides.now.after.now)
         sides.now.parties.now }
-    requires marked { AreMarked sides.now }
+    requires flagged { AreFlagged sides.now }
     ensures { IfOk result (λ text. IsDiffText sides.now.before.now sides.now.after.now
         text.items) }
 {
     let families = families_of(alloc, sides.before, sides.after, objects)?;
-    let ground = ground_of(alloc, sides, families.firsts.as_slice())?;
-    let placing = placed(alloc, sides, &ground, families.objects.as_slice())?;
-    let rows = grouped(alloc, &ground.frame, placing.columns.as_slice(), principals)?;
+    let context = comparison_context(alloc, sides, families.firsts.as_slice())?;
+    let placing = placed(alloc, sides, &context, families.objects.as_slice())?;
+    let rows = grouped(
+        alloc,
+        &context.frame,
+        placing.columns.as_slice(),
+        principals,
+    )?;
     text_of(
         alloc,
         sides.before,
         sides.after,
-        &ground.frame,
+        &context.frame,
         &placing,
         &rows,
     )
@@ -115,12 +120,12 @@ fn differences(
     ensures live { IfErr result (IsOfLive before.now after.now) }
 {
     let parties = parties(alloc, before, after, principals)?;
-    let marks = steady_marks(alloc, before, after, parties.as_slice())?;
+    let flags = unchanged_flags(alloc, before, after, parties.as_slice())?;
     let sides = Sides {
         before,
         after,
         parties: parties.as_slice(),
-        marks: marks.as_slice(),
+        flags: flags.as_slice(),
     };
     Ok(text_by(alloc, &sides, objects, principals)?)
 }
@@ -144,7 +149,7 @@ fn differing(alloc: Global, before: &Dir, after: &Dir) -> Result<Vec<u8>, DiffFa
 }
 
 // The line of a fault, but for want of memory.
-fn refusal(alloc: Global, before: &Dir, after: &Dir, fault: DiffFault) -> Result<Told, AllocError>
+fn refusal(alloc: Global, before: &Dir, after: &Dir, fault: DiffFault) -> Result<Answer, AllocError>
     requires live { IsOfLive before.now after.now fault }
     requires fault { AreNoParties before.now after.now
         (principals_of_both before.now after.now) fault }
@@ -154,7 +159,7 @@ fn refusal(alloc: Global, before: &Dir, after: &Dir, fault: DiffFault) -> Result
         return Err(AllocError);
     }
     let text = line_of(alloc, before, after, fault)?;
-    Ok(Told {
+    Ok(Answer {
         answered: false,
         text,
     })
@@ -168,11 +173,11 @@ fn refusal(alloc: Global, before: &Dir, after: &Dir, fault: DiffFault) -> Result
 /// # Errors
 ///
 /// Memory ran out, or there are more groups than numbers of 32 bits.
-pub fn diff(alloc: Global, before: &Dir, after: &Dir) -> Result<Told, AllocError>
+pub fn diff(alloc: Global, before: &Dir, after: &Dir) -> Result<Answer, AllocError>
     ensures { IfOk result (λ told. DiffTold before.now after.now told.answered told.text.items) }
 {
     match differing(alloc, before, after) {
-        Ok(text) => Ok(Told {
+        Ok(text) => Ok(Answer {
             answered: true,
             text,
         }),

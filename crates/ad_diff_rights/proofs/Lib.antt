@@ -4,7 +4,7 @@ pub mod Unasked
 pub mod Owned
 pub mod Likeness
 pub mod Holding
-pub mod Unchanged
+pub mod NoChange
 pub mod Naming
 pub mod Live
 pub mod Lacking
@@ -12,4 +12,4 @@ pub mod Masks
 pub mod Leaves
 pub mod Labels
 pub mod OneValue
-pub mod Marks
+pub mod Flags

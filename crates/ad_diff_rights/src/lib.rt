@@ -19,7 +19,7 @@
 //!
 //! # The caller owes
 //!
-//! Objects that are live in both directories, and principals that stand in both. Marks of `steady_marks`.
+//! Objects that are live in both directories, and principals that stand in both. Marks of `unchanged_flags`.
 //!
 //! # Cost
 //!
@@ -39,12 +39,12 @@ mod own;
 mod rights;
 mod same;
 mod sought;
-mod steady;
 mod tokens;
+mod unchanged;
 
 pub use both::{Both, counterpart, objects_of_both, principals_among};
 pub use named::named_by;
 pub use own::asked_in;
 pub use same::is_unchanged;
-pub use steady::{Sides, changes_at, steady_marks};
 pub use tokens::{DiffFault, Party, parties, party_at};
+pub use unchanged::{Sides, changes_at, unchanged_flags};

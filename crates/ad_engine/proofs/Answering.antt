@@ -11,7 +11,6 @@ use Rattle.site_io.specs.Disk.{Images}
 use Rattle.site_io.specs.Outside.{TouchesSlots}
 use Rattle.site_io.specs.declared.site.Site.{Ghosts}
 use Rattle.gate_log.proofs.Outside.{touches_not}
-use Rattle.row_store.specs.declared.row.Row.{Row}
 use Rattle.row_store.specs.declared.store.Store.{Store}
 use Rattle.row_store.specs.Rows.{HoldsTable, StandsIn as store_stands}
 use Rattle.ad_ids.specs.declared.token.Token.{Token}
@@ -22,27 +21,27 @@ use Rattle.ad_dir_model.specs.Protection.{protection_run}
 use Rattle.ad_dir_model.specs.Soundness.{IsSound}
 use Rattle.ad_dir_model.specs.Steps.{steps}
 use Rattle.ad_rows_write.specs.Rows.{AreRowsOf}
-use Rattle.ad_rows_write.specs.Batch.{AreRowsOfEdits}
-use Rattle.ad_engine.specs.declared.decided.Decided.{Decided}
+use Rattle.ad_engine_answer.specs.declared.decided.Decided.{Decided}
 use Rattle.ad_engine.specs.Answer.{Answered}
-use Rattle.ad_engine.specs.Decided.{AreEditsTo, IsRun}
-use Rattle.ad_engine.specs.Bound.{IsBounded}
-use Rattle.ad_engine.specs.Settling.{LastsAs}
-use Rattle.ad_engine.specs.Standing.{HoldsDir, Stands}
-use Rattle.ad_engine.specs.Serving.{LeavesOldOrNew, AllLeave, LastsOn}
-use Rattle.ad_engine.specs.Stepping.{Makes}
-use Rattle.ad_engine.specs.Served.{made_by, MayKeep, Keeps, Serves}
-use Rattle.ad_engine.specs.declared.engine.Engine.{Engine}
-use Rattle.ad_engine.specs.declared.engine_fault.EngineFault.{EngineFault}
-use Rattle.ad_engine.specs.declared.engine_fault.EngineFault.TheVariants.{Spent, Site, Memory}
-use Rattle.ad_engine.proofs.Committing.{untouched_moments}
+use Rattle.ad_engine_answer.specs.Decided.{AreEditsTo, IsRun}
+use Rattle.ad_engine_store.specs.Bound.{IsBounded}
+use Rattle.ad_engine_store.specs.Settling.{LastsAs}
+use Rattle.ad_engine_store.specs.Standing.{HoldsDir, Stands}
+use Rattle.ad_engine_store.specs.Serving.{LeavesOldOrNew, AllLeave, LastsOn}
+use Rattle.ad_engine.specs.Served.{Keeps, Serves}
+use Rattle.ad_engine_store.specs.Stepping.{made_by, MayCommit}
+use Rattle.ad_engine_store.specs.declared.dir_store.DirStore.{DirStore}
+use Rattle.ad_engine_store.specs.declared.engine_fault.EngineFault.{EngineFault}
+use Rattle.ad_engine_store.specs.declared.engine_fault.EngineFault.TheVariants.{Spent, Site, Memory}
+use Rattle.ad_engine_store.proofs.Committing.{untouched_moments}
+use Rattle.ad_engine_store.proofs.CommitLaws.{lasts_still, none_made}
 
 err_same : {T : Type 0} (a b : EngineFault) → ◌≡◌ {A = Result T EngineFault} (Err a) (Err b) → a ≡ b
 err_same a b e = cc
 
 -- ---- an engine with the same directory and the same store
 
-held_as : (engine changed : Engine) (r : Option Images) → changed.dir ≡ engine.dir → changed.store ≡ engine.store
+held_as : (engine changed : DirStore) (r : Option Images) → changed.dir ≡ engine.dir → changed.store ≡ engine.store
     → IfSome r (HoldsDir engine)
     → IfSome r (HoldsDir changed)
 held_as engine changed None dir store held = tt
@@ -52,7 +51,7 @@ held_as engine changed (Some images) dir store held = record {
   rows = subst (λ (d : Directory). AreRowsOf d held.table) (sym dir) held.rows;
 }
 
-pub stands_as : (engine changed : Engine) (reads : Option Images) (now : ℕ) (left : ℕ → Images → List ℕ → Type 0)
+pub stands_as : (engine changed : DirStore) (reads : Option Images) (now : ℕ) (left : ℕ → Images → List ℕ → Type 0)
     → changed.dir ≡ engine.dir
     → changed.store ≡ engine.store → Stands engine reads now left → Stands changed reads now left
 stands_as engine changed reads now left dir store stands = record {
@@ -63,13 +62,6 @@ stands_as engine changed reads now left dir store stands = record {
 }
 
 -- ---- crashes after a call
-
-pub lasts_still : {S : Type 0} (site : Ghosts S) (dir : Directory) (x : S) → LastsOn site dir dir x x
-lasts_still site dir x = by_told (site.reads x)
-  where
-    by_told : (r : Option Images) → IfSome r (λ held. AllLeave site dir x → AllLeave site dir x)
-    by_told None = tt
-    by_told (Some held) = λ all. all
 
 pub lasts_new : {S : Type 0} (site : Ghosts S) (before after : Directory) (x y : S) → LastsAs site after x y
     → LastsOn site before after x y
@@ -84,7 +76,7 @@ lasts_new site before after x y lasts = by_told (site.reads x) lasts
 
 -- before the site was touched
 pub failed_before : {S T : Type 0} (site : Ghosts S) (dir : Directory) (tokens : List (Option Token))
-    (engine changed : Engine) (x : S)
+    (engine changed : DirStore) (x : S)
     (outcome : Result T EngineFault) (e : EngineFault)
     → ((t : ℕ) (images : Images) (out : List ℕ) → site.left x t images out → t ≤ site.now x)
     → changed.spent ≡ engine.spent → outcome ≡ Err e → e ≡ Memory → Keeps site dir tokens engine changed x x outcome
@@ -105,7 +97,7 @@ failed_before {S} {T} site dir tokens engine changed x outcome e until spent is 
 
 -- as a part of it failed
 pub failed_part : {S T U : Type 0} (site : Ghosts S) (dir after : Directory) (left : List (Option Token))
-    (engine changed : Engine)
+    (engine changed : DirStore)
     (x y : S) (fault e : EngineFault) (outcome : Result U EngineFault)
     → LeavesOldOrNew engine.dir dir (site.reads x) (site.now x) (site.now y) (site.left x) (site.left y) → dir ≡ after
     → (after ≡ engine.dir → y ≡ x) → changed.spent ≡ engine.spent → (IsErrOf {T = T} (Err fault) Spent → ⊥)
@@ -134,7 +126,7 @@ failed_part {S} {T} {U} site dir after left engine changed x y fault e outcome m
 -- ---- a call that went on after a part of it
 
 pub kept_part : {S U : Type 0} (site : Ghosts S) (dir after : Directory) (left : List (Option Token))
-    (engine mid changed : Engine)
+    (engine mid changed : DirStore)
     (x y : S) (b : U) → mid.dir ≡ dir → dir ≡ after → Stands mid (site.reads y) (site.now y) (site.left y)
     → LastsOn site engine.dir mid.dir x y
     → LeavesOldOrNew engine.dir dir (site.reads x) (site.now x) (site.now y) (site.left x) (site.left y)
@@ -161,7 +153,7 @@ kept_part site dir after left engine mid changed x y b made same stands lasts mo
 
 -- the site wasn't touched, and the directory is as it was
 pub kept_still : {S T : Type 0} (site : Ghosts S) (dir : Directory) (tokens : List (Option Token))
-    (engine changed : Engine) (x : S) (a : T)
+    (engine changed : DirStore) (x : S) (a : T)
     → ((t : ℕ) (images : Images) (out : List ℕ) → site.left x t images out → t ≤ site.now x)
     → Stands engine (site.reads x) (site.now x) (site.left x)
     → engine.dir ≡ dir → changed.dir ≡ engine.dir → changed.store ≡ engine.store → changed.spent ≡ engine.spent
@@ -181,37 +173,13 @@ kept_still site dir tokens engine changed x a until stands same dir_is store_is 
   cause = λ no. absurd cc;
 }
 
--- ---- edits that were made and noted
-
-pub rows_kept : (made edits : List Edit) (old new : Directory) (rows noted : List Row) → made ≡ edits
-    → Makes (map edit_seen made) old new rows noted
-    → AreRowsOfEdits [] rows → AreRowsOfEdits (map edit_seen edits) noted
-rows_kept made edits old new rows noted same makes none
-    = subst (λ (es : List Edit). AreRowsOfEdits (map edit_seen es) noted) same (makes.rows_of [] none)
-
-pub dir_kept : (made edits : List Edit) (old new : Directory) (rows noted : List Row) → made ≡ edits
-    → Makes (map edit_seen made) old new rows noted
-    → made_by edits old ≡ new
-dir_kept made edits old new rows noted same makes = ap (λ (es : List Edit). made_by es old) (sym same) ∙ makes.made
-
 -- ---- edits that were decided
-
-pub none_made : (edits : List Edit) (dir : Directory) → edits ≡ [] → made_by edits dir ≡ dir
-unfolding all_edited
-none_made edits dir is = ap (λ (es : List Edit). made_by es dir) is
-
-pub is_empty : (edits : List Edit) → nat_eq (length edits) 0 ≡ true → edits ≡ []
-is_empty [] none = refl
-is_empty (edit ∷ edits) none = absurd (omega (arith, eqb-true (length (edit ∷ edits)) 0 none))
-
-pub is_full : (edits : List Edit) → nat_eq (length edits) 0 ≡ false → edits ≡ [] → ⊥
-is_full edits some is = true≢false (sym (ap (λ (es : List Edit). nat_eq (length es) 0) is) ∙ some)
 
 pub may_keep : (dir : Directory) (change : Option Directory) (edits : List Edit) → IsSound dir
     → MatchOption change (edits ≡ []) (AreEditsTo dir edits)
-    → MayKeep edits dir
+    → MayCommit edits dir
 unfolding all_edited
-may_keep dir None edits sound is = subst (λ (es : List Edit). MayKeep es dir) (sym is)
+may_keep dir None edits sound is = subst (λ (es : List Edit). MayCommit es dir) (sym is)
     (record { may = tt; sound = sound })
 may_keep dir (Some after) edits sound are = record { may = are.may; sound = subst IsSound (sym are.make) are.sound }
 
@@ -246,7 +214,7 @@ pub run_edits_are : (dir : Directory) (decided : Decided) (edits : List Edit) �
 run_edits_are dir decided edits same run = subst
     (λ (es : List Edit). AreEditsTo dir es (protection_run dir).directory) (sym same) run.edits
 
-pub may_run : (dir after : Directory) (edits : List Edit) → AreEditsTo dir edits after → MayKeep edits dir
+pub may_run : (dir after : Directory) (edits : List Edit) → AreEditsTo dir edits after → MayCommit edits dir
 may_run dir after edits are = record { may = are.may; sound = subst IsSound (sym are.make) are.sound }
 
 pub run_changes_none : (dir : Directory) (decided : Decided) (edits : List Edit) → edits ≡ decided.edits
@@ -275,7 +243,7 @@ bound_steps (suc n) dir new after P are same bound some = bound (omega arith)
 
 -- ---- the same answer
 
-pub served_as : {S T : Type 0} (site : Ghosts S) (a b : Answered) (engine changed : Engine) (x y : S)
+pub served_as : {S T : Type 0} (site : Ghosts S) (a b : Answered) (engine changed : DirStore) (x y : S)
     (outcome : Result T EngineFault) → a ≡ b
     → Serves site a engine changed x y outcome → Serves site b engine changed x y outcome
 served_as site a b engine changed x y outcome same served

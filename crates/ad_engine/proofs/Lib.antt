@@ -1,12 +1,1 @@
-pub mod Opening
-pub mod Keeping
-pub mod Making
-pub mod Made
-pub mod Committing
-pub mod Rewriting
 pub mod Answering
-pub mod TokenLaws
-pub mod Framed
-pub mod Effects
-pub mod Decisions
-pub mod RunLaws

@@ -1,16 +1,16 @@
 -- What each frame is answered, and what it makes of the directory and of the connections' tokens.
-use Rattle.std.specs.Prelude.{ℕ, zero, suc, if◌then◌else◌, Option, unwrap_or, List, [], ◌∷◌, length}
-use Rattle.prop_queue.specs.declared.pending.Pending.{Pending}
+use Rattle.std.specs.Prelude.{ℕ, if◌then◌else◌, Option, unwrap_or, List, length}
 use Rattle.ad_ids.specs.declared.token.Token.{Token}
 use Rattle.ad_frames.specs.declared.frame.Frame.{Frame}
 use Rattle.ad_frames.specs.declared.frame.FrameBody.{FrameBody}
 use Rattle.ad_frames.specs.declared.frame.FrameBody.TheVariants as body
 use Rattle.ad_dir_model.specs.Directory.{Directory}
-use Rattle.ad_dir_model.specs.Steps.{step, steps}
+use Rattle.ad_dir_model.specs.Steps.{steps}
 use Rattle.ad_dir_model.specs.Protection.{Run, protection_run}
-use Rattle.ad_engine.specs.Tokens.{token_of, with_token, without_token}
-use Rattle.ad_engine.specs.Output.{token_output, reply_output, steps_output, run_output}
-use Rattle.ad_engine.specs.Messages.{Decision, message_decided}
+use Rattle.ad_engine_store.specs.Settling.{steps_made}
+use Rattle.ad_engine_store.specs.Tokens.{token_of, with_token, without_token}
+use Rattle.ad_engine_answer.specs.Output.{token_output, reply_output, steps_output, run_output}
+use Rattle.ad_engine_answer.specs.Messages.{Decision, message_decided}
 
 -- The frame that is written, and the directory and the tokens from then on.
 pub record Answered : Type 0 where
@@ -41,15 +41,6 @@ message_answered dir tokens connection bytes = decided dir tokens connection
     (message_decided dir (token_of tokens connection) bytes)
 
 -- ---- steps: as many as are asked for, or fewer, until nothing is pending
-
-abbrev pub one_more : List Pending → ℕ → ℕ
-one_more [] made = 0
-one_more (entry ∷ others) made = suc made
-
--- how many are made
-unfoldable pub steps_made : ℕ → Directory → ℕ
-steps_made zero dir = 0
-steps_made (suc n) dir = one_more dir.pending (steps_made n (step dir))
 
 abbrev pub steps_answered : Directory → List (Option Token) → ℕ → ℕ → Answered
 steps_answered dir tokens connection n = record {

@@ -1,35 +1,22 @@
 -- What the parts of serving a frame make of an engine and of its store.
-use Rattle.std.specs.Prelude.{◌≡◌, List, Option, Result, OnOk, IsErrOf, map}
+use Rattle.std.specs.Prelude.{◌≡◌, List, Option, Result, OnOk, IsErrOf}
 use Rattle.site_io.specs.Counts.{HasRisen}
 use Rattle.site_io.specs.Outside.{TouchesSlots}
 use Rattle.site_io.specs.declared.site.Site.{Ghosts}
 use Rattle.ad_ids.specs.declared.token.Token.{Token}
-use Rattle.ad_dir_objects.specs.declared.edit.Edit.{Edit}
-use Rattle.ad_dir.specs.Applying.{MayApplyAll}
-use Rattle.ad_dir_objects.specs.Seen.{edit_seen}
-use Rattle.ad_dir_model.specs.Directory.{Directory, all_edited}
-use Rattle.ad_dir_model.specs.Soundness.{IsSound}
+use Rattle.ad_dir_model.specs.Directory.{Directory}
 use Rattle.ad_engine.specs.Answer.{Answered}
-use Rattle.ad_engine.specs.Standing.{Stands}
-use Rattle.ad_engine.specs.Bound.{IsBounded}
-use Rattle.ad_engine.specs.Serving.{LeavesOldOrNew, LastsOn}
-use Rattle.ad_engine.specs.declared.engine.Engine.{Engine}
-use Rattle.ad_engine.specs.declared.engine_fault.EngineFault.{EngineFault}
-use Rattle.ad_engine.specs.declared.engine_fault.EngineFault.TheVariants.{Spent, Site}
-
--- the directory that the edits make
-abbrev pub made_by : List Edit → Directory → Directory
-made_by edits dir = all_edited (map edit_seen edits) dir
-
--- each edit may be applied to what those before it made, and all of them make a sound directory
-pub record MayKeep (edits : List Edit) (dir : Directory) : Type 0 where
-  pub may : MayApplyAll dir edits
-  pub sound : IsSound (made_by edits dir)
+use Rattle.ad_engine_store.specs.Standing.{Stands}
+use Rattle.ad_engine_store.specs.Bound.{IsBounded}
+use Rattle.ad_engine_store.specs.Serving.{LeavesOldOrNew, LastsOn}
+use Rattle.ad_engine_store.specs.declared.dir_store.DirStore.{DirStore}
+use Rattle.ad_engine_store.specs.declared.engine_fault.EngineFault.{EngineFault}
+use Rattle.ad_engine_store.specs.declared.engine_fault.EngineFault.TheVariants.{Spent, Site}
 
 -- A call on an engine that is to make this directory and to leave these tokens, in one commit at most, and in none
 -- where the directory is the one from before.
 pub record Keeps {S T : Type 0} (site : Ghosts S) (dir : Directory) (tokens : List (Option Token))
-    (engine changed : Engine) (old new : S) (outcome : Result T EngineFault) : Type 0 where
+    (engine changed : DirStore) (old new : S) (outcome : Result T EngineFault) : Type 0 where
   pub directory : OnOk outcome (changed.dir ≡ dir)
   pub tokens_are : OnOk outcome (changed.tokens ≡ tokens)
   pub stands : OnOk outcome (Stands changed (site.reads new) (site.now new) (site.left new))
@@ -44,5 +31,5 @@ pub record Keeps {S T : Type 0} (site : Ghosts S) (dir : Directory) (tokens : Li
   pub cause : IsErrOf outcome Site → HasRisen (site.slot_faults old) (site.slot_faults new)
 
 -- the same of an answer
-abbrev pub Serves : {S T : Type 0} → Ghosts S → Answered → Engine → Engine → S → S → Result T EngineFault → Type 0
+abbrev pub Serves : {S T : Type 0} → Ghosts S → Answered → DirStore → DirStore → S → S → Result T EngineFault → Type 0
 Serves site a engine changed old new outcome = Keeps site a.directory a.tokens engine changed old new outcome

@@ -1,52 +1,55 @@
-//! A directory, its store, and the tokens of the connections.
+//! An engine: a store that is open, over which frames are served.
 
-ghost use Rattle.std.specs.Prelude.{◌≡◌, ◌↔◌, [], true, false, IfSome, IfOk, OnOk, IsErr};
-ghost use Rattle.std.specs.Prelude.{IsErrOf};
+ghost use Rattle.std.specs.Prelude.{◌≡◌, ◌↔◌, ◌<◌, [], true, false, IfSome, IfOk, OnOk, IsErr, IsErrOf};
 ghost use Rattle.site_io.specs.Counts.{HasRisen};
-ghost use Rattle.site_io.specs.Outside.{OnlyLooks};
+ghost use Rattle.site_io.specs.Outside.{OnlyLooks, TouchesSlots};
+ghost use Rattle.gate_log.specs.declared.version.Version.TheVariants.{Two};
 ghost use Rattle.ad_dir_model.specs.Soundness.{IsSound};
-ghost use Rattle.ad_engine.specs.Opening.{IsOpenedAs, AnswersFor};
-ghost use Rattle.ad_engine.specs.Settling.{LastsAs};
+ghost use Rattle.ad_dir_model.specs.Steps.{EmptiesAfter, steps};
+ghost use Rattle.ad_engine_store.specs.Bound.{IsBounded};
+ghost use Rattle.ad_engine_store.specs.Created.{IsCreated};
+ghost use Rattle.ad_engine_store.specs.Opening.{IsOpenedAs, AnswersFor};
+ghost use Rattle.ad_engine_store.specs.Serving.{LeavesDir, LeavesOldOrNew, LastsOn};
+ghost use Rattle.ad_engine_store.specs.Settling.{LastsAs, LeavesSteps};
+ghost use Rattle.ad_engine_store.specs.Standing.{StandsIn};
+ghost use Rattle.ad_engine_store.specs.Tokens.{token_of};
+ghost use Rattle.ad_engine.specs.Answer.{answer};
 
-use crate::Tokens;
-use crate::creating::store_of;
-use crate::engine_fault::EngineFault;
-use crate::fault::OpenFault;
+use crate::serving::serve;
 use ad_dir::Dir;
-use ad_rows::read_dir_in;
+use ad_engine_store::{DirStore, EngineFault, OpenFault};
+use ad_frames::Frame;
+use ad_ids::Token;
 use row_store::Store;
 use site_io::Site;
 use std::alloc::Global;
+use std::marker::Model;
 
-/// A directory in memory, the store that represents it, and the tokens of the connections.
+/// A directory in memory, the store that represents it, and the tokens of the connections, over which frames are
+/// served. Contracts see the parts of the store that is open.
 ///
 /// Each call on it is to be made over the site with which the engine was made, whose slots no one else has changed
 /// since.
+#[derive(Drop)]
 pub struct Engine {
-    pub(crate) alloc: Global,
-    pub(crate) dir: Dir,
-    pub(crate) store: Store,
-    pub(crate) tokens: Tokens,
-    pub(crate) spent: bool,
+    opened: DirStore,
 }
 
-// Written out, so that where it is dropped a proof has a single step.
-impl Drop for Engine {
-    fn drop(self) {
-        let Engine {
-            alloc: _,
-            dir,
-            store,
-            tokens,
-            spent: _,
-        } = self;
-        drop((dir, store, tokens));
-    }
+impl Model for Engine {
+    ghost use Rattle.ad_engine_store.specs.declared.dir_store.DirStore.{DirStore};
+
+    ghost Value = { DirStore };
+
+    ghost view = { λ engine. engine.opened };
 }
 
 impl Engine {
-    ghost use Rattle.ad_engine.specs.Created.{IsCreated};
-    ghost use Rattle.ad_engine.specs.Standing.{Stands, StandsIn};
+    /// An engine over a store that is open.
+    pub fn new(opened: DirStore) -> Engine
+        ensures { result ≡ opened }
+    {
+        Engine { opened }
+    }
 
     /// Makes a store of the directory in two empty slots. No connection has a token. At Ok each crash from then on
     /// leaves a store that represents it. A crash before that may leave anything in the slots.
@@ -59,14 +62,8 @@ impl Engine {
         requires { IsSound dir }
         ensures { IsCreated S.Site site.old site.new dir result }
     {
-        match store_of(alloc, site, &dir) {
-            Ok((store, tokens)) => Ok(Engine {
-                alloc,
-                dir,
-                store,
-                tokens,
-                spent: false,
-            }),
+        match DirStore::create(alloc, site, dir) {
+            Ok(opened) => Ok(Engine { opened }),
             Err(fault) => Err(fault),
         }
     }
@@ -93,17 +90,10 @@ impl Engine {
         ensures cause { IsErrOf result OpenFault.Site → HasRisen (S.slot_faults site.old)
             (S.slot_faults site.new) }
     {
-        let tokens = Tokens::new(alloc)?;
-        let mut room = Vec::new(alloc);
-        let (store, rows) = Store::resume_in(alloc, site, &mut room)?;
-        let dir = read_dir_in(alloc, &rows)?;
-        Ok(Engine {
-            alloc,
-            dir,
-            store,
-            tokens,
-            spent: false,
-        })
+        match DirStore::resume(alloc, site) {
+            Ok(opened) => Ok(Engine { opened }),
+            Err(fault) => Err(fault),
+        }
     }
 
     /// Makes what was read of the slots last, before anything rests on it: a store that is opened may hold what a
@@ -127,37 +117,145 @@ impl Engine {
         ensures cause { IsErrOf result EngineFault.Site → HasRisen (S.slot_faults site.old)
             (S.slot_faults site.new) }
     {
-        if self.spent {
-            return Err(EngineFault::Spent);
-        }
-        self.spent = true;
-        self.sync_slots(site)?;
-        self.spent = false;
-        Ok(())
+        self.opened.sync(site)
     }
 
-    // Syncs the slots of a store that isn't poisoned.
-    fn sync_slots<S: Site>(&mut self, site: &mut S) -> Result<(), EngineFault>
-        requires { Stands self.old (S.reads site.old) (S.now site.old) (S.left site.old) }
-        ensures stands { OnOk result
-            (Stands self.new (S.reads site.new) (S.now site.new) (S.left site.new)) }
-        ensures every_crash { OnOk result (LastsAs S.Site self.old.dir site.old site.new) }
+    /// Makes a store of version 1 one of version 2, by a snapshot in slot B, after which slot A is closed. A store of
+    /// version 2 isn't touched. At each moment a crash leaves what it could leave as the call began, or a store of
+    /// the directory. The tokens stay as they are.
+    ///
+    /// # Errors
+    ///
+    /// `Spent` exactly where an earlier call on this engine answered a fault. `Site` where the site failed, which
+    /// its count tells. `Memory` where there is no memory. After a fault the store is to be opened again, and
+    /// represents the same directory.
+    pub fn migrate<S: Site>(&mut self, site: &mut S) -> Result<(), EngineFault>
+        requires { StandsIn self.old (S.reads site.old) (S.now site.old) (S.left site.old) }
+        ensures stands { StandsIn self.new (S.reads site.new) (S.now site.new) (S.left site.new) }
+        ensures every_crash { OnOk result
+            (LastsOn S.Site self.old.dir self.old.dir site.old site.new) }
+        ensures any_moment { LeavesDir self.old.dir (S.reads site.old) (S.now site.old)
+            (S.now site.new) (S.left site.old) (S.left site.new) }
+        ensures version { OnOk result (self.new.store.log.version ≡ Two) }
+        // a store of version 2, by what it says of itself and by what its slots hold
+        ensures done { self.old.store.log.version ≡ Two → site.new ≡ site.old }
+        ensures untouched { IfSome (S.reads site.old)
+            (λ held. (IsOne held.a → ⊥) → site.new ≡ site.old) }
         ensures dir { self.new.dir ≡ self.old.dir }
         ensures tokens { self.new.tokens ≡ self.old.tokens }
-        ensures unspent { self.new.spent ≡ self.old.spent }
-        ensures faults { IsErrOf result EngineFault.Spent → ⊥ }
-        ensures memory { IsErrOf result EngineFault.Memory → ⊥ }
-        ensures outside { OnlyLooks S.Site site.old site.new }
+        ensures spent { IsErrOf result EngineFault.Spent ↔ self.old.spent ≡ true }
+        ensures marks { self.new.spent ≡ true ↔ IsErr result }
+        ensures outside { TouchesSlots S.Site site.old site.new }
         ensures cause { IsErrOf result EngineFault.Site → HasRisen (S.slot_faults site.old)
             (S.slot_faults site.new) }
     {
-        Ok(self.store.sync(site)?)
+        self.opened.migrate(site)
+    }
+
+    /// Makes steps of propagation until nothing is pending, in commits of at most 1,000 steps, and answers how many
+    /// there were. Before a commit the store is rewritten where it wants a snapshot. At each moment a crash leaves
+    /// a store that represents the directory after some number of steps. Where nothing is pending the site isn't
+    /// touched. The tokens stay as they are.
+    ///
+    /// # Errors
+    ///
+    /// `Spent` exactly where an earlier call on this engine answered a fault. `Site` where the site failed, which its
+    /// count tells. `Memory` where there is no memory. After a fault nothing is said of the engine's directory; the
+    /// store is to be opened again, and represents the directory after some number of steps.
+    pub fn settle<S: Site>(&mut self, site: &mut S) -> Result<u64, EngineFault>
+        requires { StandsIn self.old (S.reads site.old) (S.now site.old) (S.left site.old) }
+        ensures settled { IfOk result
+            (λ n. EmptiesAfter n self.old.dir × (self.new.dir ≡ steps n self.old.dir)) }
+        ensures stands { StandsIn self.new (S.reads site.new) (S.now site.new) (S.left site.new) }
+        ensures every_crash { IfOk result
+            (λ n. 0 < n → LastsAs S.Site self.new.dir site.old site.new) }
+        ensures bound { IfOk result (λ n. 0 < n → IsBounded self.new.store (S.reads site.new)) }
+        ensures none { IfOk result (λ n. n ≡ 0 → site.new ≡ site.old) }
+        ensures any_moment { LeavesSteps self.old.dir (S.reads site.old) (S.now site.old)
+            (S.now site.new) (S.left site.old) (S.left site.new) }
+        ensures tokens { self.new.tokens ≡ self.old.tokens }
+        ensures spent { IsErrOf result EngineFault.Spent ↔ self.old.spent ≡ true }
+        ensures marks { self.new.spent ≡ true ↔ IsErr result }
+        ensures outside { TouchesSlots S.Site site.old site.new }
+        ensures cause { IsErrOf result EngineFault.Site → HasRisen (S.slot_faults site.old)
+            (S.slot_faults site.new) }
+    {
+        self.opened.settle(site)
+    }
+
+    /// Serves a frame, and gives the whole frame that answers it. What the frame changes is committed first, in one
+    /// commit, and before that the store is rewritten where it wants a snapshot. Nothing is emitted. A frame that
+    /// leaves the directory as it was doesn't touch the site: a token, a search, a refused change, one that asks
+    /// for what stands there already, steps where nothing is pending, or a protection run that finds all as it
+    /// should be.
+    ///
+    /// The frames are those of `docs/profile/frames.md`. A message is judged by the token of its connection.
+    ///
+    /// # Errors
+    ///
+    /// `Spent` exactly where an earlier call on this engine answered a fault. `Site` where the site failed, which its
+    /// count tells. `Memory` where there is no memory. After a fault nothing is said of the engine's directory and of
+    /// its tokens; the store is to be opened again, and represents the directory from before the frame or the one
+    /// after it.
+    pub fn serve_frame<S: Site>(
+        &mut self,
+        site: &mut S,
+        frame: &Frame,
+    ) -> Result<Vec<u8>, EngineFault>
+        requires { StandsIn self.old (S.reads site.old) (S.now site.old) (S.left site.old) }
+        // The output, the directory and the tokens are those that the rules give.
+        ensures output { IfOk result
+            (λ output. output.items ≡ (answer self.old.dir self.old.tokens frame.now).output) }
+        ensures directory { OnOk result
+            (self.new.dir ≡ (answer self.old.dir self.old.tokens frame.now).directory) }
+        ensures tokens { OnOk result
+            (self.new.tokens ≡ (answer self.old.dir self.old.tokens frame.now).tokens) }
+        // The store holds the new directory, and each crash from then on leaves it, if each crash left the old one
+        // before.
+        ensures stands { StandsIn self.new (S.reads site.new) (S.now site.new) (S.left site.new) }
+        ensures every_crash { OnOk result
+            (LastsOn S.Site self.old.dir self.new.dir site.old site.new) }
+        // Whatever is answered, a crash in the meantime leaves what it could leave before, or a store of the old
+        // directory or the new one.
+        ensures any_moment { LeavesOldOrNew self.old.dir
+            (answer self.old.dir self.old.tokens frame.now).directory
+            (S.reads site.old) (S.now site.old) (S.now site.new) (S.left site.old)
+            (S.left site.new) }
+        ensures untouched { (answer self.old.dir self.old.tokens frame.now).directory ≡ self.old.dir
+            → site.new ≡ site.old }
+        // After a commit the journal is no longer than it may be.
+        ensures bound { OnOk result
+            (((answer self.old.dir self.old.tokens frame.now).directory ≡ self.old.dir → ⊥)
+            → IsBounded self.new.store (S.reads site.new)) }
+        ensures spent { IsErrOf result EngineFault.Spent ↔ self.old.spent ≡ true }
+        ensures marks { self.new.spent ≡ true ↔ IsErr result }
+        ensures outside { TouchesSlots S.Site site.old site.new }
+        ensures cause { IsErrOf result EngineFault.Site → HasRisen (S.slot_faults site.old)
+            (S.slot_faults site.new) }
+    {
+        serve(&mut self.opened, site, frame)
     }
 
     /// The directory. After a call that answered a fault nothing is said of it.
     pub fn dir(&self) -> &Dir
         ensures { result.now ≡ self.now.dir }
     {
-        &self.dir
+        self.opened.dir()
+    }
+
+    /// The token of a connection. For a connection without one that has no privilege, S-1-5-7 as user and owner, and
+    /// S-1-1-0 as primary and only group. It takes no memory. After a call that answered a fault nothing is said of
+    /// it.
+    pub fn token(&self, connection: u16) -> &Token
+        ensures { result.now ≡ token_of self.now.tokens connection }
+    {
+        self.opened.token(connection)
+    }
+
+    /// The store, which tells of its journal. After a call that answered a fault nothing is said of it.
+    pub fn store(&self) -> &Store
+        ensures { result.now ≡ self.now.store }
+    {
+        self.opened.store()
     }
 }

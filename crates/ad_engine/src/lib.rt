@@ -1,9 +1,7 @@
-//! The engine: a directory in memory and the store that represents it; and what each frame is answered: the replies
-//! to messages, and the edits that make what they change, decided on borrowed data, and the tokens of the
-//! connections.
+//! The engine: what each frame is answered, and what it makes of the directory, of the store that represents it, and of
+//! the tokens of the connections.
 //!
-//! The rules are written in `docs/profile/store.md`, `frames.md`, `ldap.md` and `changes.md`, and defined in
-//! `specs/`.
+//! The rules are written in `docs/profile/frames.md`, and defined in `specs/`.
 //!
 //! # Example
 //!
@@ -27,35 +25,11 @@
 //! # Cost
 //!
 //! What is decided of the frame, and then one commit that is linear in its edits. The steps of a frame are one
-//! commit, and those of `settle` one a thousand; each writes the pending list whole. A snapshot is taken where
-//! `row_store` wants one, and is linear in the directory.
+//! commit. A snapshot is taken where `row_store` wants one, and is linear in the directory.
 #![tactic(auto)]
 
-mod changing;
-mod creating;
-mod decided;
 mod engine;
-mod engine_fault;
-mod fault;
-mod framing;
-mod laws;
-mod messages;
-mod parts;
-mod ranges;
-mod replies;
-mod running;
 mod serving;
-mod settling;
-mod snapshots;
-mod stepping;
-mod tokens;
 
-pub use decided::Decided;
+pub use ad_engine_store::{EngineFault, OpenFault};
 pub use engine::Engine;
-pub use engine_fault::EngineFault;
-pub use fault::OpenFault;
-pub use framing::{counts, output};
-pub use laws::emit_keeps;
-pub use messages::message_answer;
-pub use running::run_answer;
-pub use tokens::Tokens;

@@ -21,9 +21,10 @@ use Rattle.ad_frames.specs.declared.frame.Frame.{Frame}
 use Rattle.ad_frames.specs.declared.frame.FrameBody.{FrameBody}
 use Rattle.ad_frames.specs.declared.frame.FrameBody.TheVariants as body
 use Rattle.ad_engine.specs.Answer.{Answered, decided, message_answered, steps_answered, body_answered, answer}
-use Rattle.ad_engine.specs.Messages.{Decision, done, by_effect, changed, op_decided, reading_decided, message_decided}
-use Rattle.ad_engine.specs.Output.{output_frame, reply_output}
-use Rattle.ad_engine.specs.Tokens.{token_of, without_token}
+use Rattle.ad_engine_answer.specs.Messages.{Decision, done, by_effect, changed, op_decided, reading_decided}
+use Rattle.ad_engine_answer.specs.Messages.{message_decided}
+use Rattle.ad_engine_answer.specs.Output.{output_frame, reply_output}
+use Rattle.ad_engine_store.specs.Tokens.{token_of, without_token}
 use Rattle.ad_engine_laws.specs.Reads.{IsNoChange, IsQuestion, AsksNoChange, IsReadBody, IsRead}
 use Rattle.ad_engine_laws.specs.Results.{LeavesAll, HasCode, Succeeds}
 use Rattle.ad_engine_laws.proofs.SameCode.{same_parts, same_code}

@@ -26,9 +26,9 @@ use Rattle.ad_frames.specs.declared.frame.Frame.{Frame}
 use Rattle.ad_frames.specs.declared.frame.FrameBody.{FrameBody}
 use Rattle.ad_frames.specs.declared.frame.FrameBody.TheVariants as body
 use Rattle.ad_engine.specs.Answer.{body_answered, answer}
-use Rattle.ad_engine.specs.Messages.{Decision, by_effect, changed, op_decided, reading_decided, message_decided}
+use Rattle.ad_engine_answer.specs.Messages.{Decision, by_effect, changed, op_decided, reading_decided, message_decided}
 use Rattle.ad_engine.specs.Runs.{after_from}
-use Rattle.ad_engine.specs.Tokens.{token_of}
+use Rattle.ad_engine_store.specs.Tokens.{token_of}
 use Rattle.ad_engine_laws.specs.Bytes.{IsOfBytes, HasBytes, HaveBytes}
 use Rattle.ad_engine_laws.proofs.Parts.{HasByteValues, message_values}
 

@@ -5,10 +5,10 @@ use Rattle.ad_ids.specs.declared.token.Token.{Token}
 use Rattle.ad_dir_model.specs.Directory.{Directory}
 use Rattle.ad_frames.specs.declared.frame.Frame.{Frame}
 use Rattle.ad_engine.specs.Answer.{answer}
-use Rattle.ad_engine.specs.Messages.{message_decided}
-use Rattle.ad_engine.specs.Output.{token_output, reply_output}
+use Rattle.ad_engine_answer.specs.Messages.{message_decided}
+use Rattle.ad_engine_answer.specs.Output.{token_output, reply_output}
 use Rattle.ad_engine.specs.Runs.{no_tokens, out_from, after_from, after}
-use Rattle.ad_engine.specs.Tokens.{token_of, with_token, without_token}
+use Rattle.ad_engine_store.specs.Tokens.{token_of, with_token, without_token}
 use Rattle.ad_engine_laws.specs.Log.{LogEntry, sent, worked, protected, applied, all_applied, answer_to, frames_for}
 use Rattle.ad_engine_laws.specs.Log.{output_for, Item, taken, other, frames_in, entries_in, OthersRead}
 use Rattle.ad_engine_laws.proofs.Leaving.{read_leaves}

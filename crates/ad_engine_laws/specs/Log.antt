@@ -6,9 +6,9 @@ use Rattle.ad_frames.specs.declared.frame.FrameBody.TheVariants as body
 use Rattle.ad_dir_model.specs.Directory.{Directory}
 use Rattle.ad_dir_model.specs.Steps.{steps}
 use Rattle.ad_dir_model.specs.Protection.{protection_run}
-use Rattle.ad_engine.specs.Answer.{steps_made}
-use Rattle.ad_engine.specs.Messages.{message_decided}
-use Rattle.ad_engine.specs.Output.{counts, token_output, output_frame}
+use Rattle.ad_engine_store.specs.Settling.{steps_made}
+use Rattle.ad_engine_answer.specs.Messages.{message_decided}
+use Rattle.ad_engine_answer.specs.Output.{counts, token_output, output_frame}
 use Rattle.ad_engine_laws.specs.Reads.{IsRead}
 
 -- An entry of the log: a message with the token that it is judged by, a number of steps, or a protection run.

@@ -3,8 +3,8 @@ use Rattle.std.specs.Prelude.{◌≡◌, ℕ, List, [], Option}
 use Rattle.ad_ids.specs.declared.token.Token.{Token}
 use Rattle.ad_dir_model.specs.Directory.{Directory}
 use Rattle.ad_engine.specs.Answer.{Answered}
-use Rattle.ad_engine.specs.Messages.{done}
-use Rattle.ad_engine.specs.Output.{reply_output}
+use Rattle.ad_engine_answer.specs.Messages.{done}
+use Rattle.ad_engine_answer.specs.Output.{reply_output}
 
 -- The directory, with its pending list, and the tokens of all connections are those from before.
 pub record LeavesAll (dir : Directory) (tokens : List (Option Token)) (a : Answered) : Type 0 where

@@ -11,7 +11,7 @@ ghost use Rattle.ad_change.specs.Effects.{changes_to, effect};
 ghost use Rattle.ad_frames.specs.declared.frame.Frame.{Frame};
 ghost use Rattle.ad_frames.specs.declared.frame.FrameBody.TheVariants as body;
 ghost use Rattle.ad_engine.specs.Answer.{answer};
-ghost use Rattle.ad_engine.specs.Tokens.{token_of};
+ghost use Rattle.ad_engine_store.specs.Tokens.{token_of};
 ghost use Rattle.ad_engine_laws.specs.Reads.{IsNoChange, IsQuestion, IsRead};
 ghost use Rattle.ad_engine_laws.specs.Results.{LeavesAll, HasCode, Succeeds};
 

@@ -3,7 +3,7 @@
 ghost use Rattle.std.specs.Prelude.{◌≡◌, ◌++◌, ◌∷◌, ℕ, List, Option};
 ghost use Rattle.ad_ids.specs.declared.token.Token.{Token};
 ghost use Rattle.ad_dir_model.specs.Directory.{Directory};
-ghost use Rattle.ad_engine.specs.Messages.{message_decided};
+ghost use Rattle.ad_engine_answer.specs.Messages.{message_decided};
 ghost use Rattle.ad_engine.specs.Runs.{out_from, after_from, after};
 ghost use Rattle.ad_engine_laws.specs.Log.{LogEntry, all_applied, answer_to, output_for, Item, taken, frames_in};
 ghost use Rattle.ad_engine_laws.specs.Log.{entries_in, OthersRead};

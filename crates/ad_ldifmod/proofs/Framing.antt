@@ -13,8 +13,8 @@ use Rattle.ad_ldifmod_message.specs.Written.{IsWritable, message_bytes}
 use Rattle.ad_dir_model.specs.Directory.{Directory}
 use Rattle.ad_ldifmod.specs.declared.fault.GrantFault.{GrantFault}
 use Rattle.ad_ldifmod.specs.declared.fault.GrantKind.TheVariants as kind
-use Rattle.ad_ldifmod.specs.declared.fault.Stop.{Stop}
-use Rattle.ad_ldifmod.specs.declared.fault.Stop.TheVariants as stop
+use Rattle.ad_ldifmod.specs.declared.fault.Refusal.{Refusal}
+use Rattle.ad_ldifmod.specs.declared.fault.Refusal.TheVariants as refusal
 use Rattle.ad_ldifmod.specs.Lines.{in_front, lines_of, says_nothing}
 use Rattle.ad_ldifmod.specs.Lists.{Lists, Step, stored_list, step_of, after_step, after_if}
 use Rattle.ad_ldifmod.specs.Messages.{max_message, list_alone, modify, fits, message_of}
@@ -37,10 +37,10 @@ fits_so message given is ok = elim (cases_Bool (nat_le (length (message_bytes (m
   | inr many ↦ absurd (no_error (rw many at ok))
 ]
   where
-    no_error : {E : Stop} → Err E ≡ Ok given → ⊥
+    no_error : {E : Refusal} → Err E ≡ Ok given → ⊥
     no_error e = cc
 
-of_written : (id : ℕ) (name : List ℕ) (sd : Result (List ℕ) Stop) (given : Message) → 1 ≤ id → id < 2147483648
+of_written : (id : ℕ) (name : List ℕ) (sd : Result (List ℕ) Refusal) (given : Message) → 1 ≤ id → id < 2147483648
     → (sd >>= λ bytes. fits (modify id name bytes) >>= λ _. Ok (modify id name bytes)) ≡ Ok given → IsOfFrame given
 of_written id name (Ok bytes) given from to is = fits_so (modify id name bytes) given (writable id name bytes from to)
     is
@@ -50,15 +50,20 @@ of_message : (id : ℕ) (name : List ℕ) (list : AceList) (given : Message) →
     → message_of id name list ≡ Ok given → IsOfFrame given
 unfolding message_of
 of_message id name list given from to is = of_written id name
-    (or_fault (stop.Bad kind.TooLong) (written (list_alone list))) given from to is
+    (or_fault (refusal.Bad kind.TooLong) (written (list_alone list))) given from to is
 
-of_line : (lists : Lists) (id : ℕ) (step : Result Step Stop) (given : Message) → 1 ≤ id → id < 2147483648
+of_line : (lists : Lists) (id : ℕ) (step : Result Step Refusal) (given : Message) → 1 ≤ id → id < 2147483648
     → (step >>= λ s. message_of id s.name (after_step s lists s.number)) ≡ Ok given → IsOfFrame given
 of_line lists id (Ok s) given from to is = of_message id s.name (after_step s lists s.number) given from to is
 of_line lists id (Err e) given from to is = absurd cc
 
+pub framed_line : (dir : Directory) (lists : Lists) (id : ℕ) (line : List ℕ) (given : Message) → 1 ≤ id
+    → id < 2147483648 → message_by dir lists id line ≡ Ok given → IsOfFrame given
+unfolding message_by
+framed_line dir lists id line given from to is = of_line lists id (step_of dir line) given from to is
+
 -- a message, and those after it
-of_both : (lists : Lists) (id n : ℕ) (step : Result Step Stop) (others : Result (List Message) GrantFault)
+of_both : (lists : Lists) (id n : ℕ) (step : Result Step Refusal) (others : Result (List Message) GrantFault)
     (given : List Message) → 1 ≤ id → id < 2147483648
     → ((rest : List Message) → others ≡ Ok rest → AreFrames rest)
     → (fault_as (at_line n) (step >>= λ s. message_of id s.name (after_step s lists s.number)) >>= λ message. others
@@ -67,7 +72,7 @@ of_both : (lists : Lists) (id n : ℕ) (step : Result Step Stop) (others : Resul
 of_both lists id n step others given from to behind is =
     by (step >>= λ s. message_of id s.name (after_step s lists s.number)) (of_line lists id step) others behind is
   where
-    by : (first : Result Message Stop) → ((m : Message) → 1 ≤ id → id < 2147483648 → first ≡ Ok m → IsOfFrame m)
+    by : (first : Result Message Refusal) → ((m : Message) → 1 ≤ id → id < 2147483648 → first ≡ Ok m → IsOfFrame m)
         → (others' : Result (List Message) GrantFault) → ((rest : List Message) → others' ≡ Ok rest → AreFrames rest)
         → (fault_as (at_line n) first >>= λ message. others' >>= λ rest. Ok (message ∷ rest)) ≡ Ok given
         → AreFrames given

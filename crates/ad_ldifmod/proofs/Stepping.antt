@@ -12,7 +12,8 @@ use Rattle.ad_ldifmod.specs.Changes.{change_of}
 use Rattle.ad_ldifmod.specs.Lists.{Lists, Step, or_bad, number_named, step_of, changed_list, after_step, after_if}
 use Rattle.ad_ldifmod.specs.Messages.{message_of}
 use Rattle.ad_ldifmod.specs.Grants.{message_by}
-use Rattle.ad_ldifmod.specs.Steps.{Kept, lists_in, IsChanged}
+use Rattle.ad_ldifmod.specs.Steps.{IsChanged}
+use Rattle.ad_ldifmod.specs.Taken.{ListCache, lists_in}
 
 -- what the parts of a line represent
 pub record Reached (dir : Directory) (line : List ℕ) (parts : Parts) (change : Change) (number : ℕ) : Type 0 where
@@ -40,7 +41,7 @@ message_is dir lists id line parts change number is = rw (step_is dir line parts
     (rw (same_number number) refl)
 
 -- the list of the one object is another one, and no other
-changed_at : (dir : Directory) (old new : Kept) (number : ℕ) (change : Change) (name : List ℕ)
+changed_at : (dir : Directory) (old new : ListCache) (number : ℕ) (change : Change) (name : List ℕ)
     → IsChanged dir old new number change
     → (n : ℕ) → lists_in dir new n ≡ after_step (record { number = number; change = change; name = name })
     (lists_in dir old) n
@@ -50,7 +51,7 @@ changed_at dir old new number change name is n = elim (cases_Bool (n == number))
   | inr other ↦ rw other (is.others n (λ at. both_ways (n == number) other (eq-eqb n number at)))
 ]
 
-pub lists_are : (dir : Directory) (old new : Kept) (line : List ℕ) (parts : Parts) (change : Change) (number : ℕ)
+pub lists_are : (dir : Directory) (old new : ListCache) (line : List ℕ) (parts : Parts) (change : Change) (number : ℕ)
     → Reached dir line parts change number
     → IsChanged dir old new number change → lists_in dir new ≡ after_if (step_of dir line) (lists_in dir old)
 lists_are dir old new line parts change number is changed =

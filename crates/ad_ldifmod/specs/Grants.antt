@@ -8,16 +8,16 @@ use Rattle.ad_ldifmod_message.specs.Written.{IsWritable, message_bytes}
 use Rattle.ad_dir_model.specs.Directory.{Directory}
 use Rattle.ad_ldifmod.specs.declared.fault.GrantFault.{GrantFault}
 use Rattle.ad_ldifmod.specs.declared.fault.GrantFault.TheVariants as fault
-use Rattle.ad_ldifmod.specs.declared.fault.Stop.{Stop}
-use Rattle.ad_ldifmod.specs.declared.fault.Stop.TheVariants as stop
+use Rattle.ad_ldifmod.specs.declared.fault.Refusal.{Refusal}
+use Rattle.ad_ldifmod.specs.declared.fault.Refusal.TheVariants as refusal
 use Rattle.ad_ldifmod.specs.Lines.{lines_of, says_nothing}
 use Rattle.ad_ldifmod.specs.Lists.{Lists, stored_list, step_of, after_step, after_line}
 use Rattle.ad_ldifmod.specs.Messages.{max_message, message_of}
 
 -- a fault at its line
-abbrev pub at_line : ℕ → Stop → GrantFault
-at_line n (stop.Bad kind) = fault.Bad n kind
-at_line n stop.Memory = fault.Memory
+abbrev pub at_line : ℕ → Refusal → GrantFault
+at_line n (refusal.Bad kind) = fault.Bad n kind
+at_line n refusal.Memory = fault.Memory
 
 -- the one fault that no text has
 abbrev pub is_memory : GrantFault → Bool
@@ -25,7 +25,7 @@ is_memory (fault.Bad line kind) = false
 is_memory fault.Memory = true
 
 -- The message of a line that says something: it gives the line's object the list that the object has after the line.
-unfoldable pub message_by : Directory → Lists → ℕ → List ℕ → Result Message Stop
+unfoldable pub message_by : Directory → Lists → ℕ → List ℕ → Result Message Refusal
 message_by dir lists id line = step_of dir line >>= λ step. message_of id step.name (after_step step lists step.number)
 
 -- The messages of the lines from the n-th on, of which the first has this number, where these are the lists before

@@ -14,8 +14,8 @@ use Rattle.ad_ldifmod.specs.declared.change.Change.{Change}
 use Rattle.ad_ldifmod.specs.declared.change.Change.TheVariants.{Behind, Front, Without}
 use Rattle.ad_ldifmod.specs.declared.fault.GrantKind.{GrantKind}
 use Rattle.ad_ldifmod.specs.declared.fault.GrantKind.TheVariants as kind
-use Rattle.ad_ldifmod.specs.declared.fault.Stop.{Stop}
-use Rattle.ad_ldifmod.specs.declared.fault.Stop.TheVariants.{Bad}
+use Rattle.ad_ldifmod.specs.declared.fault.Refusal.{Refusal}
+use Rattle.ad_ldifmod.specs.declared.fault.Refusal.TheVariants.{Bad}
 use Rattle.ad_ldifmod.specs.Lines.{parts_of, says_nothing}
 use Rattle.ad_ldifmod.specs.Changes.{change_of}
 
@@ -47,7 +47,7 @@ pub record Step : Type 0 where
   pub name : List ℕ
 
 -- what has to be there
-abbrev pub or_bad : {A : Type 0} → GrantKind → Option A → Result A Stop
+abbrev pub or_bad : {A : Type 0} → GrantKind → Option A → Result A Refusal
 or_bad kind Option.None = Err (Bad kind)
 or_bad kind (Option.Some x) = Ok x
 
@@ -57,7 +57,7 @@ number_named dir text = number_of_name dir text
 
 -- What a line asks for, or its fault: first that of its form, then that of its entry or identifier, then that of
 -- its name. Aliases stand below the root's identifier.
-unfoldable pub step_of : Directory → List ℕ → Result Step Stop
+unfoldable pub step_of : Directory → List ℕ → Result Step Refusal
 step_of dir line = do
   parts ← or_bad kind.Form (parts_of line)
   change ← or_bad kind.Entry (change_of (domain_sid dir) parts.verb parts.what)
@@ -68,9 +68,9 @@ step_of dir line = do
 abbrev pub after_step : Step → Lists → Lists
 after_step step lists number = if number == step.number then changed_list step.change (lists number) else lists number
 
-abbrev pub after_if : Result Step Stop → Lists → Lists
+abbrev pub after_if : Result Step Refusal → Lists → Lists
 after_if (Ok step) lists = after_step step lists
-after_if (Err stop) lists = lists
+after_if (Err refusal) lists = lists
 
 -- the lists after a line, and after lines
 abbrev pub after_line : Directory → List ℕ → Lists → Lists

@@ -14,8 +14,8 @@ use Rattle.ad_ldap.specs.Tags.{sequence, integer}
 use Rattle.ad_ldap.specs.Choices.{replace_values, dacl_part}
 use Rattle.ad_ldifmod_message.specs.Written.{message_bytes}
 use Rattle.ad_ldifmod.specs.declared.fault.GrantKind.TheVariants as kind
-use Rattle.ad_ldifmod.specs.declared.fault.Stop.{Stop}
-use Rattle.ad_ldifmod.specs.declared.fault.Stop.TheVariants.{Bad}
+use Rattle.ad_ldifmod.specs.declared.fault.Refusal.{Refusal}
+use Rattle.ad_ldifmod.specs.declared.fault.Refusal.TheVariants.{Bad}
 
 -- the most bytes of a message
 unfoldable pub max_message : ℕ
@@ -45,12 +45,12 @@ modify id name sd = record {
 }
 
 -- the message is no longer than a frame's body
-abbrev pub fits : Message → Result (Unit {0}) Stop
+abbrev pub fits : Message → Result (Unit {0}) Refusal
 fits message = need (nat_le (length (message_bytes (message_seen message))) max_message) (Bad kind.TooLong)
 
 -- The message with this number that gives the object of the name the list. None where the list takes more than
 -- 65,535 bytes, or the message more than a frame has room for.
-unfoldable pub message_of : ℕ → List ℕ → AceList → Result Message Stop
+unfoldable pub message_of : ℕ → List ℕ → AceList → Result Message Refusal
 message_of id name list = do
   sd ← or_fault (Bad kind.TooLong) (written (list_alone list))
   _ ← fits (modify id name sd)

@@ -3,7 +3,7 @@
 ghost use Rattle.std.specs.Prelude.{◌≡◌};
 ghost use Rattle.ad_ldifmod.specs.declared.fault.GrantFault.TheVariants.{Memory as FaultMemory};
 ghost use Rattle.ad_ldifmod.specs.declared.fault.GrantKind.TheVariants.{TooLong as IsTooLong};
-ghost use Rattle.ad_ldifmod.specs.declared.fault.Stop.TheVariants.{Memory as NoMemory, Bad as IsBad};
+ghost use Rattle.ad_ldifmod.specs.declared.fault.Refusal.TheVariants.{Memory as NoMemory, Bad as IsBad};
 
 use std::alloc::{AllocError, AllocFailed};
 use thiserror::Error;
@@ -35,16 +35,16 @@ pub enum GrantFault {
 
 // Why a line gives no message.
 #[derive(Clone, Copy, Debug, PartialEq, Eq)]
-pub(crate) enum Stop {
+pub(crate) enum Refusal {
     Bad(GrantKind),
     Memory,
 }
 
-impl From<AllocError> for Stop {
+impl From<AllocError> for Refusal {
     ghost from_gives = { λ _ e. e ≡ NoMemory };
 
-    fn from(_: AllocError) -> Stop {
-        Stop::Memory
+    fn from(_: AllocError) -> Refusal {
+        Refusal::Memory
     }
 }
 

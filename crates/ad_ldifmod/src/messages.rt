@@ -8,9 +8,9 @@ ghost use Rattle.ad_sd.specs.Writing.{laid_out, written};
 ghost use Rattle.ad_ldap.specs.MessageValue.{message_seen};
 ghost use Rattle.ad_ldifmod_message.specs.Written.{IsWritable, message_bytes};
 ghost use Rattle.ad_ldifmod.specs.Messages.{max_message, list_alone, flags_control, sd_item, modify, message_of};
-ghost use Rattle.ad_ldifmod.specs.Steps.{is_memory_stop, of_list};
+ghost use Rattle.ad_ldifmod.specs.Steps.{is_memory_refusal, of_list};
 
-use crate::fault::{GrantKind, Stop};
+use crate::fault::{GrantKind, Refusal};
 use ad_acl::{AclWriteFault, write_acl};
 use ad_bytes::{Bytes, List};
 use ad_ldap::{Control, Controls, DACL_PART, Item, Message, Modify, Op, REPLACE_VALUES, tags};
@@ -125,12 +125,12 @@ fn fits(alloc: Global, message: &Message) -> Result<bool, AllocError>
     Ok(bytes.len() <= MAX_MESSAGE)
 }
 
-fn of_list(fault: AclWriteFault) -> Stop
+fn of_list(fault: AclWriteFault) -> Refusal
     ensures { result ≡ of_list fault }
 {
     match fault {
-        AclWriteFault::TooLong => Stop::Bad(GrantKind::TooLong),
-        AclWriteFault::Memory => Stop::Memory,
+        AclWriteFault::TooLong => Refusal::Bad(GrantKind::TooLong),
+        AclWriteFault::Memory => Refusal::Memory,
     }
 }
 
@@ -141,10 +141,10 @@ pub(crate) fn message_of(
     id: u32,
     name: &[u8],
     list: &AceList,
-) -> Result<Message, Stop>
+) -> Result<Message, Refusal>
     requires from { 1 ≤ id }
     requires to { id < 2 ^ 31 }
-    ensures { GivesUnless is_memory_stop (λ message. message) result
+    ensures { GivesUnless is_memory_refusal (λ message. message) result
         (message_of id name.now list.now) }
 {
     let sd = match sd_of(alloc, list) {
@@ -155,5 +155,5 @@ pub(crate) fn message_of(
     if fits(alloc, &message)? {
         return Ok(message);
     }
-    Err(Stop::Bad(GrantKind::TooLong))
+    Err(Refusal::Bad(GrantKind::TooLong))
 }

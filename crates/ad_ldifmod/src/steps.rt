@@ -11,12 +11,13 @@ ghost use Rattle.ad_ldifmod.specs.Changes.{change_of};
 ghost use Rattle.ad_ldifmod.specs.Lists.{or_bad, number_named, step_of, changed_list, after_if};
 ghost use Rattle.ad_ldifmod.specs.Messages.{message_of};
 ghost use Rattle.ad_ldifmod.specs.Grants.{message_by};
-ghost use Rattle.ad_ldifmod.specs.Steps.{is_memory_stop, parts_seen, lists_in, IsChanged};
+ghost use Rattle.ad_ldifmod.specs.Steps.{is_memory_refusal, parts_seen, IsChanged};
+ghost use Rattle.ad_ldifmod.specs.Taken.{lists_in};
 
 use crate::change::Change;
-use crate::fault::{GrantKind, Stop};
-use crate::kept::{Kept, change_list, kept_list};
+use crate::fault::{GrantKind, Refusal};
 use crate::lines::{PartsIn, Verb, parts_of};
+use crate::list_cache::{ListCache, cached_list, change_list};
 use crate::messages::message_of;
 use crate::texts::change_of;
 use ad_dir::{Dir, ROOT};
@@ -33,76 +34,76 @@ fn domain_sid(dir: &Dir) -> Option<&Sid>
     dir.self_sid(ROOT)
 }
 
-fn parts_in(line: &[u8]) -> Result<PartsIn<'_>, Stop>
-    ensures { GivesUnless is_memory_stop parts_seen result (or_bad kind.Form (parts_of line.now)) }
+fn parts_in(line: &[u8]) -> Result<PartsIn<'_>, Refusal>
+    ensures { GivesUnless is_memory_refusal parts_seen result (or_bad kind.Form (parts_of line.now)) }
 {
     match parts_of(line) {
         Some(parts) => Ok(parts),
-        None => Err(Stop::Bad(GrantKind::Form)),
+        None => Err(Refusal::Bad(GrantKind::Form)),
     }
 }
 
-fn wanted(alloc: Global, dir: &Dir, verb: Verb, text: &[u8]) -> Result<Change, Stop>
-    ensures { GivesUnless is_memory_stop (λ change. change) result
+fn wanted(alloc: Global, dir: &Dir, verb: Verb, text: &[u8]) -> Result<Change, Refusal>
+    ensures { GivesUnless is_memory_refusal (λ change. change) result
         (or_bad kind.Entry (change_of (domain_sid dir.now) verb text.now)) }
 {
     match change_of(alloc, verb, text, domain_sid(dir))? {
         Some(change) => Ok(change),
-        None => Err(Stop::Bad(GrantKind::Entry)),
+        None => Err(Refusal::Bad(GrantKind::Entry)),
     }
 }
 
 #[tactic(auto, unfolding(crate::specs::Lists::number_named))]
-fn named(alloc: Global, dir: &Dir, text: &[u8]) -> Result<u32, Stop>
-    ensures named { GivesUnless is_memory_stop (λ number. number) result
+fn named(alloc: Global, dir: &Dir, text: &[u8]) -> Result<u32, Refusal>
+    ensures named { GivesUnless is_memory_refusal (λ number. number) result
         (or_bad kind.Name (number_named dir.now text.now)) }
     ensures live { IfOk result (λ number. is_live dir.now.objects number ≡ true) }
 {
     match number_of_name(alloc, dir, text)? {
         Some(number) => Ok(number),
-        None => Err(Stop::Bad(GrantKind::Name)),
+        None => Err(Refusal::Bad(GrantKind::Name)),
     }
 }
 
 // Changes the list of an object, and gives the message of the new one.
 fn renewed(
     alloc: Global,
-    kept: &mut Kept,
+    cache: &mut ListCache,
     dir: &Dir,
     number: u32,
     change: &Change,
     id: u32,
     name: &[u8],
-) -> Result<Message, Stop>
+) -> Result<Message, Refusal>
     requires live { is_live dir.now.objects number ≡ true }
     requires from { 1 ≤ id }
     requires to { id < 2 ^ 31 }
-    ensures message { GivesUnless is_memory_stop (λ m. m) result
-        (message_of id name.now (changed_list change.now (lists_in dir.now kept.old number))) }
-    ensures lists { OnOk result (IsChanged dir.now kept.old kept.new number change.now) }
+    ensures message { GivesUnless is_memory_refusal (λ m. m) result
+        (message_of id name.now (changed_list change.now (lists_in dir.now cache.old number))) }
+    ensures lists { OnOk result (IsChanged dir.now cache.old cache.new number change.now) }
 {
-    change_list(alloc, kept, dir, number, change)?;
-    message_of(alloc, id, name, kept_list(kept, number))
+    change_list(alloc, cache, dir, number, change)?;
+    message_of(alloc, id, name, cached_list(cache, number))
 }
 
 /// The message of a line that says something, and what the line makes of the lists.
 #[tactic(auto, unfolding(crate::specs::Grants::message_by, crate::specs::Lists::step_of))]
 pub(crate) fn message_by(
     alloc: Global,
-    kept: &mut Kept,
+    cache: &mut ListCache,
     dir: &Dir,
     id: u32,
     line: &[u8],
-) -> Result<Message, Stop>
+) -> Result<Message, Refusal>
     requires from { 1 ≤ id }
     requires to { id < 2 ^ 31 }
-    ensures message { GivesUnless is_memory_stop (λ m. m) result
-        (message_by dir.now (lists_in dir.now kept.old) id line.now) }
-    ensures lists { OnOk result (lists_in dir.now kept.new ≡ after_if (step_of dir.now line.now)
-        (lists_in dir.now kept.old)) }
+    ensures message { GivesUnless is_memory_refusal (λ m. m) result
+        (message_by dir.now (lists_in dir.now cache.old) id line.now) }
+    ensures lists { OnOk result (lists_in dir.now cache.new ≡ after_if (step_of dir.now line.now)
+        (lists_in dir.now cache.old)) }
 {
     let parts = parts_in(line)?;
     let change = wanted(alloc, dir, parts.verb, parts.what)?;
     let number = named(alloc, dir, parts.name)?;
-    renewed(alloc, kept, dir, number, &change, id, parts.name)
+    renewed(alloc, cache, dir, number, &change, id, parts.name)
 }

@@ -1,75 +1,28 @@
 //! The lines of a whole text.
 
-ghost use Rattle.std.specs.Prelude.{◌≡◌, ◌≤◌, ◌<◌, ◌+◌, ◌++◌, [], ◌∷◌, ℕ, false, Ok, Err, List, length, vec_len};
-ghost use Rattle.std.specs.Prelude.{IfOk, IfErr, OnOk, OnErr};
+ghost use Rattle.std.specs.Prelude.{◌≡◌, ◌≤◌, [], false, Ok, Err, length, IfOk, IfErr, OnOk};
 ghost use Rattle.ad_bytes.specs.Reading.{GivesUnless};
-ghost use Rattle.ad_ldifmod.specs.Lines.{lines_of, most_bytes};
+ghost use Rattle.ad_ldifmod.specs.Lines.{most_bytes};
 ghost use Rattle.ad_ldifmod.specs.Grants.{is_memory, messages_of, AreFrames};
-ghost use Rattle.ad_ldifmod.specs.Steps.{IsTaken, IsFaulty, from_here};
+ghost use Rattle.ad_ldifmod.specs.Taken.{with_next, GivesSome};
 
-use crate::fault::{GrantFault, Stop};
-use crate::kept::Kept;
-use crate::lines::{first_line, says_nothing};
-use crate::steps::message_by;
+use crate::fault::GrantFault;
+use crate::next::{Taken, next_message};
 use ad_dir::Dir;
 use ad_ldap::Message;
 use std::alloc::{AllocError, Global};
-use std::collections::HashMap;
 
-fn push(messages: &mut Vec<Message>, message: Message) -> Result<(), AllocError>
-    ensures { OnOk result (messages.new.items ≡ messages.old.items ++ message ∷ []) }
+fn no_messages(alloc: Global) -> Vec<Message>
+    ensures { result.items ≡ [] }
 {
-    messages.push(message)?;
-    Ok(())
+    Vec::new(alloc)
 }
 
-// Takes the n-th line.
-fn take_line(
-    alloc: Global,
-    kept: &mut Kept,
-    messages: &mut Vec<Message>,
-    dir: &Dir,
-    n: u32,
-    line: &[u8],
-) -> Result<(), GrantFault>
-    requires few { vec_len messages.old < most_bytes }
-    ensures taken { OnOk result (IsTaken dir.now kept.old kept.new messages.old.items
-        messages.new.items n line.now) }
-    ensures faulty { IfErr result (IsFaulty dir.now kept.old messages.old.items n line.now) }
+fn put(messages: &mut Vec<Message>, message: Option<Message>) -> Result<(), AllocError>
+    ensures { OnOk result (messages.new.items ≡ with_next messages.old.items message) }
 {
-    if says_nothing(line) {
-        return Ok(());
-    }
-    let id = messages.len() as u32 + 1;
-    match message_by(alloc, kept, dir, id, line) {
-        Ok(message) => Ok(push(messages, message)?),
-        Err(Stop::Bad(kind)) => Err(GrantFault::Bad { line: n, kind }),
-        Err(Stop::Memory) => Err(GrantFault::Memory),
-    }
-}
-
-// Takes the lines of a text, one after the other.
-fn take_lines(
-    alloc: Global,
-    kept: &mut Kept,
-    messages: &mut Vec<Message>,
-    dir: &Dir,
-    text: &[u8],
-) -> Result<(), GrantFault>
-    requires few { length text.now ≤ most_bytes }
-    requires none { messages.old.items ≡ [] }
-    ensures taken { OnOk result (from_here dir.now kept.old [] 1 (lines_of text.now)
-        ≡ Ok messages.new.items) }
-    ensures faulty { IfErr result (λ fault. is_memory fault ≡ false → from_here dir.now kept.old []
-        1 (lines_of text.now) ≡ Err fault) }
-{
-    let mut rest = text;
-    let mut n: u32 = 0;
-    'lines: while !rest.is_empty() {
-        let (line, behind) = first_line(rest);
-        n += 1;
-        take_line(alloc, kept, messages, dir, n, line)?;
-        rest = behind;
+    if let Some(message) = message {
+        messages.push(message)?;
     }
     Ok(())
 }
@@ -96,8 +49,35 @@ pub fn grants(alloc: Global, dir: &Dir, text: &[u8]) -> Result<Vec<Message>, Gra
     // Each message can be written, and a frame has room for it.
     ensures frames { IfOk result (λ messages. AreFrames messages.items) }
 {
-    let mut kept = HashMap::new(alloc);
-    let mut messages = Vec::new(alloc);
-    take_lines(alloc, &mut kept, &mut messages, dir, text)?;
+    let mut taken = Taken::none(alloc);
+    let mut messages = no_messages(alloc);
+    let mut rest = text;
+    'lines: while !rest.is_empty() {
+        let (message, behind) = next_message(alloc, &mut taken, dir, rest)?;
+        put(&mut messages, message)?;
+        rest = behind;
+    }
     Ok(messages)
+}
+
+/// Whether each line of a text gives its message, as `grants` has it. Of the messages none is kept.
+///
+/// # Errors
+///
+/// Those of `grants`.
+pub fn judge(alloc: Global, dir: &Dir, text: &[u8]) -> Result<(), GrantFault>
+    requires { length text.now ≤ most_bytes }
+    ensures some { OnOk result (GivesSome dir.now text.now) }
+    ensures faulty { IfErr result (λ fault. is_memory fault ≡ false → messages_of dir.now text.now
+        ≡ Err fault) }
+{
+    let mut taken = Taken::none(alloc);
+    let mut rest = text;
+    'lines: while !rest.is_empty() {
+        match next_message(alloc, &mut taken, dir, rest) {
+            Ok((_, behind)) => rest = behind,
+            Err(fault) => return Err(fault),
+        }
+    }
+    Ok(())
 }

@@ -16,9 +16,9 @@ use Rattle.ad_ldifmod_message.proofs.Spelled.{message_spelled}
 use Rattle.ad_dir_model.specs.Directory.{Directory}
 use Rattle.ad_change.specs.Effects.{Effect, answered, changes_to, effect}
 use Rattle.ad_engine.specs.Answer.{decided, answer}
-use Rattle.ad_engine.specs.Messages.{by_effect, done, message_decided}
-use Rattle.ad_engine.specs.Output.{output_frame, reply_output}
-use Rattle.ad_engine.specs.Tokens.{token_of}
+use Rattle.ad_engine_answer.specs.Messages.{by_effect, done, message_decided}
+use Rattle.ad_engine_answer.specs.Output.{output_frame, reply_output}
+use Rattle.ad_engine_store.specs.Tokens.{token_of}
 use Rattle.ad_ldifmod.specs.Grants.{IsOfFrame}
 use Rattle.ad_ldifmod.specs.Messages.{max_message, list_alone, modify}
 use Rattle.ad_ldifmod_laws.specs.Serving.{message_frame, success_of}

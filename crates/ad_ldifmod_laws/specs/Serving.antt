@@ -8,8 +8,8 @@ use Rattle.ad_ldap.specs.declared.requests.Message.{Message}
 use Rattle.ad_ldap.specs.MessageValue.{message_seen}
 use Rattle.ad_ldifmod_message.specs.Written.{message_bytes}
 use Rattle.ad_dir_model.specs.Directory.{Directory}
-use Rattle.ad_engine.specs.Output.{reply_output}
-use Rattle.ad_engine.specs.Messages.{done}
+use Rattle.ad_engine_answer.specs.Output.{reply_output}
+use Rattle.ad_engine_answer.specs.Messages.{done}
 use Rattle.ad_engine.specs.Answer.{answer}
 use Rattle.ad_engine.specs.Runs.{no_tokens}
 

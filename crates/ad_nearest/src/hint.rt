@@ -3,6 +3,7 @@
 ghost use Rattle.std.specs.Prelude.{◌<◌};
 
 use crate::shown::Shown;
+use std::alloc::Global;
 use std::fmt;
 
 /// A word that names nothing, and the nearest names that something has.
@@ -12,6 +13,21 @@ pub struct Hint<'a> {
     pub(crate) word: &'a str,
     pub(crate) names: Vec<Vec<u8>>,
     pub(crate) remark: &'static str,
+}
+
+/// What is told where no name is near.
+pub(crate) fn plain<'a>(
+    alloc: Global,
+    what: &'static str,
+    word: &'a str,
+    remark: &'static str,
+) -> Hint<'a> {
+    Hint {
+        what,
+        word,
+        names: Vec::new(alloc),
+        remark,
+    }
 }
 
 // What stands before the name at a place, of so many.

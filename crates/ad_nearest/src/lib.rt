@@ -19,16 +19,20 @@
 //!
 //! # Cost
 //!
-//! A look at each name of the schema, or at each object; a word or a name of more than 256 bytes is near to nothing.
+//! A look at each name of the schema, or at each object; a word or a name of more than 256 bytes is near to nothing. Lines
+//! of grants are judged once more, up to the first that goes wrong.
 #![tactic(auto)]
 
+mod entries;
 mod hint;
+mod lines;
 mod near;
 mod objects;
 mod rights;
 mod shown;
 
 pub use hint::Hint;
+pub use lines::{LineHint, unknown_in_lines};
 pub use objects::{unknown_identifier, unknown_name, unknown_object};
 pub use rights::unknown_right;
 pub use shown::Shown;

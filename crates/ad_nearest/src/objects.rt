@@ -1,6 +1,6 @@
 //! The names of objects: distinguished names, and the names of accounts.
 
-use crate::hint::Hint;
+use crate::hint::{Hint, plain};
 use crate::near::{
     Nearest, far, is_near, keep, names_of, nearest_to, nearest_within, too_many, want,
 };
@@ -209,15 +209,6 @@ fn no_name<'a>(
         names: near_accounts(alloc, dir, word.as_bytes(), accounts)?,
         remark: "",
     })
-}
-
-fn plain<'a>(alloc: Global, what: &'static str, word: &'a str, remark: &'static str) -> Hint<'a> {
-    Hint {
-        what,
-        word,
-        names: Vec::new(alloc),
-        remark,
-    }
 }
 
 // What is told of a text that no object has as its distinguished name, and no account as its name.

@@ -1,9 +1,8 @@
 -- The objects that have an entry in an answer.
 use Rattle.std.proofs.Common.{◌≡◌, ℕ, suc, ◌+◌, Bool, true, false, ◌||◌, List, [], ◌∷◌, ◌++◌, map, length, Option}
-use Rattle.std.proofs.Common.{Some, None, inl, inr, refl, sym, ap, ◌∙◌, append_assoc}
+use Rattle.std.proofs.Common.{Some, None, refl, sym, ap, ◌∙◌, append_assoc}
 use Rattle.std.specs.Prelude.{if◌then◌else◌}
 use Rattle.std.specs.List.{flat_map}
-use Rattle.std.proofs.lemmas.Bool.{cases_Bool}
 use Rattle.ad_ids.specs.declared.token.Token.{Token}
 use Rattle.ad_dn.specs.declared.rdn.Dn.{Dn}
 use Rattle.ad_dn.specs.Reading.{dn_of}
@@ -12,30 +11,12 @@ use Rattle.ad_dir_model.specs.Objects.{numbers}
 use Rattle.ad_dir_model.specs.Directory.{Directory}
 use Rattle.ad_entries.specs.Seen.{seen_of, view}
 use Rattle.ad_search.specs.Scope.{is_there, matched}
-use Rattle.ad_entries.specs.Entry.{Entry, entry_of}
+use Rattle.ad_entries.specs.Entry.{entry_of}
 use Rattle.ad_search.specs.Search.{done, end_code, entry_or_end, stop_code, entries_from, entries_of, answer_at}
 use Rattle.ad_search.specs.Search.{search_answer, answer_seen}
 use Rattle.ad_search.specs.Reads.{found_among, unless_stops, given_from, numbers_given, HasEntries}
 use Rattle.ad_search.specs.Steps.{entries_among}
-use Rattle.ad_search.proofs.SeenLaws.{entries_here, entries_later, no_entries}
-use Rattle.ad_search.proofs.BaseLaws.{Has}
-
--- the entry of an object
-abbrev one : Directory → Token → ℕ → SearchValue → ℕ → ℕ → Entry
-one dir token id search flags n = entry_of dir.schema id search flags (seen_of dir token n)
-
-entries_are : (dir : Directory) (token : Token) (id : ℕ) (search : SearchValue) (flags : ℕ) (base : Dn) (ns : List ℕ)
-    → entries_among dir token id search flags base ns ≡ map (one dir token id search flags)
-    (found_among dir token search base ns)
-unfolding found_among
-entries_are dir token id search flags base [] = no_entries dir token id search flags base
-entries_are dir token id search flags base (n ∷ ns) = elim (cases_Bool (Has dir token search base n)) [
-  | inl has ↦ rw has (entries_here dir token id search flags base n ns has
-      ∙ ap (λ (es : List Entry). one dir token id search flags n ∷ es)
-      (entries_are dir token id search flags base ns))
-  | inr lacks ↦ rw lacks (entries_later dir token id search flags base n ns lacks ∙ entries_are dir token id search
-      flags base ns)
-]
+use Rattle.ad_search.proofs.AmongLaws.{one, entries_are}
 
 -- those that are given, from so many on
 ends : (dir : Directory) (token : Token) (id : ℕ) (search : SearchValue) (flags : ℕ) (given joined : ℕ) (short : Bool)

@@ -30,10 +30,10 @@ use Rattle.ad_dir_model.proofs.Finding.{of-live, live_above}
 use Rattle.ad_dir.specs.Standing.{AreStanding}
 use Rattle.ad_dir.specs.Values.{may_have, may_store, IsNextWith, IsNextNamed}
 use Rattle.ad_access_dir.specs.Sight.{is_visible}
-use Rattle.ad_search.specs.declared.needed.Need.{Need}
+use Rattle.ad_search.specs.declared.index_plan.IndexPlan.{IndexPlan}
 use Rattle.ad_entries.specs.Seen.{reads, seen_of}
 use Rattle.ad_search.specs.Search.{is_found}
-use Rattle.ad_search.specs.Steps.{entries_among}
+use Rattle.ad_search.specs.Reads.{found_among}
 use Rattle.ad_entries.specs.Rising.{is_in}
 use Rattle.ad_entries.specs.Places.{place_if}
 use Rattle.ad_search.specs.Needles.{has_key, IsPlain}
@@ -44,7 +44,7 @@ use Rattle.ad_entries.proofs.ListLaws.{or_false}
 use Rattle.ad_search.proofs.SeenLaws.{numbers_live}
 use Rattle.ad_search.proofs.SubtreeLaws.{and_false, in_filter, in_numbers, RisesAbove, kept_rising, numbers_rise}
 use Rattle.ad_search.proofs.SubtreeLaws.{same_rising}
-use Rattle.ad_search.proofs.BaseLaws.{Has, those_numbers}
+use Rattle.ad_search.proofs.AmongLaws.{Has, only_numbers}
 
 -- ---- the next object that shows a value
 
@@ -153,20 +153,20 @@ module _ (dir : Directory) (attr : ℕ) (key : Key) (above : ℕ) (standing : Ar
 -- ---- of what is needed
 
 -- An object that doesn't show what the filter needs is never one of which it is true.
-pub never_by : (dir : Directory) (f : FilterValue) (need : Need) (n : ℕ) → IsNeededBy dir f need
-    → (IsMet dir n need → ⊥) → IsNever dir f n
-never_by dir f need n needed unmet token = by (is_true (truth (reads dir.schema (seen_of dir token n)) f)) refl
+pub never_by : (dir : Directory) (f : FilterValue) (plan : IndexPlan) (n : ℕ) → IsNeededBy dir f plan
+    → (IsMet dir n plan → ⊥) → IsNever dir f n
+never_by dir f plan n needed unmet token = by (is_true (truth (reads dir.schema (seen_of dir token n)) f)) refl
   where
     by : (b : Bool) → is_true (truth (reads dir.schema (seen_of dir token n)) f) ≡ b
         → is_true (truth (reads dir.schema (seen_of dir token n)) f) ≡ false
     by false e = e
     by true e = absurd (unmet (needed token n e))
 
-pub next_for : (dir : Directory) (f : FilterValue) (need : Need) (above : ℕ) (result : Option ℕ)
-    → IsNeededBy dir f need → IsNextOf dir (λ (n : ℕ). IsMet dir n need) above result → IsNextFor dir f above result
-next_for dir f need above result needed next = record {
+pub next_for : (dir : Directory) (f : FilterValue) (plan : IndexPlan) (above : ℕ) (result : Option ℕ)
+    → IsNeededBy dir f plan → IsNextOf dir (λ (n : ℕ). IsMet dir n plan) above result → IsNextFor dir f above result
+next_for dir f plan above result needed next = record {
   is_above = next.is_above;
-  none = λ n live more before. never_by dir f need n needed (next.none n live more before);
+  none = λ n live more before. never_by dir f plan n needed (next.none n live more before);
 }
 
 -- the greater of two numbers
@@ -281,10 +281,9 @@ has_none dir token search base m never = and_none (is_visible dir token m) _ _ n
 pub left_of_all : (dir : Directory) (search : SearchValue) (above : ℕ) (left : List ℕ) → Rise dir.objects
     → IsNextFor dir search.filter above None → IsUpTo dir search.filter above left → IsLeftOfAll dir search left
 left_of_all dir search above left rise is so_far = record {
-  same = λ token id flags base.
-      sym (those_numbers dir token id search flags base test (numbers dir.objects) (every token base)
-      (numbers_live dir.objects)
-      ∙ ap (entries_among dir token id search flags base) filtered);
+  same = λ token base.
+      sym (ap (found_among dir token search base) filtered)
+      ∙ only_numbers dir token search base test (numbers dir.objects) (every token base) (numbers_live dir.objects);
   live = so_far.live;
 }
   where

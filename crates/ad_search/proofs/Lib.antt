@@ -1,6 +1,7 @@
 mod NeedleLaws
 pub mod NameLaws
 pub mod SeenLaws
+pub mod AmongLaws
 pub mod FoundLaws
 pub mod SightLaws
 pub mod AboveLaws
@@ -12,7 +13,8 @@ pub mod BaseLaws
 mod IndexLaws
 pub mod TwoWorlds
 pub mod ReadsLaws
-pub mod ReadScope
+pub mod AskedLaws
+pub mod AnswerLaws
 pub mod GivenNumbers
 mod NeedLaws
 mod NextLaws

@@ -35,54 +35,54 @@ use Rattle.ad_dir_model.specs.Shown.{shown}
 use Rattle.ad_dir_model.specs.Directory.{Directory}
 use Rattle.ad_entries.specs.Seen.{Seen, reads, seen_of, values_at, readable_at}
 use Rattle.ad_search.specs.declared.needles.Needle.{Needle}
-use Rattle.ad_search.specs.declared.indexed.Sought.{Sought}
-use Rattle.ad_search.specs.declared.needed.Need.{Need, One, Present, AnyOf, AllOf, AnyOf', AllOf', Row_of-Need}
-use Rattle.ad_search.specs.declared.needed.Need.{end_of-Need, more_of-Need, items-the_row-Need}
-use Rattle.ad_search.specs.declared.needed.Need.{items_hidden-the_row-Need-0}
+use Rattle.ad_search.specs.declared.indexed.IndexQuery.{IndexQuery}
+use Rattle.ad_search.specs.declared.index_plan.IndexPlan.{IndexPlan, One, Present, AnyOf, AllOf, AnyOf', AllOf', Row_of-IndexPlan}
+use Rattle.ad_search.specs.declared.index_plan.IndexPlan.{end_of-IndexPlan, more_of-IndexPlan, items-the_row-IndexPlan}
+use Rattle.ad_search.specs.declared.index_plan.IndexPlan.{items_hidden-the_row-IndexPlan-0}
 use Rattle.ad_search.specs.Needles.{has_key, IsPlainNamed, IsNeedle}
-use Rattle.ad_search.specs.Indexed.{IsSoughtFor}
+use Rattle.ad_search.specs.Indexed.{IsQueryFor}
 use Rattle.ad_search.specs.Needed.{IsMet, HasMetIn, AreMetIn, HasMet, AreMet, IsNeededBy}
 use Rattle.ad_search.proofs.NeedleLaws.{no_truth, all_say, values_shown, known_at}
 use Rattle.ad_search.proofs.IndexLaws.{found_at}
 
 -- ---- the items of a list
 
-abbrev row_of : Need → (n : Count) × Row_of-Need n
+abbrev row_of : IndexPlan → (n : Count) × Row_of-IndexPlan n
 row_of (AnyOf' _ row) = (_, row)
 row_of (AllOf' _ row) = (_, row)
-row_of _ = (_, end_of-Need)
+row_of _ = (_, end_of-IndexPlan)
 
 module _ (dir : Directory) (number : ℕ) where
-  of_any : (n : _) (row : Row_of-Need n) → HasMetIn dir number row → HasMet dir number (items-the_row-Need n row)
-  of_any n end_of-Need met = met
-  of_any n (more_of-Need need rest) (inl met) = inl met
-  of_any n (more_of-Need need rest) (inr met) = inr (of_any _ rest met)
+  of_any : (n : _) (row : Row_of-IndexPlan n) → HasMetIn dir number row → HasMet dir number (items-the_row-IndexPlan n row)
+  of_any n end_of-IndexPlan met = met
+  of_any n (more_of-IndexPlan plan rest) (inl met) = inl met
+  of_any n (more_of-IndexPlan plan rest) (inr met) = inr (of_any _ rest met)
 
-  to_any : (n : _) (row : Row_of-Need n) → HasMet dir number (items-the_row-Need n row) → HasMetIn dir number row
-  to_any n end_of-Need met = met
-  to_any n (more_of-Need need rest) (inl met) = inl met
-  to_any n (more_of-Need need rest) (inr met) = inr (to_any _ rest met)
+  to_any : (n : _) (row : Row_of-IndexPlan n) → HasMet dir number (items-the_row-IndexPlan n row) → HasMetIn dir number row
+  to_any n end_of-IndexPlan met = met
+  to_any n (more_of-IndexPlan plan rest) (inl met) = inl met
+  to_any n (more_of-IndexPlan plan rest) (inr met) = inr (to_any _ rest met)
 
-  of_all : (n : _) (row : Row_of-Need n) → AreMetIn dir number row → AreMet dir number (items-the_row-Need n row)
-  of_all n end_of-Need met = tt
-  of_all n (more_of-Need need rest) met = (met.0, of_all _ rest met.1)
+  of_all : (n : _) (row : Row_of-IndexPlan n) → AreMetIn dir number row → AreMet dir number (items-the_row-IndexPlan n row)
+  of_all n end_of-IndexPlan met = tt
+  of_all n (more_of-IndexPlan plan rest) met = (met.0, of_all _ rest met.1)
 
-  to_all : (n : _) (row : Row_of-Need n) → AreMet dir number (items-the_row-Need n row) → AreMetIn dir number row
-  to_all n end_of-Need met = tt
-  to_all n (more_of-Need need rest) met = (met.0, to_all _ rest met.1)
+  to_all : (n : _) (row : Row_of-IndexPlan n) → AreMet dir number (items-the_row-IndexPlan n row) → AreMetIn dir number row
+  to_all n end_of-IndexPlan met = tt
+  to_all n (more_of-IndexPlan plan rest) met = (met.0, to_all _ rest met.1)
 
-  pub any_met : (needs : Vec Need Global) → IsMet dir number (AnyOf needs) ↔ HasMet dir number needs.items
-  any_met needs =
-      let row = row_of (AnyOf needs) in
-      let same = items_hidden-the_row-Need-0 needs in (
+  pub any_met : (plans : Vec IndexPlan Global) → IsMet dir number (AnyOf plans) ↔ HasMet dir number plans.items
+  any_met plans =
+      let row = row_of (AnyOf plans) in
+      let same = items_hidden-the_row-IndexPlan-0 plans in (
         λ met. subst (HasMet dir number) same (of_any row.0 row.1 met),
         λ met. to_any row.0 row.1 (subst (HasMet dir number) (sym same) met),
       )
 
-  pub all_met : (needs : Vec Need Global) → IsMet dir number (AllOf needs) ↔ AreMet dir number needs.items
-  all_met needs =
-      let row = row_of (AllOf needs) in
-      let same = items_hidden-the_row-Need-0 needs in (
+  pub all_met : (plans : Vec IndexPlan Global) → IsMet dir number (AllOf plans) ↔ AreMet dir number plans.items
+  all_met plans =
+      let row = row_of (AllOf plans) in
+      let same = items_hidden-the_row-IndexPlan-0 plans in (
         λ met. subst (AreMet dir number) same (of_all row.0 row.1 met),
         λ met. to_all row.0 row.1 (subst (AreMet dir number) (sym same) met),
       )
@@ -92,18 +92,18 @@ module _ (dir : Directory) (number : ℕ) where
 pub as_like : (schema : List SchemaRecord) (name sent : List ℕ) (needle : Needle)
     → IsNeedle schema (filter.Equal name sent) needle → IsNeedle schema (filter.Like name sent) needle
 unfolding truth
-as_like schema name sent needle needs = record { needed = λ seen is. needs.needed seen is; plain = needs.plain }
+as_like schema name sent needle plans = record { needed = λ seen is. plans.needed seen is; plain = plans.plain }
 
-pub one_needed : (dir : Directory) (f : FilterValue) (needle : Needle) (sought : Option Sought)
-    → IsNeedle dir.schema f needle → IfSome sought (IsSoughtFor dir.schema needle)
-    → IsNeededBy dir f (One (record { needle = needle; sought = sought }))
-one_needed dir f needle sought needs for token number is =
-    let read = needs.needed (seen_of dir token number) is in
+pub one_needed : (dir : Directory) (f : FilterValue) (needle : Needle) (query : Option IndexQuery)
+    → IsNeedle dir.schema f needle → IfSome query (IsQueryFor dir.schema needle)
+    → IsNeededBy dir f (One (record { needle = needle; query = query }))
+one_needed dir f needle query plans for token number is =
+    let read = plans.needed (seen_of dir token number) is in
     let same : read.0 ≡ shown dir number needle.attr.0 = values_shown dir token number needle.attr.0
     (slice_get (attrs_of dir.schema) needle.attr.0) read.0 refl read.1 in
     record {
-      plain = needs.plain;
-      sought_for = for;
+      plain = plans.plain;
+      query_for = for;
       value = ap (has_key needle.value.key) (sym same) ∙ read.2;
     }
 
@@ -169,11 +169,11 @@ ordered_of_some test sent syntax =
     (λ (key : Key). some_value (nothing syntax) (λ (own : Key). test (key_order own key))) (λ k. refl))
 
 -- each item but an equality is true only of objects that show it
-pub record NeedsSome (dir : Directory) (name : List ℕ) (need : Need) : Type 0 where
-  pub present : IsNeededBy dir (filter.Present name) need
-  pub pieces : (sent : Pattern) → IsNeededBy dir (filter.Pieces name sent) need
-  pub at_least : (sent : List ℕ) → IsNeededBy dir (filter.AtLeast name sent) need
-  pub at_most : (sent : List ℕ) → IsNeededBy dir (filter.AtMost name sent) need
+pub record NeedsSome (dir : Directory) (name : List ℕ) (plan : IndexPlan) : Type 0 where
+  pub present : IsNeededBy dir (filter.Present name) plan
+  pub pieces : (sent : Pattern) → IsNeededBy dir (filter.Pieces name sent) plan
+  pub at_least : (sent : List ℕ) → IsNeededBy dir (filter.AtLeast name sent) plan
+  pub at_most : (sent : List ℕ) → IsNeededBy dir (filter.AtMost name sent) plan
 
 pub needs_some : (dir : Directory) (name : List ℕ) (attr : AttrId) → IsPlainNamed dir.schema name attr
     → NeedsSome dir name (Present attr)
@@ -192,36 +192,36 @@ needs_some dir name attr plain = record {
 
 -- ---- all of several
 
-pub one_of_all : (dir : Directory) (fs : List FilterValue) (i : ℕ) (f : FilterValue) (need : Need) → i < length fs
-    → f ≡ get_or fs i f → IsNeededBy dir f need → IsNeededBy dir (filter.And (filters_of fs)) need
+pub one_of_all : (dir : Directory) (fs : List FilterValue) (i : ℕ) (f : FilterValue) (plan : IndexPlan) → i < length fs
+    → f ≡ get_or fs i f → IsNeededBy dir f plan → IsNeededBy dir (filter.And (filters_of fs)) plan
 unfolding truth
-one_of_all dir fs i f need lt is needed token number all =
+one_of_all dir fs i f plan lt is needed token number all =
     needed token number (all_say (reads dir.schema (seen_of dir token number)) fs i f lt is all)
 
-pub needs_more : (P : Need → Type 0) (old : List Need) (new : Option Need) → AllByRecursion P old → IfSome new P
+pub needs_more : (P : IndexPlan → Type 0) (old : List IndexPlan) (new : Option IndexPlan) → AllByRecursion P old → IfSome new P
     → AllByRecursion P (old ++ option_to_list new)
 needs_more P [] None are is = tt
 needs_more P [] (Some n) are is = (is, tt)
 needs_more P (o ∷ old) new are is = (are.0, needs_more P old new are.1 is)
 
-are_met : (dir : Directory) (f : FilterValue) (token : Token) (number : ℕ) (needs : List Need)
-    → AllByRecursion (IsNeededBy dir f) needs
-    → is_true (truth (reads dir.schema (seen_of dir token number)) f) ≡ true → AreMet dir number needs
+are_met : (dir : Directory) (f : FilterValue) (token : Token) (number : ℕ) (plans : List IndexPlan)
+    → AllByRecursion (IsNeededBy dir f) plans
+    → is_true (truth (reads dir.schema (seen_of dir token number)) f) ≡ true → AreMet dir number plans
 are_met dir f token number [] all is = tt
-are_met dir f token number (n ∷ needs) all is = (all.0 token number is, are_met dir f token number needs all.1 is)
+are_met dir f token number (n ∷ plans) all is = (all.0 token number is, are_met dir f token number plans all.1 is)
 
-pub all_needed : (dir : Directory) (f : FilterValue) (needs : Vec Need Global)
-    → AllByRecursion (IsNeededBy dir f) needs.items → IsNeededBy dir f (AllOf needs)
-all_needed dir f needs all token number is =
-    (all_met dir number needs).1 (are_met dir f token number needs.items all is)
+pub all_needed : (dir : Directory) (f : FilterValue) (plans : Vec IndexPlan Global)
+    → AllByRecursion (IsNeededBy dir f) plans.items → IsNeededBy dir f (AllOf plans)
+all_needed dir f plans all token number is =
+    (all_met dir number plans).1 (are_met dir f token number plans.items all is)
 
 -- ---- one of several
 
 -- Where some filter is true, what one of those so far needs is met, or one that is left is true.
-abbrev pub OneSoFar : Directory → List Filter → ℕ → List Need → Type 0
-OneSoFar dir filters i needs = (token : Token) (number : ℕ)
+abbrev pub OneSoFar : Directory → List Filter → ℕ → List IndexPlan → Type 0
+OneSoFar dir filters i plans = (token : Token) (number : ℕ)
     → is_true (some_of (reads dir.schema (seen_of dir token number)) (filters_of (map filter_seen filters))) ≡ true
-    → HasMet dir number needs
+    → HasMet dir number plans
     ⊎ (is_true (some_of (reads dir.schema (seen_of dir token number)) (from filters i)) ≡ true)
 
 either_or : (a b : Truth) → is_true (either a b) ≡ true → (is_true a ≡ true) ⊎ (is_true b ≡ true)
@@ -240,41 +240,41 @@ here_or_behind view filters i f lt is some =
     (subst (λ (fs : List Filter). is_true (some_of view (filters_of (map filter_seen fs))) ≡ true)
     (drop_more filters i f lt ∙ ap (λ (g : Filter). g ∷ drop (i + 1) filters) (sym is)) some)
 
-met_before : (dir : Directory) (number : ℕ) (needs : List Need) (need : Need) → HasMet dir number needs
-    → HasMet dir number (needs ++ need ∷ [])
-met_before dir number [] need met = absurd met
-met_before dir number (n ∷ needs) need (inl met) = inl met
-met_before dir number (n ∷ needs) need (inr met) = inr (met_before dir number needs need met)
+met_before : (dir : Directory) (number : ℕ) (plans : List IndexPlan) (plan : IndexPlan) → HasMet dir number plans
+    → HasMet dir number (plans ++ plan ∷ [])
+met_before dir number [] plan met = absurd met
+met_before dir number (n ∷ plans) plan (inl met) = inl met
+met_before dir number (n ∷ plans) plan (inr met) = inr (met_before dir number plans plan met)
 
-met_last : (dir : Directory) (number : ℕ) (needs : List Need) (need : Need) → IsMet dir number need
-    → HasMet dir number (needs ++ need ∷ [])
-met_last dir number [] need met = inl met
-met_last dir number (n ∷ needs) need met = inr (met_last dir number needs need met)
+met_last : (dir : Directory) (number : ℕ) (plans : List IndexPlan) (plan : IndexPlan) → IsMet dir number plan
+    → HasMet dir number (plans ++ plan ∷ [])
+met_last dir number [] plan met = inl met
+met_last dir number (n ∷ plans) plan met = inr (met_last dir number plans plan met)
 
-pub none_so_far : (dir : Directory) (filters : List Filter) (needs : List Need) → OneSoFar dir filters 0 needs
-none_so_far dir filters needs token number some = inr some
+pub none_so_far : (dir : Directory) (filters : List Filter) (plans : List IndexPlan) → OneSoFar dir filters 0 plans
+none_so_far dir filters plans token number some = inr some
 
-here_or_left : {P Q R : Type 0} (dir : Directory) (number : ℕ) (needs : List Need) (need : Need) → (R → P ⊎ Q)
-    → (P → IsMet dir number need) → HasMet dir number needs ⊎ R → HasMet dir number (needs ++ need ∷ []) ⊎ Q
-here_or_left {P} {Q} {R} dir number needs need parts here (inl met) = inl (met_before dir number needs need met)
-here_or_left {P} {Q} {R} dir number needs need parts here (inr left) = by (parts left)
+here_or_left : {P Q R : Type 0} (dir : Directory) (number : ℕ) (plans : List IndexPlan) (plan : IndexPlan) → (R → P ⊎ Q)
+    → (P → IsMet dir number plan) → HasMet dir number plans ⊎ R → HasMet dir number (plans ++ plan ∷ []) ⊎ Q
+here_or_left {P} {Q} {R} dir number plans plan parts here (inl met) = inl (met_before dir number plans plan met)
+here_or_left {P} {Q} {R} dir number plans plan parts here (inr left) = by (parts left)
   where
-    by : P ⊎ Q → HasMet dir number (needs ++ need ∷ []) ⊎ Q
-    by (inl is) = inl (met_last dir number needs need (here is))
+    by : P ⊎ Q → HasMet dir number (plans ++ plan ∷ []) ⊎ Q
+    by (inl is) = inl (met_last dir number plans plan (here is))
     by (inr others) = inr others
 
-pub one_more_of : (dir : Directory) (filters : List Filter) (i : ℕ) (f : Filter) (needs : List Need) (need : Need)
-    → i < length filters → f ≡ get_or filters i f → IsNeededBy dir (filter_seen f) need
-    → OneSoFar dir filters i needs → OneSoFar dir filters (i + 1) (needs ++ need ∷ [])
-one_more_of dir filters i f needs need lt is needed so_far token number some =
-    here_or_left dir number needs need
+pub one_more_of : (dir : Directory) (filters : List Filter) (i : ℕ) (f : Filter) (plans : List IndexPlan) (plan : IndexPlan)
+    → i < length filters → f ≡ get_or filters i f → IsNeededBy dir (filter_seen f) plan
+    → OneSoFar dir filters i plans → OneSoFar dir filters (i + 1) (plans ++ plan ∷ [])
+one_more_of dir filters i f plans plan lt is needed so_far token number some =
+    here_or_left dir number plans plan
     (here_or_behind (reads dir.schema (seen_of dir token number)) filters i f lt is)
     (λ true_here. needed token number true_here) (so_far token number some)
 
-met_at_end : {R : Type 0} (dir : Directory) (number : ℕ) (needs : List Need) → (R → ⊥) → HasMet dir number needs ⊎ R
-    → HasMet dir number needs
-met_at_end dir number needs none (inl met) = met
-met_at_end dir number needs none (inr left) = absurd (none left)
+met_at_end : {R : Type 0} (dir : Directory) (number : ℕ) (plans : List IndexPlan) → (R → ⊥) → HasMet dir number plans ⊎ R
+    → HasMet dir number plans
+met_at_end dir number plans none (inl met) = met
+met_at_end dir number plans none (inr left) = absurd (none left)
 
 none_left : (view : View) (filters : List Filter) (i : ℕ) → length filters ≤ i
     → is_true (some_of view (from filters i)) ≡ true → ⊥
@@ -283,11 +283,11 @@ none_left view filters i le left =
     no_truth (subst (λ (fs : List Filter). is_true (some_of view (filters_of (map filter_seen fs))) ≡ true)
     (drop_all i filters le) left)
 
-pub any_needed : (dir : Directory) (filters : List Filter) (i : ℕ) (needs : Vec Need Global) → length filters ≤ i
-    → OneSoFar dir filters i needs.items
-    → IsNeededBy dir (filter.Or (filters_of (map filter_seen filters))) (AnyOf needs)
+pub any_needed : (dir : Directory) (filters : List Filter) (i : ℕ) (plans : Vec IndexPlan Global) → length filters ≤ i
+    → OneSoFar dir filters i plans.items
+    → IsNeededBy dir (filter.Or (filters_of (map filter_seen filters))) (AnyOf plans)
 unfolding truth
-any_needed dir filters i needs le so_far token number some =
-    (any_met dir number needs).1
-    (met_at_end dir number needs.items (none_left (reads dir.schema (seen_of dir token number)) filters i le)
+any_needed dir filters i plans le so_far token number some =
+    (any_met dir number plans).1
+    (met_at_end dir number plans.items (none_left (reads dir.schema (seen_of dir token number)) filters i le)
     (so_far token number some))

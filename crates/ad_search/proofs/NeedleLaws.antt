@@ -35,14 +35,13 @@ use Rattle.ad_access_dir.specs.Sight.{is_visible}
 use Rattle.ad_search.specs.declared.needles.Needle.{Needle}
 use Rattle.ad_entries.specs.Seen.{Seen, seen_of, reads, reads_from, readable_of, readable_at, values_at, is_readable}
 use Rattle.ad_entries.specs.Seen.{read_of}
-use Rattle.ad_entries.specs.Entry.{Entry}
 use Rattle.ad_search.specs.Search.{is_found}
-use Rattle.ad_search.specs.Steps.{entries_among}
+use Rattle.ad_search.specs.Reads.{found_among}
 use Rattle.ad_dir.specs.Values.{may_have}
 use Rattle.ad_search.specs.Needles.{has_key, IsPlain, IsNeedle, IsAskedAs, HaveSameEntries}
 use Rattle.ad_entries.specs.Places.{place_if}
 use Rattle.ad_entries.proofs.ReadLaws.{read_at, is_read, not_readable}
-use Rattle.ad_search.proofs.SeenLaws.{entries_apart, entries_later}
+use Rattle.ad_search.proofs.AmongLaws.{found_later, found_apart}
 
 -- ---- of an equality
 
@@ -249,30 +248,28 @@ pub left_out : (dir : Directory) (search : SearchValue) (number : ℕ) (ns : Lis
     → ((token : Token) → is_true (truth (reads dir.schema (seen_of dir token number)) search.filter) ≡ false)
     → HaveSameEntries dir search ns (number ∷ ns)
 unfolding is_found
-left_out dir search number ns never token id flags base =
-    sym (entries_later dir token id search flags base number ns
-    (and_none (is_visible dir token number) _ _ (never token)))
+left_out dir search number ns never token base =
+    sym (found_later dir token search base number ns (and_none (is_visible dir token number) _ _ (never token)))
 
 -- the same objects in front
 pub behind_same : (dir : Directory) (search : SearchValue) (front some all : List ℕ) → HaveSameEntries dir search some
     all → HaveSameEntries dir search (front ++ some) (front ++ all)
-behind_same dir search [] some all same token id flags base = same token id flags base
-behind_same dir search (n ∷ front) some all same token id flags base =
-    entries_apart dir token id search flags base n (front ++ some)
-    ∙ ap (λ (es : List Entry). entries_among dir token id search flags base (n ∷ []) ++ es)
-    (behind_same dir search front some all same token id flags base)
-    ∙ sym (entries_apart dir token id search flags base n (front ++ all))
+behind_same dir search [] some all same token base = same token base
+behind_same dir search (n ∷ front) some all same token base =
+    found_apart dir token search base n (front ++ some)
+    ∙ ap (λ (ns : List ℕ). found_among dir token search base (n ∷ []) ++ ns)
+    (behind_same dir search front some all same token base)
+    ∙ sym (found_apart dir token search base n (front ++ all))
 
 left_by : (dir : Directory) (search : SearchValue) (left rest : List ℕ) (number : ℕ) (so : Bool)
     → (so ≡ false → (token : Token) → is_true (truth (reads dir.schema (seen_of dir token number)) search.filter)
     ≡ false)
     → HaveSameEntries dir search ((left ++ place_if so number) ++ rest) (left ++ number ∷ rest)
-left_by dir search left rest number true never token id flags base =
-    ap (entries_among dir token id search flags base) (append_assoc left (number ∷ []) rest)
-left_by dir search left rest number false never token id flags base =
-    ap (λ (ns : List ℕ). entries_among dir token id search flags base (ns ++ rest)) (append-nil left)
-    ∙ behind_same dir search left rest (number ∷ rest) (left_out dir search number rest (never refl)) token id flags
-    base
+left_by dir search left rest number true never token base =
+    ap (found_among dir token search base) (append_assoc left (number ∷ []) rest)
+left_by dir search left rest number false never token base =
+    ap (λ (ns : List ℕ). found_among dir token search base (ns ++ rest)) (append-nil left)
+    ∙ behind_same dir search left rest (number ∷ rest) (left_out dir search number rest (never refl)) token base
 
 pub left_more : (dir : Directory) (search : SearchValue) (left numbers : List ℕ) (i number : ℕ) (so : Bool)
     → drop i numbers ≡ number ∷ drop (i + 1) numbers
@@ -280,10 +277,10 @@ pub left_more : (dir : Directory) (search : SearchValue) (left numbers : List �
     ≡ false)
     → HaveSameEntries dir search (left ++ drop i numbers) numbers
     → HaveSameEntries dir search ((left ++ place_if so number) ++ drop (i + 1) numbers) numbers
-left_more dir search left numbers i number so here never same token id flags base =
-    left_by dir search left (drop (i + 1) numbers) number so never token id flags base
-    ∙ ap (λ (ns : List ℕ). entries_among dir token id search flags base (left ++ ns)) (sym here)
-    ∙ same token id flags base
+left_more dir search left numbers i number so here never same token base =
+    left_by dir search left (drop (i + 1) numbers) number so never token base
+    ∙ ap (λ (ns : List ℕ). found_among dir token search base (left ++ ns)) (sym here)
+    ∙ same token base
 
 pub live_more : (P : ℕ → Type 0) (left : List ℕ) (number : ℕ) (so : Bool) → P number → AllByRecursion P left
     → AllByRecursion P (left ++ place_if so number)
@@ -293,9 +290,9 @@ live_more P (n ∷ left) number so is are = (are.0, live_more P left number so i
 
 pub left_ends : (dir : Directory) (search : SearchValue) (left numbers : List ℕ) (i : ℕ) → length numbers ≤ i
     → HaveSameEntries dir search (left ++ drop i numbers) numbers → HaveSameEntries dir search left numbers
-left_ends dir search left numbers i le same token id flags base =
-    ap (entries_among dir token id search flags base)
-    (sym (ap (λ (ns : List ℕ). left ++ ns) (drop_all i numbers le) ∙ append-nil left)) ∙ same token id flags base
+left_ends dir search left numbers i le same token base =
+    ap (found_among dir token search base)
+    (sym (ap (λ (ns : List ℕ). left ++ ns) (drop_all i numbers le) ∙ append-nil left)) ∙ same token base
 
 pub at_of : {A : Type 0} (P : A → Type 0) (xs : List A) (i : ℕ) (x : A) → AllByRecursion P xs → i < length xs → x
     ≡ get_or xs i x → P x

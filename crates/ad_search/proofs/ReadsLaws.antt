@@ -6,17 +6,17 @@ use Rattle.std.specs.Prelude.{not, ◌==◌, slice_get, if◌then◌else◌, is_
 use Rattle.std.specs.List.{flat_map}
 use Rattle.std.proofs.lemmas.Bool.{cases_Bool, both_ways}
 use Rattle.std.proofs.lemmas.List.{append-nil, drop_all, drop_more}
-use Rattle.std.proofs.lemmas.Option.{slice_get_past, slice_get_cases}
+use Rattle.std.proofs.lemmas.Option.{none-some, same_Some, slice_get_past, slice_get_cases}
 use Rattle.ad_ids.specs.declared.token.Token.{Token}
 use Rattle.ad_dn.specs.declared.rdn.Dn.{Dn}
 use Rattle.ad_schema.specs.declared.info.AttrInfo.{AttrInfo}
 use Rattle.ad_schema.specs.Attributes.{attrs_of}
-use Rattle.ad_types.specs.declared.tried.Tried.{Tried}
 use Rattle.ad_ldap.specs.MessageValue.{SearchValue}
 use Rattle.ad_dir_model.specs.Shown.{shown}
 use Rattle.ad_dir_model.specs.Directory.{Directory}
 use Rattle.ad_types.specs.Tried.{TriedValue, tried_values}
-use Rattle.ad_search.specs.declared.tried_reads.Count.{Count}
+use Rattle.ad_search.specs.declared.joining.Joined.{Joined}
+use Rattle.ad_search.specs.declared.observing.Trace.{Trace}
 use Rattle.ad_search.specs.Search.{stop_code}
 use Rattle.ad_value.specs.Value.{Value}
 use Rattle.ad_entries.specs.Seen.{is_readable}
@@ -26,8 +26,9 @@ use Rattle.ad_entries.proofs.RisingLaws.{along}
 use Rattle.ad_entries.proofs.PlaceLaws.{told_if, told_at_places, given_of}
 use Rattle.ad_search.specs.Reads.{read_on, has_attr, attr_reads, descriptor_reads, entry_reads, found_among, long}
 use Rattle.ad_search.specs.Reads.{unless_stops, given_from}
-use Rattle.ad_search.specs.ReadSteps.{read_of, read_at, reads_at_each, Counts, reads_behind, reads_on, ReadsOne}
-use Rattle.ad_search.proofs.BaseLaws.{Has}
+use Rattle.ad_search.specs.ReadSteps.{read_of, read_at, reads_at_each, kept, and_then, Counts, reads_behind}
+use Rattle.ad_search.specs.ReadSteps.{kept_behind, ReadsOne}
+use Rattle.ad_search.proofs.AmongLaws.{Has, none_found, one_found, found_apart}
 
 -- ---- attributes by their places
 
@@ -162,139 +163,149 @@ entry_ok (Ok x) dir token search flags number places before between after are at
     (descriptor_reads dir token number search flags)
 entry_ok (Err e) dir token search flags number places before between after are attrs descriptor = tt
 
+-- ---- what is kept
+
+pub keeps_nothing : (tried : Option (List TriedValue)) → and_then tried [] ≡ tried
+keeps_nothing None = refl
+keeps_nothing (Some ts) = ap Some (append-nil ts)
+
+pub keeps_both : (tried : Option (List TriedValue)) (first second : List TriedValue)
+    → and_then (and_then tried first) second ≡ and_then tried (first ++ second)
+keeps_both None first second = refl
+keeps_both (Some ts) first second = ap Some (append_assoc ts first second)
+
+-- one that isn't kept
+pub drops : (trace : Trace) (more : List TriedValue) → trace.is_kept ≡ false → kept trace ≡ and_then (kept trace) more
+drops trace more is = rw is refl
+
+pub keeps : {A E : Type 0} → (r : Result A E) (trace next : Trace) (more : List TriedValue) → trace.is_kept ≡ true
+    → next.is_kept ≡ trace.is_kept
+    → OnOk r (tried_values next.tried.items ≡ tried_values trace.tried.items ++ more)
+    → OnOk r (kept next ≡ and_then (kept trace) more)
+keeps (Ok x) trace next more is same are = rw (same, is) (ap Some are)
+keeps (Err e) trace next more is same are = tt
+
+if_kept : (is_kept : Bool) (tried list : List TriedValue) → (if is_kept then Some tried else None) ≡ Some list → tried
+    ≡ list
+if_kept true tried list is = same_Some tried list is
+if_kept false tried list is = absurd (none-some list is)
+
+-- a trace that is kept from the start
+pub is_all : (before after : Option (List TriedValue)) (trace : Trace) (list : List TriedValue) → kept trace ≡ after
+    → after ≡ and_then before list → before ≡ Some [] → tried_values trace.tried.items ≡ list
+is_all before after trace list are is from = if_kept trace.is_kept (tried_values trace.tried.items) list
+    (are ∙ is ∙ ap (λ (b : Option (List TriedValue)). and_then b list) from)
+
 -- ---- one object
 
-pub none_found : (dir : Directory) (token : Token) (search : SearchValue) (base : Dn) (n : ℕ) → false
-    ≡ Has dir token search base n → found_among dir token search base (n ∷ []) ≡ []
-unfolding found_among
-none_found dir token search base n is = rw (sym is) refl
-
-pub one_found : (dir : Directory) (token : Token) (search : SearchValue) (base : Dn) (n : ℕ) → true
-    ≡ Has dir token search base n → found_among dir token search base (n ∷ []) ≡ n ∷ []
-unfolding found_among
-one_found dir token search base n is = rw (sym is) refl
-
 pub reads_none : (dir : Directory) (token : Token) (id : ℕ) (search : SearchValue) (flags : ℕ) (base : Dn) (n : ℕ)
-    (count : Count) (tried : List Tried) → false ≡ Has dir token search base n
-    → ReadsOne dir token id search flags base n count tried count tried true
-reads_none dir token id search flags base n count tried is others =
-    ap (λ (ns : List ℕ). tried_values tried ++ reads_behind dir token id search flags count (ns ++ others))
+    (joined : Joined) (trace : Trace) → false ≡ Has dir token search base n
+    → ReadsOne dir token id search flags base n joined trace joined trace None
+reads_none dir token id search flags base n joined trace is others =
+    ap (λ (ns : List ℕ). kept_behind dir token id search flags joined None (kept trace) (ns ++ others))
     (sym (none_found dir token search base n is))
 
 -- the entry with which the search ends
 pub reads_stop : (dir : Directory) (token : Token) (id : ℕ) (search : SearchValue) (flags : ℕ) (base : Dn) (n : ℕ)
-    (count next : Count) (tried : List Tried) (bytes : ℕ) (goes : Bool) → true ≡ Has dir token search base n
-    → bytes ≡ long dir token id search flags n → goes ≡ false → Counts search.size count next bytes goes
-    → ReadsOne dir token id search flags base n count tried next tried false
+    (before next : Joined) (trace : Trace) (bytes code : ℕ) → true ≡ Has dir token search base n
+    → bytes ≡ long dir token id search flags n → Counts search.size before next bytes (Some code)
+    → ReadsOne dir token id search flags base n before trace next trace (Some code)
 unfolding given_from
-reads_stop dir token id search flags base n count next tried bytes goes is are ends counts others =
-    sym (append-nil (tried_values tried))
-    ∙ ap (λ (ns : List ℕ). tried_values tried ++ flat_map (entry_reads dir token search flags) ns)
-    (sym (by (stop_code search.size count.given count.joined (long dir token id search flags n)) stops))
-    ∙ ap (λ (ns : List ℕ). tried_values tried ++ reads_behind dir token id search flags count (ns ++ others))
+reads_stop dir token id search flags base n before next trace bytes code is are counts others =
+    sym (keeps_nothing (kept trace))
+    ∙ ap (λ (ns : List ℕ). and_then (kept trace) (flat_map (entry_reads dir token search flags) ns))
+    (sym (by (stop_code search.size before.given (length before.bytes.items) (long dir token id search flags n))
+    stops))
+    ∙ ap (λ (ns : List ℕ). kept_behind dir token id search flags before None (kept trace) (ns ++ others))
     (sym (one_found dir token search base n is))
   where
     rest : List ℕ
-    rest = n ∷ given_from dir token id search flags (suc count.given)
-        (count.joined + long dir token id search flags n) others
+    rest = n ∷ given_from dir token id search flags (suc before.given)
+        (length before.bytes.items + long dir token id search flags n) others
 
     by : (code : Option ℕ) → is_some code ≡ true → unless_stops code rest ≡ []
     by None it = absurd (both_ways false refl it)
     by (Some code) it = refl
 
-    stops : is_some (stop_code search.size count.given count.joined (long dir token id search flags n)) ≡ true
-    stops = ap (λ (l : ℕ). is_some (stop_code search.size count.given count.joined l)) (sym are)
-        ∙ subst (λ (b : Bool). Counts search.size count next bytes b) ends counts
+    stops : is_some (stop_code search.size before.given (length before.bytes.items)
+        (long dir token id search flags n)) ≡ true
+    stops = ap (λ (l : ℕ). is_some (stop_code search.size before.given (length before.bytes.items) l)) (sym are)
+        ∙ counts
 
--- one that is counted
+-- one that is joined
 pub reads_next : (dir : Directory) (token : Token) (id : ℕ) (search : SearchValue) (flags : ℕ) (base : Dn) (n : ℕ)
-    (count next : Count) (before after : List Tried) (bytes : ℕ) (goes : Bool) → true ≡ Has dir token search base n
-    → bytes ≡ long dir token id search flags n → goes ≡ true → Counts search.size count next bytes goes
-    → tried_values after ≡ tried_values before ++ entry_reads dir token search flags n
-    → ReadsOne dir token id search flags base n count before next after true
+    (before next : Joined) (trace told : Trace) (bytes : ℕ) → true ≡ Has dir token search base n
+    → bytes ≡ long dir token id search flags n → Counts search.size before next bytes None
+    → kept told ≡ and_then (kept trace) (entry_reads dir token search flags n)
+    → ReadsOne dir token id search flags base n before trace next told None
 unfolding given_from
-reads_next dir token id search flags base n count next before after bytes goes is are on counts new others =
-    ap (λ (ts : List TriedValue). ts ++ reads_behind dir token id search flags next others) new
-    ∙ append_assoc (tried_values before) (entry_reads dir token search flags n)
-    (reads_behind dir token id search flags next others)
-    ∙ ap (λ (g : ℕ). tried_values before ++ flat_map (entry_reads dir token search flags)
-    (n ∷ given_from dir token id search flags g next.joined others)) counted.1
-    ∙ ap (λ (j : ℕ). tried_values before ++ flat_map (entry_reads dir token search flags)
-    (n ∷ given_from dir token id search flags (suc count.given) j others))
-    (counted.2 ∙ ap (λ (l : ℕ). count.joined + l) are)
-    ∙ ap (λ (code : Option ℕ). tried_values before ++ flat_map (entry_reads dir token search flags)
-    (unless_stops code (n ∷ given_from dir token id search flags (suc count.given)
-    (count.joined + long dir token id search flags n) others))) (sym goes_on)
-    ∙ ap (λ (ns : List ℕ). tried_values before ++ reads_behind dir token id search flags count (ns ++ others))
+reads_next dir token id search flags base n before next trace told bytes is are counts new others =
+    ap (λ (ts : Option (List TriedValue)). and_then ts (behind next.given (length next.bytes.items))) new
+    ∙ keeps_both (kept trace) (entry_reads dir token search flags n) (behind next.given (length next.bytes.items))
+    ∙ ap (λ (g : ℕ). and_then (kept trace) (entry_reads dir token search flags n
+    ++ behind g (length next.bytes.items))) counts.1
+    ∙ ap (λ (j : ℕ). and_then (kept trace) (entry_reads dir token search flags n ++ behind (suc before.given) j))
+    (counts.2 ∙ ap (λ (l : ℕ). length before.bytes.items + l) are)
+    ∙ ap (λ (code : Option ℕ). and_then (kept trace) (flat_map (entry_reads dir token search flags)
+    (unless_stops code (n ∷ given_from dir token id search flags (suc before.given)
+    (length before.bytes.items + long dir token id search flags n) others)))) (sym goes_on)
+    ∙ ap (λ (ns : List ℕ). kept_behind dir token id search flags before None (kept trace) (ns ++ others))
     (sym (one_found dir token search base n is))
   where
-    counted : Counts search.size count next bytes true
-    counted = subst (λ (b : Bool). Counts search.size count next bytes b) on counts
+    behind : ℕ → ℕ → List TriedValue
+    behind given joined = reads_behind dir token id search flags given joined others
 
-    goes_on : stop_code search.size count.given count.joined (long dir token id search flags n) ≡ None
-    goes_on = ap (λ (l : ℕ). stop_code search.size count.given count.joined l) (sym are) ∙ counted.0
+    goes_on : stop_code search.size before.given (length before.bytes.items) (long dir token id search flags n) ≡ None
+    goes_on = ap (λ (l : ℕ). stop_code search.size before.given (length before.bytes.items) l) (sym are) ∙ counts.0
 
 -- ---- objects one after the other
 
-found_apart : (dir : Directory) (token : Token) (search : SearchValue) (base : Dn) (n : ℕ) (ns : List ℕ)
-    → found_among dir token search base (n ∷ ns) ≡ found_among dir token search base (n ∷ [])
-    ++ found_among dir token search base ns
-unfolding found_among
-found_apart dir token search base n ns = elim (cases_Bool (Has dir token search base n)) [
-  | inl has ↦ rw has refl
-  | inr lacks ↦ rw lacks refl
-]
+-- what is kept so far and of those that are left is all
+abbrev pub SoFar : Directory → Token → ℕ → SearchValue → ℕ → Dn → List ℕ → ℕ → Option (List TriedValue) → Joined
+    → Trace → Type 0
+SoFar dir token id search flags base ns i first joined trace =
+    kept_behind dir token id search flags joined None (kept trace) (found_among dir token search base (drop i ns))
+    ≡ and_then first (reads_behind dir token id search flags 0 0 (found_among dir token search base ns))
 
-abbrev pub None' : Count
-None' = record { given = 0; joined = 0 }
+pub none_yet : (dir : Directory) (token : Token) (id : ℕ) (search : SearchValue) (flags : ℕ) (base : Dn) (ns : List ℕ)
+    (joined : Joined) (trace : Trace) → joined.bytes.items ≡ [] → joined.given ≡ 0
+    → SoFar dir token id search flags base ns 0 (kept trace) joined trace
+none_yet dir token id search flags base ns joined trace bytes given =
+    ap (λ (g : ℕ). and_then (kept trace) (reads_behind dir token id search flags g (length joined.bytes.items)
+    (found_among dir token search base ns))) given
+    ∙ ap (λ (bs : List ℕ). and_then (kept trace) (reads_behind dir token id search flags 0 (length bs)
+    (found_among dir token search base ns))) bytes
 
--- those so far and those that are left are all
-abbrev pub SoFar : Directory → Token → ℕ → SearchValue → ℕ → Dn → List ℕ → ℕ → Count → List Tried → Type 0
-SoFar dir token id search flags base ns i count tried =
-    tried_values tried ++ reads_behind dir token id search flags count (found_among dir token search base (drop i ns))
-    ≡ reads_behind dir token id search flags None' (found_among dir token search base ns)
-
-at_one : (dir : Directory) (token : Token) (id : ℕ) (search : SearchValue) (flags : ℕ) (base : Dn) (ns : List ℕ)
-    (i : ℕ) (count next : Count) (before after : List Tried) (goes : Bool) → i < length ns
-    → ReadsOne dir token id search flags base (get_or ns i 0) count before next after goes → SoFar dir token id search
-    flags base ns i count before
-    → reads_on dir token id search flags next goes (tried_values after)
-    (found_among dir token search base (drop (i + 1) ns))
-    ≡ reads_behind dir token id search flags None' (found_among dir token search base ns)
-at_one dir token id search flags base ns i count next before after goes lt one so_far =
+pub reads_to : (dir : Directory) (token : Token) (id : ℕ) (search : SearchValue) (flags : ℕ) (base : Dn) (ns : List ℕ)
+    (i : ℕ) (first : Option (List TriedValue)) (before next : Joined) (trace told : Trace) (code : Option ℕ) → i
+    < length ns
+    → ReadsOne dir token id search flags base (get_or ns i 0) before trace next told code
+    → SoFar dir token id search flags base ns i first before trace
+    → kept_behind dir token id search flags next code (kept told) (found_among dir token search base (drop (i + 1) ns))
+    ≡ and_then first (reads_behind dir token id search flags 0 0 (found_among dir token search base ns))
+reads_to dir token id search flags base ns i first before next trace told code lt one so_far =
     one (found_among dir token search base (drop (i + 1) ns))
-    ∙ ap (λ (found : List ℕ). tried_values before ++ reads_behind dir token id search flags count found)
+    ∙ ap (kept_behind dir token id search flags before None (kept trace))
     (sym (ap (found_among dir token search base) (drop_more ns i 0 lt) ∙ found_apart dir token search base
     (get_or ns i 0) (drop (i + 1) ns)))
     ∙ so_far
 
-pub goes_to : (dir : Directory) (token : Token) (id : ℕ) (search : SearchValue) (flags : ℕ) (base : Dn) (ns : List ℕ)
-    (i : ℕ) (count next : Count) (before after : List Tried) (goes : Bool) → i < length ns → goes ≡ true
-    → ReadsOne dir token id search flags base (get_or ns i 0) count before next after goes → SoFar dir token id search
-    flags base ns i count before
-    → SoFar dir token id search flags base ns (i + 1) next after
-goes_to dir token id search flags base ns i count next before after goes lt is one so_far =
-    ap (λ (b : Bool). reads_on dir token id search flags next b (tried_values after)
-    (found_among dir token search base (drop (i + 1) ns))) (sym is)
-    ∙ at_one dir token id search flags base ns i count next before after goes lt one so_far
-
-pub ends_at : (dir : Directory) (token : Token) (id : ℕ) (search : SearchValue) (flags : ℕ) (base : Dn) (ns : List ℕ)
-    (i : ℕ) (count next : Count) (before after : List Tried) (goes : Bool) → i < length ns → goes ≡ false
-    → ReadsOne dir token id search flags base (get_or ns i 0) count before next after goes → SoFar dir token id search
-    flags base ns i count before
-    → tried_values after ≡ reads_behind dir token id search flags None' (found_among dir token search base ns)
-ends_at dir token id search flags base ns i count next before after goes lt is one so_far =
-    ap (λ (b : Bool). reads_on dir token id search flags next b (tried_values after)
-    (found_among dir token search base (drop (i + 1) ns))) (sym is)
-    ∙ at_one dir token id search flags base ns i count next before after goes lt one so_far
-
-pub comes_to_end : (dir : Directory) (token : Token) (id : ℕ) (search : SearchValue) (flags : ℕ) (base : Dn)
-    (ns : List ℕ) (i : ℕ) (count : Count) (tried : List Tried) → length ns ≤ i
-    → SoFar dir token id search flags base ns i count tried → tried_values tried ≡ reads_behind dir token id search
-    flags None' (found_among dir token search base ns)
+pub reads_to_end : (dir : Directory) (token : Token) (id : ℕ) (search : SearchValue) (flags : ℕ) (base : Dn)
+    (ns : List ℕ) (i : ℕ) (first : Option (List TriedValue)) (joined : Joined) (trace : Trace) → length ns ≤ i
+    → SoFar dir token id search flags base ns i first joined trace
+    → kept trace ≡ and_then first (reads_behind dir token id search flags 0 0 (found_among dir token search base ns))
 unfolding given_from found_among
-comes_to_end dir token id search flags base ns i count tried le so_far =
-    sym (append-nil (tried_values tried))
-    ∙ ap (λ (left : List ℕ). tried_values tried ++ reads_behind dir token id search flags count
+reads_to_end dir token id search flags base ns i first joined trace le so_far =
+    sym (keeps_nothing (kept trace))
+    ∙ ap (λ (left : List ℕ). kept_behind dir token id search flags joined None (kept trace)
     (found_among dir token search base left)) (sym (drop_all i ns le))
     ∙ so_far
+
+-- of a result that says nothing of it
+pub on_ok : {A E : Type 0} → (r : Result A E) (P : Type 0) → P → OnOk r P
+on_ok (Ok x) P is = is
+on_ok (Err e) P is = tt
+
+pub on_ok_too : {A E : Type 0} → (r : Result A E) (P Q : Type 0) → (P → Q) → OnOk r P → OnOk r Q
+on_ok_too (Ok x) P Q gives is = gives is
+on_ok_too (Err e) P Q gives is = tt

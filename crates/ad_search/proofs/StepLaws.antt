@@ -1,7 +1,7 @@
 -- Entries joined one after the other.
 use Rattle.std.proofs.Common.{◌≡◌, ℕ, suc, add-one, ◌+◌, ◌<◌, ◌≤◌, Bool, ◌||◌, List, [], ◌∷◌, ◌++◌, length}
-use Rattle.std.proofs.Common.{length-append, drop, get_or, Option, Some, None, Result, Ok, Err, IfOk, sym, ap, ◌∙◌}
-use Rattle.std.proofs.Common.{append_assoc}
+use Rattle.std.proofs.Common.{length-append, drop, get_or, Option, Some, None, sym, ap, ◌∙◌, append_assoc}
+use Rattle.std.specs.Prelude.{is_some}
 use Rattle.std.proofs.lemmas.List.{drop_all, drop_more}
 use Rattle.ad_ids.specs.declared.token.Token.{Token}
 use Rattle.ad_dn.specs.declared.rdn.Dn.{Dn}
@@ -11,6 +11,7 @@ use Rattle.ad_search.specs.declared.joining.Joined.{Joined}
 use Rattle.ad_entries.specs.Entry.{Entry}
 use Rattle.ad_search.specs.Search.{done, stop_code, end_code, entry_or_end, entries_from}
 use Rattle.ad_search.specs.Steps.{entries_among, with_rest, goes_on, Steps}
+use Rattle.ad_search.specs.ReadSteps.{Counts}
 use Rattle.ad_search.proofs.SeenLaws.{entries_apart, no_entries}
 
 -- ---- one entry
@@ -52,6 +53,28 @@ joins id size before after entry have next is_have is_next stop bytes given shor
     (entries_from id size (suc before.given) (length before.bytes.items + length entry.message)
     (before.is_short || entry.is_short) rest))
     (sym none)
+
+-- as it is counted
+pub stops_counted : (size : ℕ) (joined : Joined) (entry : Entry) (code have next : ℕ) → have
+    ≡ length joined.bytes.items
+    → next ≡ length entry.message → Some code ≡ stop_code size joined.given have next
+    → Counts size joined joined (length entry.message) (Some code)
+stops_counted size joined entry code have next is_have is_next stop =
+    sym (ap (λ (stop : Option ℕ). is_some stop)
+    (stop ∙ ap (stop_code size joined.given have) is_next
+    ∙ ap (λ (n : ℕ). stop_code size joined.given n (length entry.message)) is_have))
+
+pub joins_counted : (size : ℕ) (before after : Joined) (entry : Entry) (have next : ℕ) → have
+    ≡ length before.bytes.items
+    → next ≡ length entry.message → None ≡ stop_code size before.given have next
+    → after.bytes.items ≡ before.bytes.items ++ entry.message → after.given ≡ before.given + 1
+    → Counts size before after (length entry.message) None
+joins_counted size before after entry have next is_have is_next stop bytes given = (
+  sym (stop ∙ ap (stop_code size before.given have) is_next
+      ∙ ap (λ (n : ℕ). stop_code size before.given n (length entry.message)) is_have),
+  given ∙ add-one before.given,
+  ap length bytes ∙ length-append before.bytes.items entry.message,
+)
 
 -- ---- one object
 
@@ -98,12 +121,3 @@ unfolding entries_from
 comes_to_end dir token id search flags base ns i size joined whole le so_far =
     ap (with_rest id size joined) (sym (ap (All dir token id search flags base) (drop_all i ns le)
     ∙ no_entries dir token id search flags base)) ∙ so_far
-
--- where an entry was joined
-pub steps_joined : {E : Type 0} → (r : Result (Option ℕ) E) (id size : ℕ) (before after : Joined) (entry : Entry)
-    (entries : List Entry) → entries ≡ entry ∷ []
-    → IfOk r (λ (code : Option ℕ). (k : ℕ) → Steps k size before (entry ∷ []) after code)
-    → IfOk r (λ (code : Option ℕ). Steps id size before entries after code)
-steps_joined (Ok code) id size before after entry entries one is = steps_one id size before after code entry entries
-    one (is id)
-steps_joined (Err e) id size before after entry entries one is = tt

@@ -15,7 +15,7 @@ use Rattle.ad_dir_model.specs.Attributes.{is_named, syntax_at}
 use Rattle.ad_dir_model.specs.Shown.{shown}
 use Rattle.ad_dir_model.specs.Directory.{Directory}
 use Rattle.ad_search.specs.declared.needles.Needle.{Needle}
-use Rattle.ad_search.specs.declared.indexed.Sought.{Sought}
+use Rattle.ad_search.specs.declared.indexed.IndexQuery.{IndexQuery}
 use Rattle.ad_entries.specs.Seen.{reads, seen_of}
 use Rattle.ad_search.specs.Needles.{has_key, IsPlain, HaveSameEntries}
 
@@ -31,11 +31,11 @@ IsNamedBy schema attr false true = syntax_at schema attr ≡ syntax.Unicode
 IsNamedBy schema attr false false = names_one schema attr ≡ false
 
 -- what is sought is what is needed
-pub record IsSoughtFor (schema : List SchemaRecord) (needle : Needle) (sought : Sought) : Type 0 where
-  pub attr_is : sought.attr ≡ needle.attr
-  pub key_is : sought.key ≡ needle.value.key
-  pub name : is_named schema (codes "name") sought.attr.0 ≡ sought.is_name
-  pub named : IsNamedBy schema sought.attr.0 sought.is_name sought.by_name
+pub record IsQueryFor (schema : List SchemaRecord) (needle : Needle) (query : IndexQuery) : Type 0 where
+  pub attr_is : query.attr ≡ needle.attr
+  pub key_is : query.key ≡ needle.value.key
+  pub name : is_named schema (codes "name") query.attr.0 ≡ query.is_name
+  pub named : IsNamedBy schema query.attr.0 query.is_name query.by_name
 
 -- whoever asks, the filter isn't true of the object
 abbrev pub IsNever : Directory → FilterValue → ℕ → Type 0
@@ -48,12 +48,12 @@ IsBefore number None = Unit {0}
 IsBefore number (Some next) = number < next
 
 -- A number above this one, such that no live object between them shows a value of the attribute with the key.
-pub record IsNextShown (dir : Directory) (sought : Sought) (above : ℕ) (result : Option ℕ) : Type 0 where
+pub record IsNextShown (dir : Directory) (query : IndexQuery) (above : ℕ) (result : Option ℕ) : Type 0 where
   pub is_above : IfSome result (λ next. above < next)
   pub none : (number : ℕ) → is_live dir.objects number ≡ true → above < number → IsBefore number result
-      → IsPlain dir.schema sought.attr.0 → is_named dir.schema (codes "name") sought.attr.0 ≡ sought.is_name
-      → IsNamedBy dir.schema sought.attr.0 sought.is_name sought.by_name
-      → has_key sought.key (shown dir number sought.attr.0) ≡ false
+      → IsPlain dir.schema query.attr.0 → is_named dir.schema (codes "name") query.attr.0 ≡ query.is_name
+      → IsNamedBy dir.schema query.attr.0 query.is_name query.by_name
+      → has_key query.key (shown dir number query.attr.0) ≡ false
 
 -- A number above this one, such that the filter is true of no live object between them.
 pub record IsNextFor (dir : Directory) (filter : FilterValue) (above : ℕ) (result : Option ℕ) : Type 0 where

@@ -18,7 +18,7 @@ use Rattle.ad_dir_model.specs.Attributes.{is_named}
 use Rattle.ad_dir_model.specs.Directory.{Directory}
 use Rattle.ad_search.specs.declared.needles.Needle.{Needle}
 use Rattle.ad_entries.specs.Seen.{Seen, reads, values_at}
-use Rattle.ad_search.specs.Steps.{entries_among}
+use Rattle.ad_search.specs.Reads.{found_among}
 
 -- some value has the key
 abbrev pub has_key : Key → List Value → Bool
@@ -54,8 +54,7 @@ pub record IsAskedAs (schema : List SchemaRecord) (attr : AttrId) (sent : List �
   pub value_is : normal_or_fault info.syntax sent ≡ Ok needle.value
   pub plain : IsPlain schema attr.0
 
--- The entries of these objects are those of the others, whoever asks.
+-- Of these objects those have entries that have them of the others, whoever asks.
 abbrev pub HaveSameEntries : Directory → SearchValue → List ℕ → List ℕ → Type 0
 HaveSameEntries dir search some all =
-    (token : Token) (id flags : ℕ) (base : Dn) → entries_among dir token id search flags base some
-    ≡ entries_among dir token id search flags base all
+    (token : Token) (base : Dn) → found_among dir token search base some ≡ found_among dir token search base all

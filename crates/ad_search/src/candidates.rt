@@ -7,13 +7,13 @@ ghost use Rattle.std.specs.List.{AllByRecursion};
 ghost use Rattle.ad_ldap.specs.MessageValue.{search_seen};
 ghost use Rattle.ad_dir_model.specs.Objects.{is_live};
 ghost use Rattle.ad_entries.specs.Places.{place_if};
-ghost use Rattle.ad_search.specs.declared.needed.Need.{Need as Needed};
+ghost use Rattle.ad_search.specs.declared.index_plan.IndexPlan.{IndexPlan as Plan};
 ghost use Rattle.ad_search.specs.Needles.{HaveSameEntries};
 ghost use Rattle.ad_search.specs.Indexed.{IsBefore, IsLeftOfAll};
 ghost use Rattle.ad_search.specs.Needed.{Shows, IsMet, HasMet, AreMet, IsNeededBy, IsNextOf};
 
+use crate::index_plan::{IndexPlan, Leaf, may_meet, plan_of};
 use crate::indexed::{lesser, next_shown};
-use crate::needed::{Leaf, Need, may_meet, need_of};
 use ad_dir::{Dir, ROOT};
 use ad_ldap::Search;
 use std::alloc::{AllocError, Global};
@@ -50,15 +50,15 @@ fn next_of_one(dir: &Dir, leaf: &Leaf, above: u32) -> Option<u32>
     ensures { IsNextOf dir.now (λ number. Shows dir.now number leaf.now) above result }
 {
     dir.invariants();
-    match &leaf.sought {
-        Some(sought) => next_shown(dir, sought, above),
+    match &leaf.query {
+        Some(query) => next_shown(dir, query, above),
         None => after(above),
     }
 }
 
 // The next number, whatever is needed.
 fn next_of_some(dir: &Dir, above: u32) -> Option<u32>
-    ensures { (need : Needed) → IsNextOf dir.now (λ number. IsMet dir.now number need) above result }
+    ensures { (plan : Plan) → IsNextOf dir.now (λ number. IsMet dir.now number plan) above result }
 {
     dir.invariants();
     after(above)
@@ -66,27 +66,27 @@ fn next_of_some(dir: &Dir, above: u32) -> Option<u32>
 
 // The next object above a number that may show one of these.
 #[cycle(next)]
-fn next_of_any(dir: &Dir, needs: &[Need], above: u32) -> Option<u32>
-    ensures { IsNextOf dir.now (λ number. HasMet dir.now number needs.now) above result }
+fn next_of_any(dir: &Dir, plans: &[IndexPlan], above: u32) -> Option<u32>
+    ensures { IsNextOf dir.now (λ number. HasMet dir.now number plans.now) above result }
 {
     let mut next = None;
-    'each: for need in needs {
-        next = lesser(next, next_of(dir, need, above));
+    'each: for plan in plans {
+        next = lesser(next, next_of(dir, plan, above));
     }
     next
 }
 
 // The next object above a number that may show all of them.
 #[cycle(next)]
-fn next_of_all(dir: &Dir, needs: &[Need], above: u32) -> Option<u32>
-    ensures { IsNextOf dir.now (λ number. AreMet dir.now number needs.now) above result }
+fn next_of_all(dir: &Dir, plans: &[IndexPlan], above: u32) -> Option<u32>
+    ensures { IsNextOf dir.now (λ number. AreMet dir.now number plans.now) above result }
 {
     dir.invariants();
     let Some(mut next) = after(above) else {
         return None;
     };
-    'each: for need in needs {
-        match next_of(dir, need, above) {
+    'each: for plan in plans {
+        match next_of(dir, plan, above) {
             Some(one) => next = greater(next, one),
             None => return None,
         }
@@ -96,23 +96,23 @@ fn next_of_all(dir: &Dir, needs: &[Need], above: u32) -> Option<u32>
 
 // The next object above a number that may show what is needed, by the indexes.
 #[cycle(next)]
-fn next_of(dir: &Dir, need: &Need, above: u32) -> Option<u32>
-    ensures { IsNextOf dir.now (λ number. IsMet dir.now number need.now) above result }
+fn next_of(dir: &Dir, plan: &IndexPlan, above: u32) -> Option<u32>
+    ensures { IsNextOf dir.now (λ number. IsMet dir.now number plan.now) above result }
 {
-    match need {
-        Need::One(leaf) => next_of_one(dir, leaf, above),
-        Need::Present(_) => next_of_some(dir, above),
-        Need::AnyOf(needs) => next_of_any(dir, needs.as_slice(), above),
-        Need::AllOf(needs) => next_of_all(dir, needs.as_slice(), above),
+    match plan {
+        IndexPlan::One(leaf) => next_of_one(dir, leaf, above),
+        IndexPlan::Present(_) => next_of_some(dir, above),
+        IndexPlan::AnyOf(plans) => next_of_any(dir, plans.as_slice(), above),
+        IndexPlan::AllOf(plans) => next_of_all(dir, plans.as_slice(), above),
     }
 }
 
 // ---- whether they are worth it
 
 #[cycle(index)]
-fn each_has_index(needs: &[Need]) -> bool {
-    for need in needs {
-        if !has_index(need) {
+fn each_has_index(plans: &[IndexPlan]) -> bool {
+    for plan in plans {
+        if !has_index(plan) {
             return false;
         }
     }
@@ -120,9 +120,9 @@ fn each_has_index(needs: &[Need]) -> bool {
 }
 
 #[cycle(index)]
-fn one_has_index(needs: &[Need]) -> bool {
-    for need in needs {
-        if has_index(need) {
+fn one_has_index(plans: &[IndexPlan]) -> bool {
+    for plan in plans {
+        if has_index(plan) {
             return true;
         }
     }
@@ -131,32 +131,32 @@ fn one_has_index(needs: &[Need]) -> bool {
 
 // Whether the indexes leave out objects: of an Or where each item has one, and of an And where some item has.
 #[cycle(index)]
-fn has_index(need: &Need) -> bool {
-    match need {
-        Need::One(leaf) => leaf.sought.is_some(),
-        Need::Present(_) => false,
-        Need::AnyOf(needs) => each_has_index(needs.as_slice()),
-        Need::AllOf(needs) => one_has_index(needs.as_slice()),
+fn has_index(plan: &IndexPlan) -> bool {
+    match plan {
+        IndexPlan::One(leaf) => leaf.query.is_some(),
+        IndexPlan::Present(_) => false,
+        IndexPlan::AnyOf(plans) => each_has_index(plans.as_slice()),
+        IndexPlan::AllOf(plans) => one_has_index(plans.as_slice()),
     }
 }
 
 #[cycle(count)]
-fn count_of_all(needs: &[Need]) -> usize {
+fn count_of_all(plans: &[IndexPlan]) -> usize {
     let mut count = 0usize;
-    for need in needs {
-        count = count.saturating_add(count_of(need));
+    for plan in plans {
+        count = count.saturating_add(count_of(plan));
     }
     count
 }
 
 // How many values are sought.
 #[cycle(count)]
-fn count_of(need: &Need) -> usize {
-    match need {
-        Need::One(_) => 1,
-        Need::Present(_) => 1,
-        Need::AnyOf(needs) => count_of_all(needs.as_slice()),
-        Need::AllOf(needs) => count_of_all(needs.as_slice()),
+fn count_of(plan: &IndexPlan) -> usize {
+    match plan {
+        IndexPlan::One(_) => 1,
+        IndexPlan::Present(_) => 1,
+        IndexPlan::AnyOf(plans) => count_of_all(plans.as_slice()),
+        IndexPlan::AllOf(plans) => count_of_all(plans.as_slice()),
     }
 }
 
@@ -180,15 +180,15 @@ fn rounds_of(dir: &Dir, scope: u8, base: u32, values: usize) -> usize {
 // ---- all of them
 
 // Whether the object of a number is live and may be found.
-fn is_candidate(dir: &Dir, need: &Need, number: u32) -> bool
+fn is_candidate(dir: &Dir, plan: &IndexPlan, number: u32) -> bool
     ensures live { IsTrue result → is_live dir.now.objects number ≡ true }
     ensures never { IsFalse result → is_live dir.now.objects number ≡ true
-        → IsMet dir.now number need.now → ⊥ }
+        → IsMet dir.now number plan.now → ⊥ }
 {
     if !dir.is_live(number) {
         return false;
     }
-    may_meet(dir, number, need)
+    may_meet(dir, number, plan)
 }
 
 fn push_number(numbers: &mut Vec<u32>, so: bool, number: u32) -> Result<(), AllocError>
@@ -205,10 +205,10 @@ fn found_by(
     alloc: Global,
     dir: &Dir,
     search: &Search,
-    need: &Need,
+    plan: &IndexPlan,
     most: usize,
 ) -> Result<Option<Vec<u32>>, AllocError>
-    requires needed { IsNeededBy dir.now (search_seen search.now).filter need.now }
+    requires needed { IsNeededBy dir.now (search_seen search.now).filter plan.now }
     ensures { IfOk result (λ found.
         IfSome found (λ left. IsLeftOfAll dir.now (search_seen search.now) left.items)) }
 {
@@ -216,12 +216,12 @@ fn found_by(
     let mut left = Vec::new(alloc);
     let mut above = 0u32;
     let mut rounds = 0usize;
-    'each: while let Some(next) = next_of(dir, need, above) {
+    'each: while let Some(next) = next_of(dir, plan, above) {
         if rounds >= most {
             return Ok(None);
         }
         rounds += 1;
-        let so = is_candidate(dir, need, next);
+        let so = is_candidate(dir, plan, next);
         push_number(&mut left, so, next)?;
         above = next;
     }
@@ -242,14 +242,14 @@ pub(crate) fn indexed_of(
     if search.scope == 0 {
         return Ok(None);
     }
-    let Some(need) = need_of(alloc, dir, &search.filter)? else {
+    let Some(plan) = plan_of(alloc, dir, &search.filter)? else {
         return Ok(None);
     };
-    if !has_index(&need) {
+    if !has_index(&plan) {
         return Ok(None);
     }
-    let most = rounds_of(dir, search.scope, base, count_of(&need));
-    found_by(alloc, dir, search, &need, most)
+    let most = rounds_of(dir, search.scope, base, count_of(&plan));
+    found_by(alloc, dir, search, &plan, most)
 }
 
 // ---- by a look at each
@@ -258,11 +258,11 @@ fn those_left(
     alloc: Global,
     dir: &Dir,
     search: &Search,
-    need: &Need,
+    plan: &IndexPlan,
     numbers: &[u32],
 ) -> Result<Vec<u32>, AllocError>
     requires live { AllByRecursion (λ number. is_live dir.now.objects number ≡ true) numbers.now }
-    requires needed { IsNeededBy dir.now (search_seen search.now).filter need.now }
+    requires needed { IsNeededBy dir.now (search_seen search.now).filter plan.now }
     ensures same { IfOk result (λ left. HaveSameEntries dir.now (search_seen search.now) left.items
         numbers.now) }
     ensures live { IfOk result (λ left.
@@ -270,7 +270,7 @@ fn those_left(
 {
     let mut left = Vec::new(alloc);
     'each: for number in numbers {
-        let may = may_meet(dir, *number, need);
+        let may = may_meet(dir, *number, plan);
         push_number(&mut left, may, *number)?;
     }
     Ok(left)
@@ -289,8 +289,8 @@ pub(crate) fn left_of(
     ensures live { IfOk result (λ left.
         AllByRecursion (λ number. is_live dir.now.objects number ≡ true) left.items) }
 {
-    match need_of(alloc, dir, &search.filter)? {
-        Some(need) => those_left(alloc, dir, search, &need, numbers.as_slice()),
+    match plan_of(alloc, dir, &search.filter)? {
+        Some(plan) => those_left(alloc, dir, search, &plan, numbers.as_slice()),
         None => Ok(numbers),
     }
 }

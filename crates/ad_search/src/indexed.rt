@@ -4,7 +4,7 @@
 ghost use Rattle.std.specs.Prelude.{◌≡◌, ◌<◌, ℕ, true, false, codes, IfOk, IfSome, IsTrue};
 ghost use Rattle.ad_value.specs.declared.syntax.Syntax.TheVariants as syntax;
 ghost use Rattle.ad_dir_model.specs.Attributes.{is_named, syntax_at};
-ghost use Rattle.ad_search.specs.Indexed.{names_one, IsSoughtFor, IsBefore, IsNextShown};
+ghost use Rattle.ad_search.specs.Indexed.{names_one, IsQueryFor, IsBefore, IsNextShown};
 
 use crate::needles::Needle;
 use ad_dir::{Dir, is_named};
@@ -14,7 +14,7 @@ use std::alloc::{AllocError, Global};
 
 /// A value that an object has to show, of an attribute by which objects are found.
 #[derive(Drop)]
-pub(crate) struct Sought {
+pub(crate) struct IndexQuery {
     pub attr: AttrId,
     pub key: Key,
     // Whether objects are named by the attribute.
@@ -43,14 +43,18 @@ fn is_text(schema: &Schema, attr: AttrId) -> bool
 }
 
 // What is sought for a needle of `name`.
-fn sought_by_name(alloc: Global, dir: &Dir, needle: &Needle) -> Result<Option<Sought>, AllocError>
+fn query_by_name(
+    alloc: Global,
+    dir: &Dir,
+    needle: &Needle,
+) -> Result<Option<IndexQuery>, AllocError>
     requires { is_named dir.now.schema (codes "name") needle.now.attr.0 ≡ true }
-    ensures { IfOk result (λ found. IfSome found (IsSoughtFor dir.now.schema needle.now)) }
+    ensures { IfOk result (λ found. IfSome found (IsQueryFor dir.now.schema needle.now)) }
 {
     if !is_text(dir.schema(), needle.attr) {
         return Ok(None);
     }
-    Ok(Some(Sought {
+    Ok(Some(IndexQuery {
         attr: needle.attr,
         key: needle.value.key(alloc)?,
         by_name: true,
@@ -59,9 +63,13 @@ fn sought_by_name(alloc: Global, dir: &Dir, needle: &Needle) -> Result<Option<So
 }
 
 // What is sought for a needle of any other attribute, where there is an index for it.
-fn sought_by_value(alloc: Global, dir: &Dir, needle: &Needle) -> Result<Option<Sought>, AllocError>
+fn query_by_value(
+    alloc: Global,
+    dir: &Dir,
+    needle: &Needle,
+) -> Result<Option<IndexQuery>, AllocError>
     requires { is_named dir.now.schema (codes "name") needle.now.attr.0 ≡ false }
-    ensures { IfOk result (λ found. IfSome found (IsSoughtFor dir.now.schema needle.now)) }
+    ensures { IfOk result (λ found. IfSome found (IsQueryFor dir.now.schema needle.now)) }
 {
     if !dir.is_indexed(needle.attr) {
         return Ok(None);
@@ -70,7 +78,7 @@ fn sought_by_value(alloc: Global, dir: &Dir, needle: &Needle) -> Result<Option<S
     if by_name && !is_text(dir.schema(), needle.attr) {
         return Ok(None);
     }
-    Ok(Some(Sought {
+    Ok(Some(IndexQuery {
         attr: needle.attr,
         key: needle.value.key(alloc)?,
         by_name,
@@ -79,17 +87,17 @@ fn sought_by_value(alloc: Global, dir: &Dir, needle: &Needle) -> Result<Option<S
 }
 
 // What is sought for a needle, where there is an index for it.
-pub(crate) fn sought_of(
+pub(crate) fn query_of(
     alloc: Global,
     dir: &Dir,
     needle: &Needle,
-) -> Result<Option<Sought>, AllocError>
-    ensures { IfOk result (λ found. IfSome found (IsSoughtFor dir.now.schema needle.now)) }
+) -> Result<Option<IndexQuery>, AllocError>
+    ensures { IfOk result (λ found. IfSome found (IsQueryFor dir.now.schema needle.now)) }
 {
     if is_named(dir.schema(), b"name", needle.attr) {
-        return sought_by_name(alloc, dir, needle);
+        return query_by_name(alloc, dir, needle);
     }
-    sought_by_value(alloc, dir, needle)
+    query_by_value(alloc, dir, needle)
 }
 
 // ---- the next object
@@ -109,16 +117,16 @@ pub(crate) fn lesser(a: Option<u32>, b: Option<u32>) -> Option<u32>
 }
 
 // The next object above a number that may show what is sought.
-pub(crate) fn next_shown(dir: &Dir, sought: &Sought, above: u32) -> Option<u32>
-    ensures { IsNextShown dir.now sought.now above result }
+pub(crate) fn next_shown(dir: &Dir, query: &IndexQuery, above: u32) -> Option<u32>
+    ensures { IsNextShown dir.now query.now above result }
 {
     dir.invariants();
-    if sought.is_name {
-        return dir.next_named(&sought.key, above);
+    if query.is_name {
+        return dir.next_named(&query.key, above);
     }
-    let stores = dir.next_with(sought.attr, &sought.key, above);
-    if sought.by_name {
-        return lesser(stores, dir.next_named(&sought.key, above));
+    let stores = dir.next_with(query.attr, &query.key, above);
+    if query.by_name {
+        return lesser(stores, dir.next_named(&query.key, above));
     }
     stores
 }

@@ -1,9 +1,10 @@
 //! The messages of entries, joined one after the other.
 
-ghost use Rattle.std.specs.Prelude.{◌≡◌, ◌++◌, ◌+◌, ◌||◌, ℕ, nat_lt, false, [], ◌∷◌, IfOk};
+ghost use Rattle.std.specs.Prelude.{◌≡◌, ◌++◌, ◌+◌, ◌||◌, ℕ, nat_lt, false, [], ◌∷◌, length, IfOk};
 ghost use Rattle.ad_search.specs.Search.{most_joined, stop_code, end_code, done};
 ghost use Rattle.ad_entries.specs.Given.{made_seen};
 ghost use Rattle.ad_search.specs.Steps.{Steps};
+ghost use Rattle.ad_search.specs.ReadSteps.{Counts};
 
 use ad_bytes::Bytes;
 use ad_entries::Made;
@@ -37,8 +38,8 @@ impl Joined {
     }
 }
 
-/// One more, where memory could hold so many.
-pub(crate) fn one_more(count: usize) -> Result<usize, AllocError>
+// One more, where memory could hold so many.
+fn one_more(count: usize) -> Result<usize, AllocError>
     ensures { IfOk result (λ n. n ≡ count + 1) }
 {
     match count.checked_add(1) {
@@ -64,9 +65,9 @@ fn is_too_long(joined: usize, next: usize) -> bool
     }
 }
 
-/// The code with which a search ends before its next entry.
+// The code with which a search ends before its next entry.
 #[tactic(auto, unfolding(crate::specs::Search::stop_code))]
-pub(crate) fn stop_code(size: u32, given: usize, joined: usize, next: usize) -> Option<u8>
+fn stop_code(size: u32, given: usize, joined: usize, next: usize) -> Option<u8>
     ensures { result ≡ stop_code size given joined next }
 {
     if size != 0 && size as usize <= given {
@@ -80,8 +81,10 @@ pub(crate) fn stop_code(size: u32, given: usize, joined: usize, next: usize) -> 
 
 /// Joins one more entry, or gives the code with which the search ends before it.
 pub(crate) fn join(joined: &mut Joined, size: u32, made: &Made) -> Result<Option<u8>, AllocError>
-    ensures { IfOk result (λ code. (id : ℕ) → Steps id size joined.old (made_seen made.now ∷ [])
-        joined.new code) }
+    ensures steps { IfOk result (λ code. (id : ℕ) → Steps id size joined.old
+        (made_seen made.now ∷ []) joined.new code) }
+    ensures counts { IfOk result (λ code. Counts size joined.old joined.new
+        (length (made_seen made.now).message) code) }
 {
     if let Some(code) = stop_code(
         size,

@@ -28,17 +28,17 @@
 mod candidates;
 mod comparing;
 mod finding;
+mod index_plan;
 mod indexed;
 mod joining;
 mod laws;
 mod naming;
-mod needed;
 mod needles;
+mod observing;
 mod parents;
 mod searching;
 mod subtree;
 mod tried_compared;
-mod tried_reads;
 
 pub use comparing::compare;
 pub use laws::{
@@ -46,6 +46,5 @@ pub use laws::{
     what_a_token_sees_decides_a_search, what_is_tried_is_of_the_entries_of_the_answer,
     whatever_has_a_name_is_found_by_it,
 };
-pub use searching::answer;
+pub use searching::{answer, reads};
 pub use tried_compared::compared;
-pub use tried_reads::reads;

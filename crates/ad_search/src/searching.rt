@@ -1,27 +1,32 @@
 //! Searches.
 
 ghost use Rattle.std.specs.Prelude.{◌≡◌, ◌&&◌, ◌==◌, ◌∷◌, if◌then◌else◌, [], true, false, Some, is_some, IfOk};
-ghost use Rattle.std.specs.Prelude.{IfSome, OnOk};
+ghost use Rattle.std.specs.Prelude.{find, IfSome, OnOk};
 ghost use Rattle.std.specs.List.{AllByRecursion};
 ghost use Rattle.ad_dir_model.specs.Objects.{is_live, numbers};
 ghost use Rattle.ad_dir_model.specs.Tree.{root};
 ghost use Rattle.ad_dir_model.specs.Names.{rdns_of};
 ghost use Rattle.ad_dir_model.specs.Directory.{Directory};
+ghost use Rattle.ad_types.specs.Tried.{tried_values};
 ghost use Rattle.ad_access_dir.specs.Sight.{is_visible};
 ghost use Rattle.ad_ldap.specs.MessageValue.{search_seen};
 ghost use Rattle.ad_filter.specs.ThreeValues.{is_true};
 ghost use Rattle.ad_filter.specs.Filtering.{truth};
 ghost use Rattle.ad_entries.specs.Seen.{seen_of, reads, view};
+ghost use Rattle.ad_search.specs.Scope.{is_named};
 ghost use Rattle.ad_search.specs.Search.{is_found, entries_from, answer_at, search_answer};
+ghost use Rattle.ad_search.specs.Reads.{found_among, reads_at, reads_of};
 ghost use Rattle.ad_entries.specs.Judged.{AreKinds};
 ghost use Rattle.ad_search.specs.Parents.{IsKept};
 ghost use Rattle.ad_search.specs.Subtree.{subtree};
 ghost use Rattle.ad_search.specs.Steps.{entries_among, Steps, objects_asked};
+ghost use Rattle.ad_search.specs.ReadSteps.{kept, and_then, reads_behind, ReadsOne};
 
 use crate::candidates::{indexed_of, left_of};
 use crate::finding::{matched, seen_named};
 use crate::joining::{Joined, done, end_code, ended, join};
 use crate::naming::in_scope;
+use crate::observing::{Trace, keep_reads, new_trace, no_trace};
 use crate::parents::{Parent, is_seen, no_parent};
 use crate::subtree::subtree;
 use ad_dir::{Dir, ROOT};
@@ -32,6 +37,7 @@ use ad_ids::Token;
 use ad_ldap::result_code::{INVALID_DN_SYNTAX, NO_SUCH_OBJECT};
 use ad_ldap::{BASE_OBJECT, SINGLE_LEVEL, Search};
 use ad_needs_rules::read_name;
+use ad_types::Tried;
 use std::alloc::{AllocError, Global};
 
 // Whether the filter is true of an object.
@@ -53,9 +59,9 @@ fn is_true_of(alloc: Global, asking: &Asking<'_>, number: u32) -> Result<bool, A
     }
 }
 
-/// The name of an object that is seen, in scope, and of which the filter is true.
+// The name of an object that is seen, in scope, and of which the filter is true.
 #[tactic(auto, unfolding(crate::specs::Search::is_found, ad_entries::specs::Seen::seen_of))]
-pub(crate) fn found_name(
+fn found_name(
     alloc: Global,
     asking: &Asking<'_>,
     number: u32,
@@ -89,7 +95,8 @@ pub(crate) fn found_name(
     Ok(None)
 }
 
-// Joins the entry of one more object, where it has one, or gives the code with which the search ends before it.
+// Joins the entry of one more object, where it has one, and keeps what it tried; or gives the code with which the
+// search ends before it.
 fn step(
     alloc: Global,
     asking: &Asking<'_>,
@@ -98,6 +105,7 @@ fn step(
     last: &mut Parent,
     kinds: &mut Kinds,
     joined: &mut Joined,
+    trace: &mut Trace,
 ) -> Result<Option<u8>, AllocError>
     requires live { is_live asking.now.dir.now.objects number ≡ true }
     requires kept { IsKept asking.now.dir.now asking.now.token.now last.old }
@@ -110,12 +118,19 @@ fn step(
         (entries_among asking.now.dir.now asking.now.token.now asking.now.id
         (search_seen asking.now.search.now) asking.now.flags base.now (number ∷ []))
         joined.new code) }
+    ensures reads { IfOk result (λ code. ReadsOne asking.now.dir.now asking.now.token.now
+        asking.now.id (search_seen asking.now.search.now) asking.now.flags base.now number
+        joined.old trace.old joined.new trace.new code) }
 {
     let Some(name) = found_name(alloc, asking, number, base, last)? else {
         return Ok(None);
     };
     let made = entry_judged(alloc, asking, number, &name, kinds)?;
-    join(joined, asking.search.size, &made)
+    if let Some(code) = join(joined, asking.search.size, &made)? {
+        return Ok(Some(code));
+    }
+    keep_reads(alloc, asking, number, kinds, trace)?;
+    Ok(None)
 }
 
 // The entries of these objects, and the message at the end.
@@ -124,13 +139,19 @@ fn entries(
     asking: &Asking<'_>,
     numbers: &[u32],
     base: &Dn,
+    trace: &mut Trace,
 ) -> Result<Vec<u8>, AllocError>
     requires { AllByRecursion (λ number. is_live asking.now.dir.now.objects number ≡ true)
         numbers.now }
-    ensures { IfOk result (λ bytes. bytes.items
+    ensures bytes { IfOk result (λ bytes. bytes.items
         ≡ entries_from asking.now.id asking.now.search.now.size 0 0 false
         (entries_among asking.now.dir.now asking.now.token.now asking.now.id
         (search_seen asking.now.search.now) asking.now.flags base.now numbers.now)) }
+    ensures reads { OnOk result (kept trace.new ≡ and_then (kept trace.old)
+        (reads_behind asking.now.dir.now asking.now.token.now asking.now.id
+        (search_seen asking.now.search.now) asking.now.flags 0 0
+        (found_among asking.now.dir.now asking.now.token.now (search_seen asking.now.search.now)
+        base.now numbers.now))) }
 {
     let mut last = no_parent(asking.dir);
     let mut kinds = no_kinds(alloc, asking)?;
@@ -144,6 +165,7 @@ fn entries(
             &mut last,
             &mut kinds,
             &mut joined,
+            trace,
         )?;
         if let Some(code) = stop {
             return ended(alloc, joined, asking.id, code);
@@ -171,15 +193,10 @@ fn whole_asked(alloc: Global, dir: &Dir, base: u32) -> Result<Vec<u32>, AllocErr
     subtree(alloc, dir, base)
 }
 
-/// The objects that may have an entry: where the base alone is asked for that one, where those right below it its
-/// children, and else those of its subtree.
+// The objects that may have an entry: where the base alone is asked for that one, where those right below it its
+// children, and else those of its subtree.
 #[tactic(auto, unfolding(crate::specs::Steps::objects_asked))]
-pub(crate) fn objects_asked(
-    alloc: Global,
-    dir: &Dir,
-    scope: u8,
-    base: u32,
-) -> Result<Vec<u32>, AllocError>
+fn objects_asked(alloc: Global, dir: &Dir, scope: u8, base: u32) -> Result<Vec<u32>, AllocError>
     requires { is_live dir.now.objects base ≡ true }
     ensures asked { IfOk result (λ numbers. numbers.items ≡ objects_asked dir.now scope base) }
     ensures live { IfOk result (λ numbers.
@@ -196,33 +213,63 @@ pub(crate) fn objects_asked(
     whole_asked(alloc, dir, base)
 }
 
-// The answer where the base could be read.
-fn answer_at(alloc: Global, asking: &Asking<'_>, base: &Dn) -> Result<Vec<u8>, AllocError>
-    ensures { IfOk result (λ bytes. bytes.items ≡ answer_at asking.now.dir.now.schema
-        (view asking.now.dir.now asking.now.token.now) asking.now.id
-        (search_seen asking.now.search.now) asking.now.flags (Some base.now)) }
+// The objects that may have an entry below a base that is seen, by the indexes where those give them. Of these the same
+// are found as of all.
+fn candidates(
+    alloc: Global,
+    asking: &Asking<'_>,
+    number: u32,
+    base: &Dn,
+) -> Result<Vec<u32>, AllocError>
+    requires live { is_live asking.now.dir.now.objects number ≡ true }
+    requires base { Some (seen_of asking.now.dir.now asking.now.token.now number)
+        ≡ find (is_named base.now.rdns) (view asking.now.dir.now asking.now.token.now) }
+    ensures same { IfOk result (λ left. found_among asking.now.dir.now asking.now.token.now
+        (search_seen asking.now.search.now) base.now left.items
+        ≡ found_among asking.now.dir.now asking.now.token.now (search_seen asking.now.search.now)
+        base.now (numbers asking.now.dir.now.objects)) }
+    ensures live { IfOk result (λ left.
+        AllByRecursion (λ number. is_live asking.now.dir.now.objects number ≡ true) left.items) }
 {
     let dir = asking.dir;
     let search = asking.search;
     dir.invariants();
-    match seen_named(alloc, dir, asking.token, base)? {
-        Some(number) => match indexed_of(alloc, dir, search, number)? {
-            Some(found) => entries(alloc, asking, found.as_slice(), base),
-            None => {
-                let asked = objects_asked(alloc, dir, search.scope, number)?;
-                let numbers = left_of(alloc, dir, search, asked)?;
-                entries(alloc, asking, numbers.as_slice(), base)
-            }
-        },
+    if let Some(found) = indexed_of(alloc, dir, search, number)? {
+        return Ok(found);
+    }
+    let asked = objects_asked(alloc, dir, search.scope, number)?;
+    let left = left_of(alloc, dir, search, asked)?;
+    Ok(left)
+}
+
+// The answer where the base could be read.
+fn answer_at(
+    alloc: Global,
+    asking: &Asking<'_>,
+    base: &Dn,
+    trace: &mut Trace,
+) -> Result<Vec<u8>, AllocError>
+    ensures bytes { IfOk result (λ bytes. bytes.items ≡ answer_at asking.now.dir.now.schema
+        (view asking.now.dir.now asking.now.token.now) asking.now.id
+        (search_seen asking.now.search.now) asking.now.flags (Some base.now)) }
+    ensures reads { OnOk result (kept trace.new ≡ and_then (kept trace.old)
+        (reads_at asking.now.dir.now asking.now.token.now asking.now.id
+        (search_seen asking.now.search.now) asking.now.flags (Some base.now))) }
+{
+    match seen_named(alloc, asking.dir, asking.token, base)? {
+        Some(number) => {
+            let numbers = candidates(alloc, asking, number, base)?;
+            entries(alloc, asking, numbers.as_slice(), base, trace)
+        }
         None => {
-            let name = matched(alloc, dir, asking.token, base)?;
+            let name = matched(alloc, asking.dir, asking.token, base)?;
             done(alloc, asking.id, NO_SUCH_OBJECT, name)
         }
     }
 }
 
-// The answer.
-#[tactic(auto, unfolding(crate::specs::Search::search_answer, crate::specs::Search::answer_seen))]
+// The answer, and what was tried for it.
+#[tactic(auto, unfolding(crate::specs::Search::search_answer, crate::specs::Search::answer_seen, crate::specs::Reads::reads_of))]
 fn answer_read(
     alloc: Global,
     dir: &Dir,
@@ -230,9 +277,12 @@ fn answer_read(
     id: u32,
     search: &Search,
     flags: u8,
+    trace: &mut Trace,
 ) -> Result<Vec<u8>, AllocError>
-    ensures { IfOk result (λ bytes. bytes.items ≡ search_answer dir.now token.now id
+    ensures bytes { IfOk result (λ bytes. bytes.items ≡ search_answer dir.now token.now id
         (search_seen search.now) flags) }
+    ensures reads { OnOk result (kept trace.new ≡ and_then (kept trace.old)
+        (reads_of dir.now token.now id (search_seen search.now) flags)) }
 {
     let asking = Asking {
         dir,
@@ -242,7 +292,7 @@ fn answer_read(
         flags,
     };
     match read_name(alloc, search.base.as_slice())? {
-        Some(base) => answer_at(alloc, &asking, &base),
+        Some(base) => answer_at(alloc, &asking, &base, trace),
         None => done(alloc, id, INVALID_DN_SYNTAX, Vec::new(alloc)),
     }
 }
@@ -275,5 +325,29 @@ pub fn answer(
         → view other token.now ≡ view dir.now token.now
         → bytes.items ≡ search_answer other token.now id (search_seen search.now) flags) }
 {
-    answer_read(alloc, dir, token, id, search, flags)
+    let mut trace = no_trace(alloc);
+    answer_read(alloc, dir, token, id, search, flags, &mut trace)
+}
+
+/// What a search tried, entry by entry in the order of its answer: the right to read each attribute that the entry
+/// has, and where it has the descriptor the rights for the parts that were asked for. All of it was granted. `id` and
+/// `flags` are as in `answer`. It is kept while the answer is made, which is dropped.
+///
+/// # Errors
+///
+/// Out of memory.
+pub fn reads(
+    alloc: Global,
+    dir: &Dir,
+    token: &Token,
+    id: u32,
+    search: &Search,
+    flags: u8,
+) -> Result<Vec<Tried>, AllocError>
+    ensures { IfOk result (λ tried. tried_values tried.items ≡ reads_of dir.now token.now id
+        (search_seen search.now) flags) }
+{
+    let mut trace = new_trace(alloc);
+    answer_read(alloc, dir, token, id, search, flags, &mut trace)?;
+    Ok(trace.tried)
 }

@@ -6,3 +6,5 @@ pub mod EventLaws
 pub mod ListLaws
 pub mod WordLines
 pub mod EffectiveLaws
+pub mod PrintedLaws
+pub mod DiffLaws

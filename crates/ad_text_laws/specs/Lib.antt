@@ -5,3 +5,5 @@ pub mod Events
 pub mod Listings
 pub mod Words
 pub mod Effective
+pub mod Printed
+pub mod Diff

@@ -28,6 +28,7 @@
 #![tactic(auto)]
 
 mod audit;
+mod diff;
 mod effective;
 mod lines;
 mod list;
@@ -36,9 +37,13 @@ mod who;
 mod words;
 
 pub use audit::the_lines_of_audit_read_back;
+pub use diff::the_lines_of_diff_read_back;
 pub use effective::the_text_of_effective_is_of_words;
 pub use lines::a_text_gives_back_its_lines;
 pub use list::the_lines_of_list_read_back;
 pub use token::the_lines_of_a_token_read_back;
-pub use who::{the_lines_of_can_read_back, the_lines_of_who_read_back};
+pub use who::{
+    the_lines_of_can_read_back, the_lines_of_who_read_back, what_can_prints_reads_back,
+    what_who_prints_reads_back,
+};
 pub use words::lines_of_words_read_back;

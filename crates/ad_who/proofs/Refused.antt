@@ -6,14 +6,14 @@ use Rattle.ad_ids.specs.declared.token.Token.{Token}
 use Rattle.ad_principals.specs.Tokens.{IsTokenOf}
 use Rattle.ad_principals.specs.Named.{named}
 use Rattle.ad_who.specs.declared.asked.Asked.{Asked}
-use Rattle.ad_who.specs.declared.told.Told.{Told}
+use Rattle.ad_who.specs.declared.told.Answer.{Answer}
 use Rattle.ad_who.specs.Faults.{fault_line, is_memory}
 use Rattle.ad_who.specs.Asked.{asked_of}
 use Rattle.ad_who.specs.Lines.{can_text}
 use Rattle.ad_who.specs.Answers.{base_named, IsCanText, IsTold}
 
 pub told_refused : (dir : Directory) (IsText : List ℕ → Type 0) (IsRefusal : AskFault → Type 0) (fault : AskFault)
-    (told : Told) → IsRefusal fault
+    (told : Answer) → IsRefusal fault
     → (told.answered ≡ false) × (is_memory fault ≡ false) × (told.text.items ≡ fault_line dir fault)
     → IsTold dir IsText IsRefusal told.answered told.text.items
 told_refused dir IsText IsRefusal fault told refused said =

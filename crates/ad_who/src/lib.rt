@@ -40,4 +40,4 @@ pub use decider::{Decider, decider_on};
 pub use laws::{
     a_right_is_granted_where_what_decides_it_grants, no_question_is_both_answered_and_refused,
 };
-pub use told::{Told, can, token, who};
+pub use told::{Answer, can, token, who};

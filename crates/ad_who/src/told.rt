@@ -15,13 +15,13 @@ use std::alloc::{AllocError, Global};
 
 /// A text, and whether it is an answer; else it is the line that says why there is none.
 #[derive(Drop)]
-pub struct Told {
+pub struct Answer {
     pub answered: bool,
     pub text: Vec<u8>,
 }
 
 // The line of a fault, but for want of memory.
-fn refusal(alloc: Global, dir: &Dir, fault: AskFault) -> Result<Told, AllocError>
+fn refusal(alloc: Global, dir: &Dir, fault: AskFault) -> Result<Answer, AllocError>
     requires { IsOfLive dir.now fault }
     ensures { IfOk result (λ told. (told.answered ≡ false) × (is_memory fault ≡ false)
         × (told.text.items ≡ fault_line dir.now fault)) }
@@ -30,16 +30,16 @@ fn refusal(alloc: Global, dir: &Dir, fault: AskFault) -> Result<Told, AllocError
         return Err(AllocError);
     }
     let text = line_of(alloc, dir, fault)?;
-    Ok(Told {
+    Ok(Answer {
         answered: false,
         text,
     })
 }
 
-fn answer(text: Vec<u8>) -> Told
+fn answer(text: Vec<u8>) -> Answer
     ensures { (result.answered ≡ true) × (result.text.items ≡ text.items) }
 {
-    Told {
+    Answer {
         answered: true,
         text,
     }
@@ -52,7 +52,7 @@ fn answer(text: Vec<u8>) -> Told
 /// # Errors
 ///
 /// Memory ran out.
-pub fn token(alloc: Global, dir: &Dir, name: &str, sids: &[String]) -> Result<Told, AllocError>
+pub fn token(alloc: Global, dir: &Dir, name: &str, sids: &[String]) -> Result<Answer, AllocError>
     ensures { IfOk result (λ told. TokenTold dir.now name.now (map string_bytes sids.now)
         told.answered told.text.items) }
 {
@@ -69,7 +69,7 @@ pub fn token(alloc: Global, dir: &Dir, name: &str, sids: &[String]) -> Result<To
 /// # Errors
 ///
 /// Memory ran out.
-pub fn who(alloc: Global, dir: &Dir, right: &str, name: &str) -> Result<Told, AllocError>
+pub fn who(alloc: Global, dir: &Dir, right: &str, name: &str) -> Result<Answer, AllocError>
     ensures { IfOk result (λ told. WhoTold dir.now right.now name.now told.answered
         told.text.items) }
 {
@@ -92,7 +92,7 @@ pub fn can(
     name: &str,
     right: &str,
     base: Option<&str>,
-) -> Result<Told, AllocError>
+) -> Result<Answer, AllocError>
     ensures { IfOk result (λ told. CanTold dir.now name.now right.now
         (option_map (λ text. text.now) base.entry) told.answered told.text.items) }
 {

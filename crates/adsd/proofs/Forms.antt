@@ -8,7 +8,7 @@ use Rattle.cmd_call.specs.declared.outcome.Outcome.{Outcome}
 use Rattle.cmd_call.specs.declared.outcome.Outcome.TheVariants.{Done, NotOfForm, NoCommand, NoStore, NoObject}
 use Rattle.cmd_call.specs.declared.outcome.Outcome.TheVariants.{TooMany, SourceFailed, SiteFailed, NoMemory}
 use Rattle.cmd_call.specs.Outcome.{IsOfList, status_of}
-use Rattle.cmd_store.specs.Size.{size_of}
+use Rattle.cmd_store_serve.specs.Size.{size_of}
 use Rattle.adsd.specs.declared.run.Command.{Command}
 use Rattle.adsd.specs.declared.run.Command.TheVariants.{Access, Sddl, Change, Load, Check, Settle, Serve, Audit}
 use Rattle.adsd.specs.declared.run.Command.TheVariants.{Grants, List as ListOf, Effective, Token, Who, Can, Sample}

@@ -15,9 +15,9 @@ use Rattle.cmd_store.specs.Load.{LoadDoes}
 use Rattle.cmd_store.specs.Check.{CheckDoes}
 use Rattle.cmd_store.specs.List.{ListDoes}
 use Rattle.cmd_store.specs.Effective.{EffectiveDoes}
-use Rattle.cmd_store.specs.Sample.{SampleDoes}
+use Rattle.cmd_store_serve.specs.Sample.{SampleDoes}
 use Rattle.cmd_store.specs.Settle.{SettleDoes}
-use Rattle.cmd_store.specs.serving.Does.{ServeDoes}
+use Rattle.cmd_store_serve.specs.serving.Does.{ServeDoes}
 use Rattle.adsd.specs.Words.{first_more, second_more}
 use Rattle.adsd.specs.declared.run.Command.{Command}
 use Rattle.adsd.specs.declared.run.Command.TheVariants.{Access, Sddl, Change, Load, Check, Settle, Serve, Audit}

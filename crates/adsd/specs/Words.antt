@@ -3,7 +3,7 @@ use Rattle.std.specs.Prelude.{Bool, ◌||◌, ◌&&◌, nat_lt, ◌≤◌, false
 use Rattle.std.specs.Prelude.{Some, None}
 use Rattle.std.specs.Prelude.{is_some, if◌then◌else◌}
 use Rattle.std.specs.Str.{bytes_eq}
-use Rattle.cmd_store.specs.Size.{size_of, max_size}
+use Rattle.cmd_store_serve.specs.Size.{size_of, max_size}
 use Rattle.adsd.specs.declared.run.Command.{Command}
 use Rattle.adsd.specs.declared.run.Command.TheVariants.{Access, Sddl, Change, Load, Check, Settle, Serve, Audit}
 use Rattle.adsd.specs.declared.run.Command.TheVariants.{Grants, List as ListOf, Effective, Token, Who, Can, Sample}

@@ -22,6 +22,7 @@
 #![tactic(auto)]
 
 mod beside;
+mod lines;
 mod looks;
 mod nearest;
 mod noted;
@@ -55,6 +56,9 @@ const SITE_FAILED: u8 = 5;
 
 /// So many of the first bytes of an input are noted, to say what it looks like.
 const FIRST_BYTES: usize = 4096;
+
+/// The most bytes of a text of lines, all of which are noted, to say what a line names that nothing has.
+const LINES_BYTES: usize = 1_048_576;
 
 /// The status where there is no memory for the words.
 const NO_MEMORY: u8 = 6;
@@ -106,13 +110,30 @@ fn tell_refused(
     }
 }
 
+// Whether the input are lines of grants.
+fn reads_lines(words: &[String]) -> bool {
+    match words {
+        [word, ..] => word.as_str() == "grants",
+        [] => false,
+    }
+}
+
+// Tells which word of lines of grants names nothing in the store.
+fn tell_lines(rt: &HostRuntime, text: &[u8], store: &str) {
+    if let Ok(mut again) = site_of(rt, store, true) {
+        lines::tell_unknown_in_lines(rt, text, &mut again);
+    }
+}
+
 // Runs over the files of the store that the words name.
 fn run_over(rt: &HostRuntime, streams: &Streams, words: &[String], store: &str) -> u8 {
     let Ok(mut site) = site_of(rt, store, streams.lacks_output || run::only_looks(words)) else {
         reason::tell_no_memory(rt);
         return NO_MEMORY;
     };
-    let mut source = Noted::new(rt.alloc(), StdSource::new(rt.stdin()), FIRST_BYTES);
+    let of_lines = reads_lines(words);
+    let most = if of_lines { LINES_BYTES } else { FIRST_BYTES };
+    let mut source = Noted::new(rt.alloc(), StdSource::new(rt.stdin()), most);
     let mut none = OutSite::new(rt.stdout());
     let status = beside::run_beside(rt.alloc(), words, &mut source, &mut site, &mut none);
     let makes_store = run::makes_store(words);
@@ -121,6 +142,7 @@ fn run_over(rt: &HostRuntime, streams: &Streams, words: &[String], store: &str) 
     }
     match status {
         NOT_OF_FORM if makes_store => looks::tell_look(rt, source.first()),
+        NOT_OF_FORM if of_lines => tell_lines(rt, source.first(), store),
         REFUSED => tell_refused(rt, words, store, makes_store, &site),
         NO_INPUT => reason::tell_input(rt, streams, source.source().cause()),
         SITE_FAILED => reason::tell_site(rt, streams, store, site.fault()),

@@ -3,7 +3,7 @@
 
 use ad_dir::Dir;
 use ad_nearest::{Hint, unknown_identifier, unknown_name, unknown_object, unknown_right};
-use cmd_store::Engine;
+use cmd_store_open::DirStore;
 use site_io::FileSite;
 use std::alloc::{AllocError, Global};
 use std::io::Stdout;
@@ -107,7 +107,7 @@ fn in_words<'a>(
 /// Tells which word names nothing and what is nearest to it. The site is of the store's files, opened once more to be
 /// read; where it represents no directory nothing is told.
 pub fn tell_unknown(rt: &HostRuntime, words: &[String], site: &mut FileSite<HostRuntime, Stdout>) {
-    if let Ok(engine) = Engine::resume(rt.alloc(), site) {
+    if let Ok(engine) = DirStore::resume(rt.alloc(), site) {
         if let Ok(Some(hint)) = in_words(rt.alloc(), engine.dir(), words) {
             let _ = eprintln!(rt; "adsd: {hint}");
         }

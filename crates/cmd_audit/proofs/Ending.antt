@@ -14,9 +14,10 @@ use Rattle.cmd_call.specs.Call.{IsTold}
 use Rattle.cmd_call.specs.Store.{HasFailed, Emits, EmitsPart, KeepsSlots}
 use Rattle.cmd_call.proofs.Moments.{told_clash, told_map, told_meets}
 use Rattle.cmd_call.proofs.Telling.{unhealthy}
-use Rattle.cmd_store.specs.Opened.{NoDirStore}
-use Rattle.cmd_store.specs.serving.Does.{outcome_at, EndsAs, IsReadOut}
-use Rattle.cmd_store.proofs.serving.Ending.{Fronts, AreAll, part_longer}
+use Rattle.cmd_store_open.specs.Opened.{NoDirStore}
+use Rattle.cmd_store_open.specs.Ends.{outcome_at, EndsAs, IsReadOut}
+use Rattle.cmd_store_open.proofs.Fronts.{Fronts, AreAll}
+use Rattle.cmd_store_open.proofs.Parts.{part_longer}
 use Rattle.cmd_audit.specs.Audit.{IsAudited, IsPartlyAudited}
 use Rattle.cmd_audit.specs.Log.{audit_text}
 use Rattle.cmd_audit.specs.Steps.{Ended}
@@ -75,7 +76,7 @@ module _ {I S : Type 0} (source : SourceGhosts I) (site : SiteGhosts S) where
   -- ---- the input ends
 
   pub ends_whole : (from to : I) (dir : Directory) (frames : List Frame) (old new : S) → Told site dir frames old new
-      → IfSome (source.rest from) (AreAll Whole frames) → IsReadOut source site from to → Ended source site from to
+      → IfSome (source.rest from) (AreAll Whole frames) → IsReadOut source from to → Ended source site from to
       old new Done
   ends_whole from to dir frames old new so_far all out = record {
     does = record {

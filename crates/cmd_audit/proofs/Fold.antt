@@ -17,7 +17,7 @@ use Rattle.ad_frames.specs.declared.frame.FrameBody.TheVariants as body
 use Rattle.ad_types.specs.Tried.{TriedValue}
 use Rattle.ad_sd.specs.declared.parts.Sd.{Sd}
 use Rattle.ad_audit.specs.Audited.{is_audit, audited}
-use Rattle.ad_engine.specs.Tokens.{token_of}
+use Rattle.ad_engine_store.specs.Tokens.{token_of}
 use Rattle.cmd_audit.specs.declared.events.Stamp.{Stamp}
 use Rattle.cmd_audit.specs.Tries.{message_tries}
 use Rattle.ad_frames.specs.declared.frame.Frame.{Frame}

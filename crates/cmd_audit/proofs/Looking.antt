@@ -10,8 +10,8 @@ use Rattle.ad_dir_model.specs.Directory.{Directory}
 use Rattle.ad_frames.specs.declared.frame.Frame.{Frame}
 use Rattle.ad_frames.specs.declared.frame.FrameBody.{FrameBody}
 use Rattle.ad_frames.specs.declared.frame.FrameBody.TheVariants as body
-use Rattle.ad_engine.specs.Tokens.{token_of, without_token}
-use Rattle.ad_engine.specs.Messages.{op_decided, reading_decided, message_decided}
+use Rattle.ad_engine_store.specs.Tokens.{token_of, without_token}
+use Rattle.ad_engine_answer.specs.Messages.{op_decided, reading_decided, message_decided}
 use Rattle.ad_engine.specs.Answer.{message_answered, body_answered, answer}
 use Rattle.cmd_audit.specs.State.{State, behind}
 use Rattle.cmd_audit.specs.Steps.{body_looks}

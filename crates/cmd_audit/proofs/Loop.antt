@@ -22,11 +22,12 @@ use Rattle.cmd_call.specs.declared.outcome.Outcome.TheVariants.{Done, NotOfForm,
 use Rattle.cmd_call.specs.declared.outcome.Outcome.TheVariants.{NoMemory}
 use Rattle.cmd_call.specs.Store.{Emits}
 use Rattle.cmd_call.proofs.Moments.{rises_from, goes_on_on, looks_keep}
-use Rattle.cmd_store.specs.serving.One.{of_frame, IsEnd}
-use Rattle.cmd_store.proofs.serving.ReadSoFar.{HasRead, within_none, within_over, next_none, next_bad}
-use Rattle.cmd_store.proofs.serving.Ending.{Fronts, part_more}
-use Rattle.cmd_store.proofs.serving.Loop.{read_start, fronts_of, ends_by, read_next}
-use Rattle.cmd_store.proofs.serving.OneFrame.{part_whole}
+use Rattle.cmd_store_open.specs.Ends.{of_frame, IsEnd}
+use Rattle.cmd_store_open.proofs.ReadSoFar.{HasRead, within_none, within_over, next_none, next_bad}
+use Rattle.cmd_store_open.proofs.Fronts.{Fronts}
+use Rattle.cmd_store_open.proofs.Parts.{part_more}
+use Rattle.cmd_store_open.proofs.Fronts.{read_start, fronts_of, ends_by, read_next}
+use Rattle.cmd_store_open.proofs.Parts.{part_whole}
 use Rattle.cmd_audit.specs.Log.{frame_lines, audit_text}
 use Rattle.cmd_audit.specs.State.{State, behind}
 use Rattle.cmd_audit.specs.Steps.{TellsFrame, Ended}

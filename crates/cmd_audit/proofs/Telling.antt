@@ -8,7 +8,7 @@ use Rattle.site_io.specs.Disk.{GoesOn, LeavesEmitted}
 use Rattle.site_io.specs.declared.site.Site.{Ghosts as SiteGhosts}
 use Rattle.cmd_call.specs.Store.{Emits, KeepsSlots}
 use Rattle.cmd_call.proofs.Moments.{IsLawful, stays_on, keeps_not, goes_not}
-use Rattle.cmd_store.proofs.serving.OneFrame.{part_whole}
+use Rattle.cmd_store_open.proofs.Parts.{part_whole}
 use Rattle.std.specs.Prelude.{IfErr, OnOk, ◌==◌}
 use Rattle.site_io.specs.Counts.{HasRisen}
 use Rattle.ad_frames.specs.declared.frame.Frame.{Frame}

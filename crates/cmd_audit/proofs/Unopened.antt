@@ -5,13 +5,13 @@ use Rattle.site_io.specs.Counts.{HasRisen}
 use Rattle.site_io.specs.Outside.{OnlyLooks}
 use Rattle.site_io.specs.declared.source.Source.{Ghosts as SourceGhosts}
 use Rattle.site_io.specs.declared.site.Site.{Ghosts as SiteGhosts}
-use Rattle.ad_engine.specs.Opening.{Refuses, is_outside, IsOpenedAs}
-use Rattle.ad_engine.specs.declared.fault.OpenFault.{OpenFault}
-use Rattle.ad_engine.specs.declared.fault.OpenFault.TheVariants as fault
+use Rattle.ad_engine_store.specs.Opening.{Refuses, is_outside, IsOpenedAs}
+use Rattle.ad_engine_store.specs.declared.fault.OpenFault.{OpenFault}
+use Rattle.ad_engine_store.specs.declared.fault.OpenFault.TheVariants as fault
 use Rattle.cmd_call.specs.declared.outcome.Outcome.TheVariants.{NoStore, SiteFailed, NoMemory}
 use Rattle.cmd_call.proofs.Moments.{looks_keep}
-use Rattle.cmd_store.proofs.Refusing.{never_refused, inside}
-use Rattle.cmd_store.specs.serving.One.{of_open}
+use Rattle.cmd_store_open.proofs.Refusing.{never_refused, inside}
+use Rattle.cmd_store_open.specs.Ends.{outcome_of_open}
 use Rattle.cmd_audit.specs.Steps.{Ended}
 
 module _ {I S : Type 0} (source : SourceGhosts I) (site : SiteGhosts S) where
@@ -85,7 +85,7 @@ module _ {I S : Type 0} (source : SourceGhosts I) (site : SiteGhosts S) where
   pub unopened : (from : I) (x y : S) (why : OpenFault) → OnlyLooks site x y
       → IfSome (site.reads x) (λ held. IsOpenedAs held (Err why))
       → (why ≡ fault.Site → HasRisen (site.slot_faults x) (site.slot_faults y)) → Ended source site from from x y
-      (of_open why)
+      (outcome_of_open why)
   unopened from x y fault.Taken looks opened risen = refused from x y fault.Taken looks refl
       (inside (site.reads x) fault.Taken refl opened)
   unopened from x y fault.Empty looks opened risen = refused from x y fault.Empty looks refl

@@ -12,8 +12,8 @@ use Rattle.cmd_call.specs.declared.outcome.Outcome.TheVariants.{SiteFailed, NoMe
 use Rattle.cmd_call.specs.Call.{IsTold}
 use Rattle.cmd_call.specs.Outcome.{IsOfServe}
 use Rattle.cmd_call.specs.Store.{Emits, EmitsPart, KeepsSlots, IsSiteHealthy, IsAllHealthy}
-use Rattle.cmd_store.specs.Opened.{IsDirStore, NoDirStore}
-use Rattle.cmd_store.specs.serving.Does.{outcome_at, EndsAs, IsUnopened, IsReadOut}
+use Rattle.cmd_store_open.specs.Opened.{IsDirStore, NoDirStore}
+use Rattle.cmd_store_open.specs.Ends.{outcome_at, EndsAs, IsUnopened, IsReadOut}
 use Rattle.cmd_audit.specs.Log.{audit_text}
 
 module _ {I S : Type 0} (source : SourceGhosts I) (site : SiteGhosts S) where
@@ -35,7 +35,7 @@ module _ {I S : Type 0} (source : SourceGhosts I) (site : SiteGhosts S) where
       (audit_text dir (frames_of input).frames)))
 
   pub record AuditDoes (from to : I) (old new : S) (outcome : Outcome) : Type 0 where
-    pub done : outcome ≡ Done → IsAudited Whole from old new × IsReadOut source site from to
+    pub done : outcome ≡ Done → IsAudited Whole from old new × IsReadOut source from to
     pub bad : outcome ≡ NotOfForm → IsAudited Bad from old new
     pub over : outcome ≡ TooMany → IsAudited Over from old new
     pub no_store : outcome ≡ NoStore → IsUnopened site old new × (to ≡ from)

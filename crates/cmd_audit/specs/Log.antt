@@ -11,7 +11,7 @@ use Rattle.ad_dir_model.specs.Directory.{Directory}
 use Rattle.ad_frames.specs.declared.frame.Frame.{Frame}
 use Rattle.ad_frames.specs.declared.frame.FrameBody.{FrameBody}
 use Rattle.ad_frames.specs.declared.frame.FrameBody.TheVariants as body
-use Rattle.ad_engine.specs.Tokens.{token_of}
+use Rattle.ad_engine_store.specs.Tokens.{token_of}
 use Rattle.ad_engine.specs.Answer.{answer}
 use Rattle.ad_engine.specs.Runs.{no_tokens}
 use Rattle.ad_types.specs.Path.{last_guid}

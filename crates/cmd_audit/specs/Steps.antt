@@ -10,8 +10,8 @@ use Rattle.ad_rows_write.specs.Rows.{IsStoreOf}
 use Rattle.ad_frames.specs.declared.frame.Frame.{Frame}
 use Rattle.ad_frames.specs.declared.frame.FrameBody.{FrameBody}
 use Rattle.ad_frames.specs.declared.frame.FrameBody.TheVariants as body
-use Rattle.ad_engine.specs.Standing.{StandsIn}
-use Rattle.ad_engine.specs.declared.engine.Engine.{Engine}
+use Rattle.ad_engine_store.specs.Standing.{StandsIn}
+use Rattle.ad_engine_store.specs.declared.dir_store.DirStore.{DirStore}
 use Rattle.cmd_call.specs.declared.outcome.Outcome.{Outcome}
 use Rattle.cmd_call.specs.declared.outcome.Outcome.TheVariants.{SourceFailed, SiteFailed, NoMemory}
 use Rattle.cmd_call.specs.Store.{HasFailed, Emits, EmitsPart, KeepsSlots}
@@ -21,7 +21,7 @@ use Rattle.cmd_audit.specs.State.{State, behind}
 use Rattle.cmd_audit.specs.Tries.{message_looks}
 
 -- The engine stands over slots of which nothing is told, unless an earlier call on it failed.
-abbrev pub StandsUnkept : Engine → Type 0
+abbrev pub StandsUnkept : DirStore → Type 0
 StandsUnkept engine = StandsIn engine None 0 (λ _ _ _. ⊥)
 
 -- the frame is a message that only looks

@@ -12,7 +12,7 @@ use crate::replay::Replay;
 use ad_engine::Engine;
 use ad_frames::{Frame, next_frame};
 use cmd_call::Outcome;
-use cmd_store::{MAX_FRAMES, at_last, of_frame, of_open};
+use cmd_store_open::{MAX_FRAMES, at_last, of_frame, outcome_of_open};
 use site_io::{Failed, Site, Source};
 use std::alloc::{AllocError, Global};
 
@@ -99,6 +99,6 @@ pub fn audit<I: Source, S: Site>(alloc: Global, source: &mut I, site: &mut S) ->
 {
     match Engine::resume(alloc, site) {
         Ok(engine) => audit_opened(alloc, source, site, engine),
-        Err(fault) => of_open(fault),
+        Err(fault) => outcome_of_open(fault),
     }
 }

@@ -7,7 +7,7 @@ ghost use Rattle.ad_dir_model.specs.Objects.{sd_at};
 ghost use Rattle.ad_frames.specs.declared.frame.Frame.{Frame as FrameValue};
 ghost use Rattle.ad_engine.specs.Runs.{after};
 ghost use Rattle.ad_audit.specs.Audited.{is_audit};
-ghost use Rattle.cmd_store.specs.serving.Reached.{after_first};
+ghost use Rattle.ad_engine.specs.Runs.{after_first};
 ghost use Rattle.cmd_audit.specs.Log.{audit_text, audit_from};
 ghost use Rattle.cmd_audit.specs.State.{tokens_after};
 

@@ -1,7 +1,7 @@
 //! A session that is run again on a directory in memory.
 
 ghost use Rattle.std.specs.Prelude.{◌≡◌, OnOk};
-ghost use Rattle.ad_engine.specs.Tokens.{token_of};
+ghost use Rattle.ad_engine_store.specs.Tokens.{token_of};
 ghost use Rattle.cmd_audit.specs.State.{behind};
 ghost use Rattle.cmd_audit.specs.Steps.{StandsUnkept};
 

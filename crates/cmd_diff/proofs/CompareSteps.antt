@@ -8,20 +8,20 @@ use Rattle.site_io.specs.Outside.{OnlyLooks}
 use Rattle.site_io.specs.declared.site.Site.{Ghosts as SiteGhosts}
 use Rattle.ad_dir_model.specs.Directory.{Directory}
 use Rattle.ad_rows_write.specs.Rows.{IsStoreOf}
-use Rattle.ad_engine.specs.Opening.{is_outside}
+use Rattle.ad_engine_store.specs.Opening.{is_outside}
 use Rattle.cmd_call.specs.Call.{IsTold}
 use Rattle.cmd_call.specs.Store.{HasFailed, KeepsSlots, Emits}
 use Rattle.cmd_call.specs.declared.outcome.Outcome.{Outcome}
 use Rattle.cmd_call.specs.declared.outcome.Outcome.TheVariants.{NoStore, SiteFailed, NoMemory}
 use Rattle.cmd_call.proofs.Moments.{stays_same, looks_keep, goes_not, IsLawful}
 use Rattle.cmd_call.proofs.Telling.{Tells, whole, part, nothing, telling_by, unhealthy}
-use Rattle.cmd_store.specs.EngineWords.{Refuses, IsOpenedAs, OpenFault}
-use Rattle.cmd_store.specs.OpenFaults as slots
-use Rattle.cmd_store.specs.Opened.{IsDirStore, NoDirStore}
-use Rattle.cmd_store.proofs.Refusing.{inside, never_refused, stands_clash, same_dir}
-use Rattle.cmd_store.proofs.Refusing.{LineEnds, line_said, site_lost, short, line_refusal}
-use Rattle.cmd_store.specs.Answered.{outcome_of}
-use Rattle.cmd_store.specs.Refused.{RefusedAs}
+use Rattle.cmd_store_open.specs.EngineWords.{Refuses, IsOpenedAs, OpenFault}
+use Rattle.cmd_store_open.specs.OpenFaults as slots
+use Rattle.cmd_store_open.specs.Opened.{IsDirStore, NoDirStore}
+use Rattle.cmd_store_open.proofs.Refusing.{inside, never_refused, stands_clash, same_dir}
+use Rattle.cmd_store_open.proofs.Refusing.{LineEnds, line_said, site_lost, short, line_refusal}
+use Rattle.cmd_store_open.specs.Answered.{outcome_of}
+use Rattle.cmd_store_open.specs.Refused.{RefusedAs}
 use Rattle.cmd_diff.specs.Lines.{first_word, second_word, first_line, second_line}
 use Rattle.cmd_diff.specs.Compares.{Question, IsFirst, IsSecond, IsNoFirst, IsNoSecond, IsPartlyCompared}
 use Rattle.cmd_diff.specs.Compares.{AreHealthy, ComparesDoes}

@@ -12,9 +12,9 @@ use Rattle.cmd_call.specs.declared.outcome.Outcome.TheVariants.{Done, NoStore, N
 use Rattle.cmd_call.specs.Call.{IsTold}
 use Rattle.cmd_call.specs.Outcome.{IsOfList}
 use Rattle.cmd_call.specs.Store.{Emits, EmitsPart, KeepsSlots, IsSiteHealthy}
-use Rattle.cmd_store.specs.EngineWords.{Refuses, OpenFault}
-use Rattle.ad_engine.specs.Opening.{is_outside}
-use Rattle.cmd_store.specs.Opened.{IsDirStore, NoDirStore}
+use Rattle.cmd_store_open.specs.EngineWords.{Refuses, OpenFault}
+use Rattle.ad_engine_store.specs.Opening.{is_outside}
+use Rattle.cmd_store_open.specs.Opened.{IsDirStore, NoDirStore}
 use Rattle.cmd_diff.specs.Lines.{first_line, second_line}
 
 -- What two directories are asked together: which texts are answers to it, and which say why there is none.

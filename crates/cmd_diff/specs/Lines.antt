@@ -1,7 +1,7 @@
 -- The line for a store that represents no directory: a word that says which one it is, and why.
 use Rattle.std.specs.Prelude.{ℕ, List, ◌++◌, codes}
-use Rattle.cmd_store.specs.EngineWords.{OpenFault}
-use Rattle.cmd_store.specs.Lines.{store_line}
+use Rattle.cmd_store_open.specs.EngineWords.{OpenFault}
+use Rattle.cmd_store_open.specs.Lines.{store_line}
 
 abbrev pub first_word : List ℕ
 first_word = codes "first "

@@ -8,11 +8,11 @@ use Rattle.ad_rows_write.specs.Rows.{IsStoreOf}
 use Rattle.cmd_call.specs.declared.outcome.Outcome.{Outcome}
 use Rattle.cmd_call.specs.declared.outcome.Outcome.TheVariants.{NoMemory}
 use Rattle.cmd_call.specs.Store.{SaysUnless}
-use Rattle.cmd_store.specs.EngineWords.{Refuses, OpenFault}
-use Rattle.ad_engine.specs.Opening.{is_outside}
-use Rattle.cmd_store.specs.OpenFaults.{Site}
-use Rattle.cmd_store.specs.Answered.{outcome_of}
-use Rattle.cmd_store.specs.Refused.{RefusedAs}
+use Rattle.cmd_store_open.specs.EngineWords.{Refuses, OpenFault}
+use Rattle.ad_engine_store.specs.Opening.{is_outside}
+use Rattle.cmd_store_open.specs.OpenFaults.{Site}
+use Rattle.cmd_store_open.specs.Answered.{outcome_of}
+use Rattle.cmd_store_open.specs.Refused.{RefusedAs}
 use Rattle.cmd_diff.specs.Lines.{second_word}
 use Rattle.cmd_diff.specs.Compares.{Question}
 

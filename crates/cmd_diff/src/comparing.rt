@@ -10,7 +10,7 @@ ghost use Rattle.cmd_diff.specs.Steps.{TellsOf, ComparesBeside};
 
 use ad_dir::Dir;
 use cmd_call::{Outcome, say};
-use cmd_store::{Engine, outcome_of, refuse_as};
+use cmd_store_open::{DirStore, outcome_of, refuse_as};
 use site_io::Site;
 use std::alloc::{AllocError, Global};
 
@@ -35,7 +35,7 @@ fn compare<S: Site, T: Site>(alloc: Global, site: &mut S, other: &mut T, first: 
     ensures { ComparesBeside S.Site T.Site DiffTold first.now site.old site.new other.old other.new
         result }
 {
-    match Engine::resume(alloc, other) {
+    match DirStore::resume(alloc, other) {
         Ok(engine) => tell(alloc, site, first, engine.dir()),
         Err(fault) => refuse_as(alloc, site, SECOND, fault),
     }
@@ -50,7 +50,7 @@ pub fn diff<S: Site, T: Site>(alloc: Global, site: &mut S, other: &mut T) -> Out
     ensures site_failed { result ≡ SiteFailed → HasFailed S.Site site.old site.new
         ⊎ HasRisen (T.slot_faults other.old) (T.slot_faults other.new) }
 {
-    match Engine::resume(alloc, site) {
+    match DirStore::resume(alloc, site) {
         Ok(engine) => compare(alloc, site, other, engine.dir()),
         Err(fault) => refuse_as(alloc, site, FIRST, fault),
     }

@@ -5,7 +5,7 @@ use Rattle.std.specs.Option.{IfSome}
 use Rattle.std.proofs.lemmas.Option.{none-some, same_Some}
 use Rattle.site_io.specs.Counts.{HasRisen}
 use Rattle.site_io.specs.Disk.{Images}
-use Rattle.site_io.specs.Told.{BothTold, StaysTold}
+use Rattle.site_io.specs.Told.{BothTold}
 use Rattle.site_io.specs.Outside.{OnlyLooks}
 use Rattle.site_io.specs.declared.source.Source.{Ghosts as SourceGhosts}
 use Rattle.site_io.specs.declared.site.Site.{Ghosts as SiteGhosts}
@@ -13,24 +13,25 @@ use Rattle.ad_ldap.specs.declared.requests.Message.{Message}
 use Rattle.ad_dir_model.specs.Directory.{Directory}
 use Rattle.ad_rows_write.specs.Rows.{IsStoreOf}
 use Rattle.ad_rows.proofs.Once.{one_store}
-use Rattle.cmd_store.specs.EngineWords.{IsOpenedAs}
-use Rattle.cmd_store.specs.EngineWords.{OpenFault}
-use Rattle.cmd_store.specs.OpenFaults as slots
+use Rattle.cmd_store_open.specs.EngineWords.{IsOpenedAs}
+use Rattle.cmd_store_open.specs.EngineWords.{OpenFault}
+use Rattle.cmd_store_open.specs.OpenFaults as slots
 use Rattle.ad_ldifmod.specs.declared.fault.GrantFault.{GrantFault}
 use Rattle.ad_ldifmod.specs.declared.fault.GrantFault.TheVariants.{Bad, Memory}
 use Rattle.cmd_call.specs.Call.{IsTold}
-use Rattle.cmd_call.specs.Store.{HasFailed, KeepsSlots, Emits}
+use Rattle.cmd_call.specs.Store.{HasFailed, KeepsSlots, Emits, EmitsPart}
 use Rattle.cmd_call.specs.declared.outcome.Outcome.{Outcome}
 use Rattle.cmd_call.specs.declared.outcome.Outcome.TheVariants.{Done, NotOfForm, NoCommand, NoStore, NoObject}
 use Rattle.cmd_call.specs.declared.outcome.Outcome.TheVariants.{TooMany, SourceFailed, SiteFailed, NoMemory}
-use Rattle.cmd_call.proofs.Moments.{told_map, told_meets, told_clash, looks_keep}
-use Rattle.cmd_call.proofs.Telling.{Tells, whole, part, nothing, telling_by, unhealthy}
-use Rattle.cmd_store.specs.Opened.{NoDirStore}
-use Rattle.cmd_store.specs.Refused.{Refused}
-use Rattle.cmd_store.proofs.Refusing.{never_with, Ends, refused, failed, stopped, refusal_by, partly_said}
+use Rattle.cmd_call.proofs.Moments.{told_map, told_meets, told_clash, looks_keep, keeps_on, emits_on, part_on}
+use Rattle.cmd_call.proofs.Telling.{unhealthy}
+use Rattle.cmd_store_open.specs.Opened.{NoDirStore}
+use Rattle.cmd_store_open.specs.Refused.{Refused}
+use Rattle.cmd_store_open.proofs.Refusing.{never_with, Ends, refused, failed, stopped, refusal_by, partly_said}
 use Rattle.cmd_grants.specs.Lines.{given_by, text_for, outcome_for}
 use Rattle.cmd_grants.specs.Given.{Gave, IsTextOf}
 use Rattle.cmd_grants.specs.Grants.{GrantsDoes, IsTextFor, IsPartlyGiven}
+use Rattle.cmd_grants.specs.Sending.{Gives}
 use Rattle.cmd_grants.specs.Answering.{IsUnread, AnswersIn}
 
 -- ---- the one directory, and the one input
@@ -78,6 +79,26 @@ told_text dir None left given text is told = tt
 told_text dir (Some i) (Some b) given text is told = is ∙ ap text_for (sym told)
 told_text dir (Some i) None given text is told = absurd told
 
+-- an outcome at which a text is emitted to its end or not at all
+abbrev IsCutShort : Outcome → Type 0
+IsCutShort outcome = (outcome ≡ SiteFailed) ⊎ (outcome ≡ NoMemory)
+
+done_whole : IsCutShort Done → ⊥
+done_whole (inl e) = cc
+done_whole (inr e) = cc
+
+refused_whole : IsCutShort NotOfForm → ⊥
+refused_whole (inl e) = cc
+refused_whole (inr e) = cc
+
+store_whole : IsCutShort NoStore → ⊥
+store_whole (inl e) = cc
+store_whole (inr e) = cc
+
+source_whole : IsCutShort SourceFailed → ⊥
+source_whole (inl e) = cc
+source_whole (inr e) = cc
+
 -- an outcome that judges no input
 not_memory : (NoMemory ≡ Done) ⊎ (NoMemory ≡ NotOfForm) → ⊥
 not_memory (inl e) = cc
@@ -102,10 +123,10 @@ module _ {I S : Type 0} (source : SourceGhosts I) (site : SiteGhosts S) where
       × (outcome ≡ SourceFailed → HasRisen (source.faults from) (source.faults to))
       × (outcome ≡ SiteFailed → HasFailed site old new)
 
-  -- nothing was emitted, for want of memory
-  answered_memory : (from to : I) (x z : S) → KeepsSlots site x z → StaysTold (site.emitted x) (site.emitted z)
+  -- memory ran out
+  answered_memory : (from to : I) (x z : S) → KeepsSlots site x z → IsPartlyGiven source site from x z
       → Answers from to x z NoMemory
-  answered_memory from to x z keeps quiet = (
+  answered_memory from to x z keeps partly = (
     record {
       done = λ no. absurd cc;
       refused = λ no. absurd cc;
@@ -113,8 +134,8 @@ module _ {I S : Type 0} (source : SourceGhosts I) (site : SiteGhosts S) where
       exact = λ _ _ _ _ which. absurd (not_memory which);
       complete = λ _ _ _ _ _. inr refl;
       stands = λ _ _. inr refl;
-      partly = λ no. absurd cc;
-      quiet = λ _. quiet;
+      partly = λ _. partly;
+      quiet = λ no. absurd cc;
       slots = keeps;
       only = tt;
     },
@@ -134,7 +155,7 @@ module _ {I S : Type 0} (source : SourceGhosts I) (site : SiteGhosts S) where
       complete = λ _ _ _ _ healthy. absurd (unhealthy site x z cause healthy.keeps_well);
       stands = λ _ healthy. absurd (unhealthy site x z cause healthy);
       partly = λ _. partly;
-      quiet = λ no. absurd no;
+      quiet = λ no. absurd cc;
       slots = keeps;
       only = tt;
     },
@@ -169,8 +190,8 @@ module _ {I S : Type 0} (source : SourceGhosts I) (site : SiteGhosts S) where
       exact = λ other input told is _. judged from to x dir (Ok messages) stands gave other input told is;
       complete = λ other input told is _. inl (judged from to x dir (Ok messages) stands gave other input told is);
       stands = λ none _. absurd (stands_clash dir (site.reads x) stands none);
-      partly = λ no. absurd cc;
-      quiet = λ no. absurd no;
+      partly = λ cut. absurd (done_whole cut);
+      quiet = λ no. absurd cc;
       slots = keeps;
       only = tt;
     },
@@ -186,8 +207,8 @@ module _ {I S : Type 0} (source : SourceGhosts I) (site : SiteGhosts S) where
       complete = λ other input told is _.
           inl (judged from to x dir (Err (Bad line kind)) stands gave other input told is);
       stands = λ none _. absurd (stands_clash dir (site.reads x) stands none);
-      partly = λ no. absurd cc;
-      quiet = λ no. absurd no;
+      partly = λ cut. absurd (refused_whole cut);
+      quiet = λ no. absurd cc;
       slots = keeps;
       only = tt;
     },
@@ -196,29 +217,39 @@ module _ {I S : Type 0} (source : SourceGhosts I) (site : SiteGhosts S) where
   )
   given_whole from to x z dir (Err Memory) stands gave keeps text = absurd gave
 
+  -- the text for the input, for slots that represent the directory
+  text_stands : (from to : I) (x : S) (dir : Directory) (text : List ℕ) (next : Outcome)
+      → IfSome (site.reads x) (λ held. IsStoreOf held dir)
+      → IsTextOf dir (source.rest from) (source.rest to) text next
+      → IfSome (site.reads x) (λ held. IsTextFor (source.rest from) held text)
+  text_stands from to x dir text next stands is =
+      told_map (λ held. IsStoreOf held dir) (λ held. IsTextFor (source.rest from) held text) (site.reads x)
+      (λ held store. inl (
+        dir,
+        store,
+        told_text dir (source.rest from) (source.rest to) is.given text is.text_is
+            (of_input dir (source.rest from) (source.rest to) is.given is.gave),
+      )) stands
+
   given_so : (from to : I) (x z : S) (dir : Directory) (text : List ℕ) (next outcome : Outcome)
       → IfSome (site.reads x) (λ held. IsStoreOf held dir)
-      → IsTextOf dir (source.rest from) (source.rest to) text next → KeepsSlots site x z → Tells site x z text next
-      outcome → Answers from to x z outcome
-  given_so from to x z dir text next outcome stands is keeps (whole done said) = subst (Answers from to x z)
+      → IsTextOf dir (source.rest from) (source.rest to) text next → KeepsSlots site x z
+      → (HasRisen (site.out_faults x) (site.out_faults z) → HasFailed site x z)
+      → ((outcome ≡ next) × Emits (site.emitted x) (site.emitted z) text)
+      ⊎ (EmitsPart (site.emitted x) (site.emitted z) text
+      × (((outcome ≡ SiteFailed) × HasRisen (site.out_faults x) (site.out_faults z)) ⊎ (outcome ≡ NoMemory)))
+      → Answers from to x z outcome
+  given_so from to x z dir text next outcome stands is keeps cause (inl (done, said)) = subst (Answers from to x z)
       (sym (done ∙ is.next_is))
       (given_whole from to x z dir is.given stands is.gave keeps
       (subst (Emits (site.emitted x) (site.emitted z)) is.text_is said))
-  given_so from to x z dir text next outcome stands is keeps (part cut risen said) = subst (Answers from to x z)
-      (sym cut)
-      (answered_failed from to x z keeps (inr risen) (inr (
-        text,
-        told_map (λ held. IsStoreOf held dir) (λ held. IsTextFor (source.rest from) held text) (site.reads x)
-            (λ held store. inl (
-              dir,
-              store,
-              told_text dir (source.rest from) (source.rest to) is.given text is.text_is
-                  (of_input dir (source.rest from) (source.rest to) is.given is.gave),
-            )) stands,
-        said,
-      )))
-  given_so from to x z dir text next outcome stands is keeps (nothing none quiet) = subst (Answers from to x z)
-      (sym none) (answered_memory from to x z keeps quiet)
+  given_so from to x z dir text next outcome stands is keeps cause (inr (said, inl (cut, risen))) =
+      subst (Answers from to x z) (sym cut)
+      (answered_failed from to x z keeps (cause risen)
+      (inr (text, text_stands from to x dir text next stands is, said)))
+  given_so from to x z dir text next outcome stands is keeps cause (inr (said, inr memory)) =
+      subst (Answers from to x z) (sym memory)
+      (answered_memory from to x z keeps (inr (text, text_stands from to x dir text next stands is, said)))
 
   -- the input wasn't read to its end, or memory ran out
   unread : (from to : I) (x y : S) (dir : Directory) (outcome : Outcome) → OnlyLooks site x y
@@ -232,7 +263,7 @@ module _ {I S : Type 0} (source : SourceGhosts I) (site : SiteGhosts S) where
       exact = λ _ _ _ _ which. absurd (not_source which);
       complete = λ _ _ _ _ healthy. absurd (healthy.reads_well (gave.source_failed refl));
       stands = λ none _. absurd (stands_clash dir (site.reads x) stands none);
-      partly = λ no. absurd cc;
+      partly = λ cut. absurd (source_whole cut);
       quiet = λ _. looks.output;
       slots = looks_keep site x y looks;
       only = tt;
@@ -241,7 +272,7 @@ module _ {I S : Type 0} (source : SourceGhosts I) (site : SiteGhosts S) where
     λ no. absurd cc,
   )
   unread from to x y dir NoMemory looks stands gave = answered_memory from to x y (looks_keep site x y looks)
-      looks.output
+      (inl looks.output)
   unread from to x y dir Done looks stands gave = absurd gave.only
   unread from to x y dir NotOfForm looks stands gave = absurd gave.only
   unread from to x y dir NoCommand looks stands gave = absurd gave.only
@@ -250,12 +281,36 @@ module _ {I S : Type 0} (source : SourceGhosts I) (site : SiteGhosts S) where
   unread from to x y dir TooMany looks stands gave = absurd gave.only
   unread from to x y dir SiteFailed looks stands gave = absurd gave.only
 
+  -- what was emitted since an earlier moment from which on nothing was
+  ended_since : (x y z : S) (text : List ℕ) (next outcome : Outcome) → OnlyLooks site x y
+      → Gives site text next y z outcome → ((outcome ≡ next) × Emits (site.emitted x) (site.emitted z) text)
+      ⊎ (EmitsPart (site.emitted x) (site.emitted z) text
+      × (((outcome ≡ SiteFailed) × HasRisen (site.out_faults x) (site.out_faults z)) ⊎ (outcome ≡ NoMemory)))
+  ended_since x y z text next outcome looks gave = by gave.ended
+    where
+      since : ((outcome ≡ SiteFailed) × HasRisen (site.out_faults y) (site.out_faults z)) ⊎ (outcome ≡ NoMemory)
+          → ((outcome ≡ SiteFailed) × HasRisen (site.out_faults x) (site.out_faults z)) ⊎ (outcome ≡ NoMemory)
+      since (inl cut) = inl (cut.0, subst (λ k. HasRisen k (site.out_faults z)) looks.out_faults cut.1)
+      since (inr memory) = inr memory
+
+      by : ((outcome ≡ next) × Emits (site.emitted y) (site.emitted z) text)
+          ⊎ (EmitsPart (site.emitted y) (site.emitted z) text
+          × (((outcome ≡ SiteFailed) × HasRisen (site.out_faults y) (site.out_faults z)) ⊎ (outcome ≡ NoMemory)))
+          → ((outcome ≡ next) × Emits (site.emitted x) (site.emitted z) text)
+          ⊎ (EmitsPart (site.emitted x) (site.emitted z) text
+          × (((outcome ≡ SiteFailed) × HasRisen (site.out_faults x) (site.out_faults z)) ⊎ (outcome ≡ NoMemory)))
+      by (inl done) = inl
+          (done.0, emits_on (site.emitted x) (site.emitted y) (site.emitted z) text looks.output done.1)
+      by (inr cut) = inr
+          (part_on (site.emitted x) (site.emitted y) (site.emitted z) text looks.output cut.0, since cut.1)
+
   pub answered_told : (from to : I) (x y z : S) (dir : Directory) (outcome : Outcome) → OnlyLooks site x y
       → IfSome (site.reads x) (λ held. IsStoreOf held dir)
       → AnswersIn source site dir from to y z outcome → Answers from to x z outcome
-  answered_told from to x y z dir outcome looks stands (inl (text, next, is, said)) =
-      let telling = telling_by site x y z text next outcome looks said in
-      given_so from to x z dir text next outcome stands is telling.slots telling.ends
+  answered_told from to x y z dir outcome looks stands (inl (text, next, is, gave)) =
+      given_so from to x z dir text next outcome stands is
+      (keeps_on site x y z looks gave.emits.moments gave.emits.slots) (λ risen. inr risen)
+      (ended_since x y z text next outcome looks gave)
   answered_told from to x y z dir outcome looks stands (inr gave) =
       subst (λ (s : S). Answers from to x s outcome) (sym gave.1) (unread from to x y dir outcome looks stands gave.0)
 
@@ -273,8 +328,8 @@ module _ {I S : Type 0} (source : SourceGhosts I) (site : SiteGhosts S) where
           (never_with (λ held. IsStoreOf held dir) (λ held store. (dir, store)) none.fault (site.reads x) told
           none.store);
       stands = λ _ _. inl refl;
-      partly = λ no. absurd cc;
-      quiet = λ no. absurd no;
+      partly = λ cut. absurd (store_whole cut);
+      quiet = λ no. absurd cc;
       slots = keeps;
       only = tt;
     },
@@ -285,7 +340,7 @@ module _ {I S : Type 0} (source : SourceGhosts I) (site : SiteGhosts S) where
       (answered_failed from from x z keeps risen
       (partly_said site (IsTextFor (source.rest from)) x z (λ held why none. inr (why, none, refl)) said))
   answered_not from x z outcome keeps (stopped is quiet) = subst (Answers from from x z) (sym is)
-      (answered_memory from from x z keeps quiet)
+      (answered_memory from from x z keeps (inl quiet))
 
   -- no store was opened, for whatever reason
   pub answered_by : (from : I) (x y z : S) (why : OpenFault) (outcome : Outcome) → OnlyLooks site x y

@@ -1,2 +1,3 @@
-pub mod GrantsSteps
+pub mod HoldSteps
 pub mod Inputs
+pub mod GrantsSteps

@@ -7,7 +7,6 @@ use Rattle.ad_ldifmod.specs.declared.fault.GrantKind.{GrantKind}
 use Rattle.ad_ldifmod.specs.declared.fault.GrantFault.{GrantFault}
 use Rattle.ad_ldifmod.specs.declared.fault.GrantFault.TheVariants.{Bad, Memory}
 use Rattle.cmd_call.specs.declared.outcome.Outcome.{Outcome}
-use Rattle.cmd_grants.specs.declared.telling.Told.{Told}
 use Rattle.cmd_grants.specs.Lines.{given_by, text_for, outcome_for}
 
 -- the whole input, which was read to its end, gives these messages
@@ -33,8 +32,3 @@ pub record IsTextOf (dir : Directory) (rest left : Option (List ℕ)) (text : Li
   pub gave : Gave dir rest left given
   pub text_is : text ≡ text_for given
   pub next_is : next ≡ outcome_for given
-
--- the text that what was given represents
-pub record TextFor (given : Result (List Message) GrantFault) (told : Told) : Type 0 where
-  pub text_is : told.text.items ≡ text_for given
-  pub next_is : told.next ≡ outcome_for given

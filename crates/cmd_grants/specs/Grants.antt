@@ -7,17 +7,18 @@ use Rattle.site_io.specs.declared.site.Site.{Ghosts as SiteGhosts}
 use Rattle.ad_ldap.specs.declared.requests.Message.{Message}
 use Rattle.ad_dir_model.specs.Directory.{Directory}
 use Rattle.ad_rows_write.specs.Rows.{IsStoreOf}
-use Rattle.cmd_store.specs.EngineWords.{Refuses}
-use Rattle.cmd_store.specs.EngineWords.{OpenFault}
+use Rattle.cmd_store_open.specs.EngineWords.{Refuses}
+use Rattle.cmd_store_open.specs.EngineWords.{OpenFault}
 use Rattle.ad_ldifmod.specs.declared.fault.GrantKind.{GrantKind}
 use Rattle.ad_ldifmod.specs.declared.fault.GrantFault.TheVariants.{Bad}
 use Rattle.cmd_call.specs.declared.outcome.Outcome.{Outcome}
-use Rattle.cmd_call.specs.declared.outcome.Outcome.TheVariants.{Done, NotOfForm, NoStore, SiteFailed, NoMemory}
+use Rattle.cmd_call.specs.declared.outcome.Outcome.TheVariants.{Done, NotOfForm, NoStore, SourceFailed}
+use Rattle.cmd_call.specs.declared.outcome.Outcome.TheVariants.{SiteFailed, NoMemory}
 use Rattle.cmd_call.specs.Call.{IsTold}
-use Rattle.cmd_call.specs.Outcome.{IsStopped, IsOfLoad}
+use Rattle.cmd_call.specs.Outcome.{IsOfLoad}
 use Rattle.cmd_call.specs.Store.{Emits, EmitsPart, KeepsSlots, IsSiteHealthy, IsAllHealthy}
-use Rattle.cmd_store.specs.Opened.{NoDirStore, IsNoStore}
-use Rattle.cmd_store.specs.Lines.{store_line}
+use Rattle.cmd_store_open.specs.Opened.{NoDirStore, IsNoStore}
+use Rattle.cmd_store_open.specs.Lines.{store_line}
 use Rattle.cmd_grants.specs.Frames.{frames_of}
 use Rattle.cmd_grants.specs.Lines.{given_by, grant_line, text_for, outcome_for}
 use Rattle.cmd_grants.specs.Given.{GivesMessages, GoesWrong}
@@ -47,7 +48,7 @@ module _ {I S : Type 0} (source : SourceGhosts I) (site : SiteGhosts S) where
     pub input : GoesWrong dir (source.rest from) (source.rest to) line kind
     pub text : Emits (site.emitted old) (site.emitted new) (grant_line (Bad line kind))
 
-  -- The site failed: nothing was emitted, or a prefix of a text for the slots and the input.
+  -- The site failed, or memory ran out: nothing was emitted, or a prefix of a text for the slots and the input.
   abbrev pub IsPartlyGiven : I → S → S → Type 0
   IsPartlyGiven from old new = StaysTold (site.emitted old) (site.emitted new)
       ⊎ ((text : List ℕ) × IfSome (site.reads old) (λ held. IsTextFor (source.rest from) held text)
@@ -69,8 +70,8 @@ module _ {I S : Type 0} (source : SourceGhosts I) (site : SiteGhosts S) where
     -- slots that represent no directory are refused, unless the site fails or memory runs out
     pub stands : IsTold NoDirStore (site.reads old) → IsSiteHealthy site old new → (outcome ≡ NoStore)
         ⊎ (outcome ≡ NoMemory)
-    pub partly : outcome ≡ SiteFailed → IsPartlyGiven from old new
-    pub quiet : IsStopped outcome → StaysTold (site.emitted old) (site.emitted new)
+    pub partly : (outcome ≡ SiteFailed) ⊎ (outcome ≡ NoMemory) → IsPartlyGiven from old new
+    pub quiet : outcome ≡ SourceFailed → StaysTold (site.emitted old) (site.emitted new)
     -- no slot is written, whatever comes
     pub slots : KeepsSlots site old new
     pub only : IsOfLoad outcome

@@ -1,9 +1,9 @@
 //! Messages as frames of connection 0.
 
-ghost use Rattle.std.specs.Prelude.{◌≡◌, ◌++◌, ◌<◌, ◌≤◌, length, IfOk, OnOk};
+ghost use Rattle.std.specs.Prelude.{◌≡◌, ◌++◌, ◌≤◌, length, OnOk};
 ghost use Rattle.ad_bytes.specs.Numbers.{be_bytes};
-ghost use Rattle.ad_ldifmod.specs.Grants.{IsOfFrame, AreFrames};
-ghost use Rattle.cmd_grants.specs.Frames.{frame_with, frame_of, frames_of};
+ghost use Rattle.ad_ldifmod.specs.Grants.{IsOfFrame};
+ghost use Rattle.cmd_grants.specs.Frames.{frame_with, frame_of};
 
 use ad_frames::kind_byte;
 use ad_ldap::Message;
@@ -33,34 +33,19 @@ fn put_frame(into: &mut Vec<u8>, body: &[u8]) -> Result<(), AllocError>
     Ok(())
 }
 
-fn put_message(alloc: Global, into: &mut Vec<u8>, message: &Message) -> Result<(), AllocError>
+/// Puts the frame of a message at the end.
+///
+/// # Errors
+///
+/// Memory ran out.
+pub(crate) fn put_message(
+    alloc: Global,
+    into: &mut Vec<u8>,
+    message: &Message,
+) -> Result<(), AllocError>
     requires { IsOfFrame message.now }
     ensures { OnOk result (into.new.items ≡ into.old.items ++ frame_of message.now) }
 {
     let body = write_message(alloc, message)?;
     put_frame(into, &body)
-}
-
-fn put_messages(alloc: Global, into: &mut Vec<u8>, messages: &[Message]) -> Result<(), AllocError>
-    requires { AreFrames messages.now }
-    ensures { OnOk result (into.new.items ≡ into.old.items ++ frames_of messages.now) }
-{
-    'each: for message in messages {
-        put_message(alloc, into, message)?;
-    }
-    Ok(())
-}
-
-/// The frames of messages, one after the other.
-///
-/// # Errors
-///
-/// Memory ran out.
-pub(crate) fn frames_of(alloc: Global, messages: &[Message]) -> Result<Vec<u8>, AllocError>
-    requires { AreFrames messages.now }
-    ensures { IfOk result (λ frames. frames.items ≡ frames_of messages.now) }
-{
-    let mut frames = Vec::new(alloc);
-    put_messages(alloc, &mut frames, messages)?;
-    Ok(frames)
 }

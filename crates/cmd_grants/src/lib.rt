@@ -17,12 +17,14 @@
 //!
 //! # Cost
 //!
-//! Opening is linear in the store, and each line in its object's list.
+//! Opening is linear in the store, and each line in its object's list, twice: all lines are judged before the first
+//! frame is emitted. What is kept is the text, one list for each object that it names, and at most 17 MiB of frames.
 #![tactic(auto)]
 
 mod frames;
 mod giving;
+mod judging;
 mod lines;
-mod telling;
+mod sending;
 
 pub use giving::grants;

@@ -7,17 +7,17 @@ use Rattle.site_io.specs.Outside.{OnlyLooks}
 use Rattle.site_io.specs.declared.site.Site.{Ghosts as SiteGhosts}
 use Rattle.ad_dir_model.specs.Directory.{Directory}
 use Rattle.ad_rows_write.specs.Rows.{IsStoreOf}
-use Rattle.ad_engine.specs.Opening.{IsOpenedAs}
-use Rattle.ad_engine.specs.declared.fault.OpenFault.{OpenFault}
-use Rattle.ad_engine.specs.declared.fault.OpenFault.TheVariants as fault
+use Rattle.ad_engine_store.specs.Opening.{IsOpenedAs}
+use Rattle.ad_engine_store.specs.declared.fault.OpenFault.{OpenFault}
+use Rattle.ad_engine_store.specs.declared.fault.OpenFault.TheVariants as fault
 use Rattle.cmd_call.specs.declared.outcome.Outcome.{Outcome}
 use Rattle.cmd_call.specs.declared.outcome.Outcome.TheVariants.{Done, SiteFailed, NoMemory}
 use Rattle.cmd_call.specs.Store.{HasFailed, KeepsSlots, SaysUnless}
 use Rattle.cmd_call.proofs.Moments.{told_map}
 use Rattle.cmd_call.proofs.Telling.{Tells, whole, part, nothing, telling_by, unhealthy}
-use Rattle.cmd_store.specs.Refused.{Refused}
-use Rattle.cmd_store.proofs.Refusing.{stands_clash, never_refused, Ends, refused, failed, stopped}
-use Rattle.cmd_store.proofs.Refusing.{refusal_by, partly_said}
+use Rattle.cmd_store_open.specs.Refused.{Refused}
+use Rattle.cmd_store_open.proofs.Refusing.{stands_clash, never_refused, Ends, refused, failed, stopped}
+use Rattle.cmd_store_open.proofs.Refusing.{refusal_by, partly_said}
 use Rattle.cmd_store.specs.Check.{check_text, IsCheckText, IsPartlyChecked, CheckDoes}
 
 module _ {S : Type 0} (site : SiteGhosts S) where

@@ -11,17 +11,17 @@ use Rattle.ad_dn.specs.Value.{AreRdns}
 use Rattle.ad_dir_model.specs.Directory.{Directory}
 use Rattle.ad_rows_write.specs.Rows.{IsStoreOf}
 use Rattle.ad_dsacls.specs.Effective.{effective_text}
-use Rattle.ad_engine.specs.Opening.{IsOpenedAs}
-use Rattle.ad_engine.specs.declared.fault.OpenFault.{OpenFault}
-use Rattle.ad_engine.specs.declared.fault.OpenFault.TheVariants as fault
+use Rattle.ad_engine_store.specs.Opening.{IsOpenedAs}
+use Rattle.ad_engine_store.specs.declared.fault.OpenFault.{OpenFault}
+use Rattle.ad_engine_store.specs.declared.fault.OpenFault.TheVariants as fault
 use Rattle.cmd_call.specs.Store.{HasFailed, KeepsSlots, SaysUnless}
 use Rattle.cmd_call.specs.declared.outcome.Outcome.{Outcome}
 use Rattle.cmd_call.specs.declared.outcome.Outcome.TheVariants.{Done, NotOfForm, NoCommand, NoStore, NoObject}
 use Rattle.cmd_call.specs.declared.outcome.Outcome.TheVariants.{TooMany, SourceFailed, SiteFailed, NoMemory}
 use Rattle.cmd_call.proofs.Moments.{told_map, looks_keep}
 use Rattle.cmd_call.proofs.Telling.{Tells, whole, part, nothing, telling_by, unhealthy}
-use Rattle.cmd_store.specs.Refused.{Refused}
-use Rattle.cmd_store.proofs.Refusing.{never_with, Ends, refused, failed, stopped, refusal_by, partly_said}
+use Rattle.cmd_store_open.specs.Refused.{Refused}
+use Rattle.cmd_store_open.proofs.Refusing.{never_with, Ends, refused, failed, stopped, refusal_by, partly_said}
 use Rattle.cmd_store.specs.Answering.{IsUnanswered, AnswersAt, AnswersFor}
 use Rattle.cmd_store.specs.Effective.{EffectiveDoes, IsTokenFor, IsTextFor, IsLineFor, IsPartlyAnswered}
 use Rattle.cmd_store.specs.List.{HasObject, IsStoreNamed, number_named, no_object_line}

@@ -10,18 +10,18 @@ use Rattle.site_io.specs.Outside.{TouchesSlots, StaysKnown}
 use Rattle.site_io.specs.declared.site.Site.{Ghosts as SiteGhosts}
 use Rattle.ad_dir_model.specs.Directory.{Directory}
 use Rattle.ad_rows_write.specs.Rows.{IsStoreOf}
-use Rattle.ad_engine.specs.Faults.{IsCreating}
-use Rattle.ad_engine.specs.declared.fault.OpenFault.{OpenFault}
-use Rattle.ad_engine.specs.declared.fault.OpenFault.TheVariants.{Taken, Empty, Broken, Row, Unsound, Site, Memory}
+use Rattle.ad_engine_store.specs.Faults.{IsCreating}
+use Rattle.ad_engine_store.specs.declared.fault.OpenFault.{OpenFault}
+use Rattle.ad_engine_store.specs.declared.fault.OpenFault.TheVariants.{Taken, Empty, Broken, Row, Unsound, Site, Memory}
 use Rattle.cmd_call.specs.declared.outcome.Outcome.{Outcome}
 use Rattle.cmd_call.specs.declared.outcome.Outcome.TheVariants.{Done, NoStore, SiteFailed, NoMemory}
 use Rattle.cmd_call.specs.Call.{IsTold}
 use Rattle.cmd_call.specs.Store.{AreEmpty, IsTaken, KeepsSlots, Says}
 use Rattle.cmd_call.proofs.Moments.{told_on, stays_same, emits_on, part_on}
 use Rattle.cmd_call.proofs.Moments.{goes_on_on, IsLawful, says_nothing, goes_not, keeps_not, quiet_not, keeps_said}
-use Rattle.cmd_store.specs.Lines.{objects_line, store_line}
+use Rattle.cmd_store_open.specs.Lines.{objects_line, store_line}
 use Rattle.cmd_store.specs.Loading.{Keeps}
-use Rattle.cmd_store.specs.Refused.{Refused}
+use Rattle.cmd_store_open.specs.Refused.{Refused}
 
 -- the output of each moment is the one from before, or the crash states represent the directory
 abbrev pub Crash : {S : Type 0} (s : SiteGhosts S) (dir : Directory) (old new : S) → Type 0

@@ -1,5 +1,3 @@
-pub mod Refusing
-pub mod Failing
 pub mod KeepSteps
 pub mod LoadSteps
 pub mod LoadBehind
@@ -10,15 +8,4 @@ pub mod ListSteps
 pub mod StaleLaws
 pub mod TokenLength
 pub mod EffectiveSteps
-pub mod Begun
-pub mod Readying
 pub mod SettleSteps
-pub mod serving
-pub mod Messages
-pub mod FramesOfSample
-pub mod Entries
-pub mod Served
-pub mod ReadSent
-pub mod Telling
-pub mod Samples
-pub mod SampleSteps

@@ -11,18 +11,18 @@ use Rattle.ad_dn.specs.Value.{AreRdns}
 use Rattle.ad_dir_model.specs.Directory.{Directory}
 use Rattle.ad_rows_write.specs.Rows.{IsStoreOf}
 use Rattle.ad_rows.proofs.Once.{one_store}
-use Rattle.ad_engine.specs.Opening.{IsOpenedAs}
-use Rattle.ad_engine.specs.declared.fault.OpenFault.{OpenFault}
-use Rattle.ad_engine.specs.declared.fault.OpenFault.TheVariants as fault
+use Rattle.ad_engine_store.specs.Opening.{IsOpenedAs}
+use Rattle.ad_engine_store.specs.declared.fault.OpenFault.{OpenFault}
+use Rattle.ad_engine_store.specs.declared.fault.OpenFault.TheVariants as fault
 use Rattle.cmd_call.specs.Call.{IsTold}
 use Rattle.cmd_call.specs.Store.{HasFailed, KeepsSlots, SaysUnless, Emits}
 use Rattle.cmd_call.specs.declared.outcome.Outcome.{Outcome}
 use Rattle.cmd_call.specs.declared.outcome.Outcome.TheVariants.{SiteFailed, NoMemory}
 use Rattle.cmd_call.proofs.Moments.{told_clash, told_map, told_meets}
 use Rattle.cmd_call.proofs.Telling.{Tells, whole, part, nothing, telling_by, unhealthy}
-use Rattle.cmd_store.specs.Opened.{IsDirStore, NoDirStore}
-use Rattle.cmd_store.specs.Refused.{Refused}
-use Rattle.cmd_store.proofs.Refusing.{never_with, Ends, refused, failed, stopped, refusal_by, partly_said}
+use Rattle.cmd_store_open.specs.Opened.{IsDirStore, NoDirStore}
+use Rattle.cmd_store_open.specs.Refused.{Refused}
+use Rattle.cmd_store_open.proofs.Refusing.{never_with, Ends, refused, failed, stopped, refusal_by, partly_said}
 use Rattle.cmd_store.specs.List.{ListDoes, IsStoreNamed, HasObject, HasNoObject, IsListText, IsPartlyListed}
 use Rattle.cmd_store.specs.List.{number_named, text_for, list_text, outcome_for, list_outcome}
 

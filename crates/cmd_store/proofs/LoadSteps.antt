@@ -18,7 +18,7 @@ use Rattle.cmd_call.specs.Store.{HasFailed, SaysUnless, KeepsSlots, IsAllHealthy
 use Rattle.cmd_call.specs.Outcome.{IsStopped, IsOfStore, IsOfLoad}
 use Rattle.cmd_call.proofs.Moments.{told_map, stays_same}
 use Rattle.cmd_call.proofs.Moments.{IsLawful, says_nothing, goes_not, keeps_not, quiet_not, keeps_said}
-use Rattle.cmd_store.specs.Lines.{objects_line}
+use Rattle.cmd_store_open.specs.Lines.{objects_line}
 use Rattle.cmd_store.specs.Causes.{load_line}
 use Rattle.cmd_store.specs.Load.{LoadsAs, FailsAt, IsDirectory, NoDirectory, IsLoadLine, IsPartlyTold}
 use Rattle.cmd_store.specs.Loading.{IsPartlyKept, Keeps, LoadsEmpty}

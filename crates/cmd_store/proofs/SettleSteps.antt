@@ -15,24 +15,25 @@ use Rattle.ad_dir_model.proofs.ScratchLaws.{settled_scratch}
 use Rattle.ad_dir_model.proofs.WorkLaws.{empties as steps_found, empties_once, work_bounded}
 use Rattle.ad_rows_write.specs.Rows.{IsStoreOf}
 use Rattle.ad_rows.proofs.Once.{one_store}
-use Rattle.ad_engine.specs.Opening.{IsOpenedAs, is_outside}
-use Rattle.ad_engine.specs.Settling.{StandsAfterSteps, LastsAs, LeavesSteps}
-use Rattle.ad_engine.specs.declared.fault.OpenFault.{OpenFault}
-use Rattle.ad_engine.specs.declared.fault.OpenFault.TheVariants as fault
+use Rattle.ad_engine_store.specs.Opening.{IsOpenedAs, is_outside}
+use Rattle.ad_engine_store.specs.Settling.{StandsAfterSteps, LastsAs, LeavesSteps}
+use Rattle.ad_engine_store.specs.declared.fault.OpenFault.{OpenFault}
+use Rattle.ad_engine_store.specs.declared.fault.OpenFault.TheVariants as fault
 use Rattle.cmd_call.specs.declared.outcome.Outcome.{Outcome}
 use Rattle.cmd_call.specs.declared.outcome.Outcome.TheVariants.{Done, SiteFailed, NoMemory}
 use Rattle.cmd_call.specs.Call.{IsTold}
 use Rattle.cmd_call.specs.Store.{SaysUnless, Emits, EmitsPart, KeepsSlots, Says}
 use Rattle.cmd_call.proofs.Moments.{told_clash, told_map, told_on, stays_on, emits_on, part_on, IsLawful, says_nothing}
 use Rattle.cmd_call.proofs.Telling.{unhealthy}
-use Rattle.cmd_store.specs.Opened.{NoDirStore, EachStandsFor, LeavesSynced, AllBegun}
-use Rattle.cmd_store.specs.Ready.{IsNotOne, IsOpening, IsReady, IsUnready}
-use Rattle.cmd_store.specs.Refused.{Refused}
-use Rattle.cmd_store.proofs.Refusing.{never_refused, never_with, inside, Ends, refused, failed, stopped, refusal_by}
-use Rattle.cmd_store.proofs.Refusing.{partly_said}
-use Rattle.cmd_store.proofs.Readying.{each_ready}
-use Rattle.cmd_store.proofs.Begun.{begun_on, never_synced}
-use Rattle.cmd_store.specs.serving.Reached.{IsRecomputed}
+use Rattle.cmd_store_open.specs.Opened.{NoDirStore, EachStandsFor, LeavesSynced, AllBegun}
+use Rattle.cmd_store_open.specs.Ready.{IsNotOne, IsOpening, IsReady, IsUnready}
+use Rattle.cmd_store_open.specs.Refused.{Refused}
+use Rattle.cmd_store_open.proofs.Refusing.{never_refused, never_with, inside, Ends, refused, failed, stopped}
+use Rattle.cmd_store_open.proofs.Refusing.{refusal_by}
+use Rattle.cmd_store_open.proofs.Refusing.{partly_said}
+use Rattle.cmd_store_open.proofs.Readying.{each_ready}
+use Rattle.cmd_store_open.proofs.Begun.{begun_on, never_synced}
+use Rattle.cmd_store.specs.Settle.{IsRecomputed}
 use Rattle.cmd_store.specs.Settle.{Settles, IsSettledFrom, IsIdleStore, IsSettleText, steps_line}
 
 module _ {S : Type 0} (site : SiteGhosts S) where

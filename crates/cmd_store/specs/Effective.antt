@@ -8,16 +8,16 @@ use Rattle.ad_ids.specs.declared.token.Token.{Token}
 use Rattle.ad_ids.specs.Token.{SpellsToken}
 use Rattle.ad_dir_model.specs.Directory.{Directory}
 use Rattle.ad_dsacls.specs.Effective.{effective_text}
-use Rattle.ad_engine.specs.Opening.{Refuses}
-use Rattle.ad_engine.specs.declared.fault.OpenFault.{OpenFault}
+use Rattle.ad_engine_store.specs.Opening.{Refuses}
+use Rattle.ad_engine_store.specs.declared.fault.OpenFault.{OpenFault}
 use Rattle.cmd_call.specs.declared.outcome.Outcome.{Outcome}
 use Rattle.cmd_call.specs.declared.outcome.Outcome.TheVariants.{Done, NotOfForm, NoStore, NoObject, SiteFailed}
 use Rattle.cmd_call.specs.declared.outcome.Outcome.TheVariants.{NoMemory}
 use Rattle.cmd_call.specs.Call.{IsTold}
 use Rattle.cmd_call.specs.Outcome.{IsStopped, IsOfEffective}
 use Rattle.cmd_call.specs.Store.{Emits, EmitsPart, KeepsSlots, IsSiteHealthy, IsAllHealthy}
-use Rattle.cmd_store.specs.Opened.{NoDirStore, IsNoStore}
-use Rattle.cmd_store.specs.Lines.{store_line}
+use Rattle.cmd_store_open.specs.Opened.{NoDirStore, IsNoStore}
+use Rattle.cmd_store_open.specs.Lines.{store_line}
 use Rattle.cmd_store.specs.List.{IsStoreNamed, HasObject, HasNoObject, IsNoObject, number_named, no_object_line}
 
 -- the bytes are a token, or none

@@ -1,9 +1,3 @@
-pub mod EngineWords
-pub mod OpenFaults
-pub mod Lines
-pub mod Answered
-pub mod Opened
-pub mod Refused
 pub mod Causes
 pub mod Load
 pub mod Stale
@@ -11,17 +5,7 @@ pub mod Check
 pub mod List
 pub mod Effective
 pub mod Settle
-pub mod serving
-pub mod SampleFrames
-pub mod Answers
-pub mod Text
-pub mod Size
-pub mod Outcome
-pub mod Sample
 -- only for private contracts, invariants and proofs
 pub mod Input
-pub mod Failed
 pub mod Loading
 pub mod Answering
-pub mod SampleServing
-pub mod Ready

@@ -9,13 +9,13 @@ use Rattle.ad_rows_write.specs.Rows.{IsStoreOf}
 use Rattle.ad_load_records.specs.declared.fault.LoadFault.TheVariants.{Bad}
 use Rattle.ad_load_records.specs.declared.fault.LoadCause.{LoadCause}
 use Rattle.ad_load.specs.Loaded.{loaded}
-use Rattle.ad_engine.specs.declared.fault.OpenFault.TheVariants.{Taken}
+use Rattle.ad_engine_store.specs.declared.fault.OpenFault.TheVariants.{Taken}
 use Rattle.cmd_call.specs.declared.outcome.Outcome.{Outcome}
 use Rattle.cmd_call.specs.declared.outcome.Outcome.TheVariants.{Done, NotOfForm, NoStore, SiteFailed, NoMemory}
 use Rattle.cmd_call.specs.Call.{IsTold}
 use Rattle.cmd_call.specs.Outcome.{IsStopped, WritesNothing}
 use Rattle.cmd_call.specs.Store.{Emits, EmitsPart, AreEmpty, IsTaken, KeepsSlots, IsSiteHealthy, IsAllHealthy}
-use Rattle.cmd_store.specs.Lines.{objects_line, store_line}
+use Rattle.cmd_store_open.specs.Lines.{objects_line, store_line}
 use Rattle.cmd_store.specs.Causes.{load_line}
 
 -- the text is that of this directory, or of none, with its first fault

@@ -8,14 +8,14 @@ use Rattle.site_io.specs.declared.site.Site.{Ghosts as SiteGhosts}
 use Rattle.ad_dir_model.specs.Directory.{Directory}
 use Rattle.ad_dir_model.specs.Soundness.{IsSound}
 use Rattle.ad_rows_write.specs.Rows.{IsStoreOf}
-use Rattle.ad_engine.specs.declared.fault.OpenFault.TheVariants.{Taken}
+use Rattle.ad_engine_store.specs.declared.fault.OpenFault.TheVariants.{Taken}
 use Rattle.cmd_call.specs.declared.outcome.Outcome.{Outcome}
 use Rattle.cmd_call.specs.declared.outcome.Outcome.TheVariants.{Done, NotOfForm, NoStore, SourceFailed, SiteFailed}
 use Rattle.cmd_call.specs.declared.outcome.Outcome.TheVariants.{NoMemory}
 use Rattle.cmd_call.specs.Call.{IsTold}
 use Rattle.cmd_call.specs.Outcome.{IsStopped, WritesNothing, IsOfStore, IsOfLoad}
 use Rattle.cmd_call.specs.Store.{HasFailed, Emits, EmitsPart, AreEmpty, IsTaken, KeepsSlots, IsAllHealthy}
-use Rattle.cmd_store.specs.Lines.{objects_line, store_line}
+use Rattle.cmd_store_open.specs.Lines.{objects_line, store_line}
 use Rattle.cmd_store.specs.declared.loading.Given.{Given}
 use Rattle.cmd_store.specs.declared.loading.Given.TheVariants as given
 use Rattle.cmd_store.specs.Load.{LoadsAs, FailsAt, IsDirectory, NoDirectory, IsLoaded, IsRefused, IsPartlyTold}

@@ -6,21 +6,27 @@ use Rattle.site_io.specs.Outside.{OnlyLooks}
 use Rattle.site_io.specs.declared.site.Site.{Ghosts as SiteGhosts}
 use Rattle.gate_log.specs.Store.{IsOne}
 use Rattle.ad_dir_model.specs.Directory.{Directory}
+use Rattle.ad_dir_model.specs.Inheritance.{scratch}
+use Rattle.ad_dir_model.specs.Objects.{is_live, sd_at}
 use Rattle.ad_dir_model.specs.Steps.{steps, EmptiesAfter}
 use Rattle.ad_rows_write.specs.Rows.{IsStoreOf}
-use Rattle.ad_engine.specs.Opening.{Refuses}
-use Rattle.ad_engine.specs.Settling.{StandsAfterSteps}
-use Rattle.ad_engine.specs.declared.fault.OpenFault.{OpenFault}
+use Rattle.ad_engine_store.specs.Opening.{Refuses}
+use Rattle.ad_engine_store.specs.Settling.{StandsAfterSteps}
+use Rattle.ad_engine_store.specs.declared.fault.OpenFault.{OpenFault}
 use Rattle.cmd_call.specs.declared.outcome.Outcome.{Outcome}
 use Rattle.cmd_call.specs.declared.outcome.Outcome.TheVariants.{Done, NoStore, SiteFailed, NoMemory}
 use Rattle.cmd_call.specs.Call.{IsTold}
 use Rattle.cmd_call.specs.Lines.{counted}
 use Rattle.cmd_call.specs.Store.{HasFailed, Emits, EmitsPart, KeepsSlots, IsSiteHealthy}
 use Rattle.cmd_call.specs.Outcome.{IsOfStore}
-use Rattle.cmd_store.specs.Opened.{IsDirStore, NoDirStore, IsNoStore, EachStandsFor, LeavesSynced}
-use Rattle.cmd_store.specs.Ready.{IsReady}
-use Rattle.cmd_store.specs.Lines.{store_line}
-use Rattle.cmd_store.specs.serving.Reached.{IsRecomputed}
+use Rattle.cmd_store_open.specs.Opened.{IsDirStore, NoDirStore, IsNoStore, EachStandsFor, LeavesSynced}
+use Rattle.cmd_store_open.specs.Ready.{IsReady}
+use Rattle.cmd_store_open.specs.Lines.{store_line}
+
+-- Where nothing is pending each object has the descriptor that is recomputed from the root.
+abbrev pub IsRecomputed : Directory → Type 0
+IsRecomputed dir = dir.pending ≡ [] → (number : ℕ) → is_live dir.objects number ≡ true → sd_at dir.objects number
+    ≡ scratch dir number
 
 -- how many steps there were
 abbrev pub steps_line : ℕ → List ℕ

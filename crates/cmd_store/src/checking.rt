@@ -6,11 +6,11 @@ ghost use Rattle.cmd_call.specs.Store.{HasFailed, SaysUnless};
 ghost use Rattle.cmd_call.specs.declared.outcome.Outcome.TheVariants.{Done, SiteFailed};
 ghost use Rattle.cmd_store.specs.Check.{CheckDoes, check_text};
 
-use crate::refuse;
 use crate::stale::count_stale;
 use ad_dir::Dir;
-use ad_engine::Engine;
+use ad_engine_store::DirStore;
 use cmd_call::{Outcome, put_counted, say};
+use cmd_store_open::refuse;
 use site_io::Site;
 use std::alloc::{AllocError, Global};
 
@@ -46,7 +46,7 @@ pub fn check<S: Site>(alloc: Global, site: &mut S) -> Outcome
     ensures does { CheckDoes S.Site site.old site.new result }
     ensures site_failed { result ≡ SiteFailed → HasFailed S.Site site.old site.new }
 {
-    match Engine::resume(alloc, site) {
+    match DirStore::resume(alloc, site) {
         Ok(engine) => tell(alloc, site, engine.dir()),
         Err(fault) => refuse(alloc, site, fault),
     }

@@ -14,12 +14,12 @@ ghost use Rattle.cmd_store.specs.Effective.{EffectiveDoes, NoToken, IsTokenFor, 
 ghost use Rattle.cmd_store.specs.List.{number_named};
 
 use crate::listing::{has_suffix, tell_none};
-use crate::refuse;
 use ad_dir::Dir;
-use ad_engine::Engine;
+use ad_engine_store::DirStore;
 use ad_ids::{Token, TokenFault};
 use ad_needs_rules::number_of_name;
 use cmd_call::{Outcome, say};
+use cmd_store_open::refuse;
 use site_io::{Site, Source, WholeFault, read_whole};
 use std::alloc::{AllocError, Global};
 
@@ -133,7 +133,7 @@ pub fn effective<I: Source, S: Site>(
         (I.faults source.new) }
     ensures site_failed { result ≡ SiteFailed → HasFailed S.Site site.old site.new }
 {
-    match Engine::resume(alloc, site) {
+    match DirStore::resume(alloc, site) {
         Ok(engine) => answer_in(alloc, source, site, engine.dir(), name.as_bytes()),
         Err(fault) => refuse(alloc, site, fault),
     }

@@ -8,11 +8,11 @@ ghost use Rattle.cmd_call.specs.Store.{HasFailed, SaysUnless};
 ghost use Rattle.cmd_call.specs.declared.outcome.Outcome.TheVariants.{Done, NoObject, SiteFailed};
 ghost use Rattle.cmd_store.specs.List.{ListDoes, no_object_line, list_text, list_outcome};
 
-use crate::refuse;
 use ad_dir::Dir;
-use ad_engine::Engine;
+use ad_engine_store::DirStore;
 use ad_needs_rules::number_of_name;
 use cmd_call::{Outcome, say};
+use cmd_store_open::refuse;
 use site_io::Site;
 use std::alloc::{AllocError, Global};
 
@@ -65,7 +65,7 @@ pub fn list<S: Site>(alloc: Global, site: &mut S, name: &str) -> Outcome
     ensures does { ListDoes S.Site name.now site.old site.new result }
     ensures site_failed { result ≡ SiteFailed → HasFailed S.Site site.old site.new }
 {
-    match Engine::resume(alloc, site) {
+    match DirStore::resume(alloc, site) {
         Ok(engine) => list_in(alloc, site, engine.dir(), name.as_bytes()),
         Err(fault) => refuse(alloc, site, fault),
     }

@@ -8,7 +8,7 @@ ghost use Rattle.ad_load_records.specs.Seen.{seen};
 ghost use Rattle.cmd_call.specs.Store.{HasFailed, SaysUnless};
 ghost use Rattle.cmd_call.specs.Outcome.{IsStopped, IsOfLoad};
 ghost use Rattle.cmd_call.specs.declared.outcome.Outcome.TheVariants.{NotOfForm, SourceFailed, SiteFailed};
-ghost use Rattle.cmd_store.specs.Lines.{objects_line};
+ghost use Rattle.cmd_store_open.specs.Lines.{objects_line};
 ghost use Rattle.cmd_store.specs.Causes.{load_line};
 ghost use Rattle.cmd_store.specs.Load.{LoadDoes};
 ghost use Rattle.cmd_store.specs.Loading.{IsGiven, IsGivenFor, HasSound, Keeps, LoadsEmpty};
@@ -16,12 +16,11 @@ ghost use Rattle.ad_load_records.specs.Records.{most_lines};
 
 use crate::causes::line_of_cause;
 use crate::input::{Read, read_input};
-use crate::refuse;
-use crate::store_lines::TAKEN;
 use crate::storing::create_store;
 use ad_load::{LoadCause, LoadFault, Parts, parts_of};
 use ad_load_records::Record;
 use cmd_call::{Outcome, are_empty, put_counted, say};
+use cmd_store_open::{TAKEN, refuse};
 use site_io::{Failed, Site, Source};
 use std::alloc::{AllocError, Global};
 

@@ -1,16 +1,14 @@
 //! The command `settle`: steps of propagation until nothing is pending.
 
 ghost use Rattle.std.specs.Prelude.{◌≡◌, false, [], IfOk};
-ghost use Rattle.ad_engine.specs.Standing.{StandsIn};
+ghost use Rattle.ad_engine_store.specs.Standing.{StandsIn};
 ghost use Rattle.cmd_call.specs.Store.{HasFailed, SaysUnless};
 ghost use Rattle.cmd_call.specs.declared.outcome.Outcome.TheVariants.{Done, SiteFailed};
 ghost use Rattle.cmd_store.specs.Settle.{SettleDoes, IsSettledReady, IsSettledSince, steps_line};
 
-use crate::failed::outcome_of_fault;
-use crate::ready::make_ready;
-use crate::refuse;
-use ad_engine::Engine;
+use ad_engine_store::DirStore;
 use cmd_call::{Outcome, put_counted, say};
+use cmd_store_open::{make_ready, outcome_of_fault, refuse};
 use site_io::Site;
 use std::alloc::{AllocError, Global};
 
@@ -34,7 +32,7 @@ fn tell<S: Site>(alloc: Global, site: &mut S, steps: u64) -> Outcome
 }
 
 // Makes the steps in a store that was opened, where something is pending, and emits how many there were.
-fn settle_pending<S: Site>(alloc: Global, site: &mut S, engine: &mut Engine) -> Outcome
+fn settle_pending<S: Site>(alloc: Global, site: &mut S, engine: &mut DirStore) -> Outcome
     requires stands { StandsIn engine.old (S.reads site.old) (S.now site.old) (S.left site.old) }
     requires unspent { engine.old.spent ≡ false }
     requires some { ¬ (engine.old.dir.pending ≡ []) }
@@ -47,7 +45,7 @@ fn settle_pending<S: Site>(alloc: Global, site: &mut S, engine: &mut Engine) -> 
 }
 
 // Makes the steps in a store that is ready, and emits how many there were.
-fn settle_ready<S: Site>(alloc: Global, site: &mut S, engine: &mut Engine) -> Outcome
+fn settle_ready<S: Site>(alloc: Global, site: &mut S, engine: &mut DirStore) -> Outcome
     requires stands { StandsIn engine.old (S.reads site.old) (S.now site.old) (S.left site.old) }
     requires unspent { engine.old.spent ≡ false }
     ensures { IsSettledReady S.Site engine.old.dir site.old site.new result }
@@ -59,7 +57,7 @@ fn settle_ready<S: Site>(alloc: Global, site: &mut S, engine: &mut Engine) -> Ou
 }
 
 // Makes a store that was opened ready, makes the steps, and emits how many there were.
-fn settle_opened<S: Site>(alloc: Global, site: &mut S, engine: &mut Engine) -> Outcome
+fn settle_opened<S: Site>(alloc: Global, site: &mut S, engine: &mut DirStore) -> Outcome
     requires stands { StandsIn engine.old (S.reads site.old) (S.now site.old) (S.left site.old) }
     requires unspent { engine.old.spent ≡ false }
     ensures { IsSettledSince S.Site engine.old.dir site.old site.new result }
@@ -80,7 +78,7 @@ pub fn settle<S: Site>(alloc: Global, site: &mut S) -> Outcome
     ensures does { SettleDoes S.Site site.old site.new result }
     ensures site_failed { result ≡ SiteFailed → HasFailed S.Site site.old site.new }
 {
-    match Engine::resume(alloc, site) {
+    match DirStore::resume(alloc, site) {
         Ok(mut engine) => settle_opened(alloc, site, &mut engine),
         Err(fault) => refuse(alloc, site, fault),
     }

@@ -5,9 +5,9 @@ ghost use Rattle.site_io.specs.Disk.{Images};
 ghost use Rattle.ad_dir_model.specs.Soundness.{IsSound};
 ghost use Rattle.row_store.specs.Table.{table_of};
 ghost use Rattle.ad_rows_write.specs.Rows.{AreRowsOf, IsStoreOf};
-ghost use Rattle.ad_engine.specs.Faults.{IsCreating};
+ghost use Rattle.ad_engine_store.specs.Faults.{IsCreating};
 
-use ad_engine::OpenFault;
+use ad_engine_store::OpenFault;
 use ad_load::Parts;
 use ad_rows::write_parts;
 use row_store::{Store, WrittenRows};

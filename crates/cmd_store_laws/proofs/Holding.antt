@@ -22,15 +22,15 @@ use Rattle.cmd_call.specs.Store.{Emits}
 use Rattle.cmd_call.specs.declared.outcome.Outcome.{Outcome}
 use Rattle.cmd_call.specs.declared.outcome.Outcome.TheVariants.{Done, NotOfForm, NoCommand, NoStore, NoObject}
 use Rattle.cmd_call.specs.declared.outcome.Outcome.TheVariants.{TooMany, SourceFailed, SiteFailed, NoMemory}
-use Rattle.cmd_store.specs.Lines.{objects_line}
+use Rattle.cmd_store_open.specs.Lines.{objects_line}
 use Rattle.cmd_store.specs.Load.{LoadsAs, NoDirectory, IsLoaded, IsRefused, IsRefusedStore}
-use Rattle.cmd_store.specs.Opened.{IsDirStore, IsAsBegun, LeavesSynced}
-use Rattle.cmd_store.specs.serving.Crash.{IsCrashBehind}
-use Rattle.cmd_store.specs.serving.Does.{Answers, IsServed, ServeDoes}
-use Rattle.cmd_store.proofs.Refusing.{never_refused}
-use Rattle.cmd_store.proofs.serving.Crashing.{between, crash_at}
-use Rattle.cmd_store.proofs.serving.Reaching.{sound_none}
-use Rattle.cmd_store.proofs.serving.Runs.{out_none, after_none}
+use Rattle.cmd_store_open.specs.Opened.{IsDirStore, IsAsBegun, LeavesSynced}
+use Rattle.cmd_store_serve.specs.serving.Crash.{IsCrashBehind}
+use Rattle.cmd_store_serve.specs.serving.Does.{Answers, IsServed, ServeDoes}
+use Rattle.cmd_store_open.proofs.Refusing.{never_refused}
+use Rattle.cmd_store_serve.proofs.serving.Crashing.{between, crash_at}
+use Rattle.cmd_store_serve.proofs.serving.Reaching.{sound_none}
+use Rattle.cmd_store_serve.proofs.serving.Runs.{out_none, after_none}
 use Rattle.cmd_store_laws.specs.Holding.{Holds, IsUnloaded, IsAnswered, IsOpened}
 
 -- ---- what is told

@@ -7,7 +7,7 @@ use Rattle.cmd_call.specs.Call.{IsTold}
 use Rattle.cmd_call.specs.declared.outcome.Outcome.{Outcome}
 use Rattle.cmd_call.specs.declared.outcome.Outcome.TheVariants.{Done, NotOfForm, NoCommand, NoStore, NoObject}
 use Rattle.cmd_call.specs.declared.outcome.Outcome.TheVariants.{TooMany, SourceFailed, SiteFailed, NoMemory}
-use Rattle.cmd_store.specs.Opened.{EachStandsFor}
+use Rattle.cmd_store_open.specs.Opened.{EachStandsFor}
 
 -- The slots are told, and represent this directory; so does what each crash now leaves; and this was emitted.
 pub record Holds {S : Type 0} (site : SiteGhosts S) (dir : Directory) (said : List ℕ) (x : S) : Type 0 where

@@ -6,9 +6,9 @@ use Rattle.site_io.specs.declared.site.Site.{Ghosts as SiteGhosts}
 use Rattle.ad_dir_model.specs.Directory.{Directory}
 use Rattle.ad_frames.specs.declared.frame.Frame.{Frame}
 use Rattle.ad_engine.specs.Runs.{out, after}
-use Rattle.cmd_store.specs.Lines.{objects_line}
-use Rattle.cmd_store.specs.serving.Crash.{IsCrash}
-use Rattle.cmd_store.specs.serving.Reached.{after_first}
+use Rattle.cmd_store_open.specs.Lines.{objects_line}
+use Rattle.cmd_store_serve.specs.serving.Crash.{IsCrash}
+use Rattle.ad_engine.specs.Runs.{after_first}
 use Rattle.cmd_store_laws.specs.declared.story.Run.{Run}
 use Rattle.cmd_store_laws.specs.Holding.{Holds, IsAnswered, IsOpened}
 

@@ -6,13 +6,14 @@ ghost use Rattle.ad_dir_model.specs.Directory.{Directory};
 ghost use Rattle.ad_rows_write.specs.Rows.{IsStoreOf};
 ghost use Rattle.ad_frames.specs.Frames.{frames_of};
 ghost use Rattle.ad_engine.specs.Runs.{out, after};
-ghost use Rattle.cmd_store.specs.Lines.{objects_line};
+ghost use Rattle.cmd_store_open.specs.Lines.{objects_line};
 ghost use Rattle.cmd_store.specs.Load.{LoadsAs, NoDirectory};
-ghost use Rattle.cmd_store.specs.serving.Crash.{IsCrashBehind};
+ghost use Rattle.cmd_store_serve.specs.serving.Crash.{IsCrashBehind};
 ghost use Rattle.cmd_store_laws.specs.Holding.{Holds, IsUnloaded, IsAnswered, IsOpened};
 
 use cmd_call::Outcome;
-use cmd_store::{load, serve};
+use cmd_store::load;
+use cmd_store_serve::serve;
 use site_io::{Crash, MemSite, MemSource, Site};
 use std::alloc::{AllocError, Global};
 

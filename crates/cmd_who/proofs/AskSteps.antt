@@ -7,19 +7,19 @@ use Rattle.site_io.specs.Outside.{OnlyLooks}
 use Rattle.site_io.specs.declared.site.Site.{Ghosts as SiteGhosts}
 use Rattle.ad_dir_model.specs.Directory.{Directory}
 use Rattle.ad_rows_write.specs.Rows.{IsStoreOf}
-use Rattle.cmd_store.specs.EngineWords.{IsOpenedAs}
-use Rattle.cmd_store.specs.EngineWords.{OpenFault}
-use Rattle.cmd_store.specs.OpenFaults as slots
+use Rattle.cmd_store_open.specs.EngineWords.{IsOpenedAs}
+use Rattle.cmd_store_open.specs.EngineWords.{OpenFault}
+use Rattle.cmd_store_open.specs.OpenFaults as slots
 use Rattle.cmd_call.specs.Store.{HasFailed, KeepsSlots, Emits}
 use Rattle.cmd_call.specs.declared.outcome.Outcome.{Outcome}
 use Rattle.cmd_call.specs.declared.outcome.Outcome.TheVariants.{Done, NoStore, NoObject, SiteFailed, NoMemory}
 use Rattle.cmd_call.proofs.Moments.{told_map, looks_keep}
 use Rattle.cmd_call.proofs.Telling.{Tells, whole, part, nothing, telling_by, unhealthy}
-use Rattle.cmd_store.specs.Refused.{Refused}
-use Rattle.cmd_store.proofs.Refusing.{stands_clash, same_dir, never_refused}
-use Rattle.cmd_store.proofs.Refusing.{Ends, refused, failed, stopped, refusal_by, partly_said}
+use Rattle.cmd_store_open.specs.Refused.{Refused}
+use Rattle.cmd_store_open.proofs.Refusing.{stands_clash, same_dir, never_refused}
+use Rattle.cmd_store_open.proofs.Refusing.{Ends, refused, failed, stopped, refusal_by, partly_said}
 use Rattle.cmd_who.specs.Asks.{Question, IsTextFor, IsPartlyAsked, AsksDoes}
-use Rattle.cmd_store.specs.Answered.{outcome_of}
+use Rattle.cmd_store_open.specs.Answered.{outcome_of}
 use Rattle.cmd_who.specs.Asking.{TellsIn}
 
 -- no question is both answered and refused

@@ -5,7 +5,7 @@ use Rattle.ad_dir_model.specs.Directory.{Directory}
 use Rattle.cmd_call.specs.declared.outcome.Outcome.{Outcome}
 use Rattle.cmd_call.specs.declared.outcome.Outcome.TheVariants.{NoMemory}
 use Rattle.cmd_call.specs.Store.{SaysUnless}
-use Rattle.cmd_store.specs.Answered.{outcome_of}
+use Rattle.cmd_store_open.specs.Answered.{outcome_of}
 use Rattle.cmd_who.specs.Asks.{Question}
 
 module _ {S : Type 0} (site : SiteGhosts S) where

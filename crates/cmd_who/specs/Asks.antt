@@ -5,16 +5,16 @@ use Rattle.site_io.specs.Told.{StaysTold}
 use Rattle.site_io.specs.declared.site.Site.{Ghosts as SiteGhosts}
 use Rattle.ad_dir_model.specs.Directory.{Directory}
 use Rattle.ad_rows_write.specs.Rows.{IsStoreOf}
-use Rattle.cmd_store.specs.EngineWords.{Refuses}
-use Rattle.cmd_store.specs.EngineWords.{OpenFault}
+use Rattle.cmd_store_open.specs.EngineWords.{Refuses}
+use Rattle.cmd_store_open.specs.EngineWords.{OpenFault}
 use Rattle.ad_who.specs.Answers.{TokenTold, WhoTold, CanTold}
 use Rattle.cmd_call.specs.declared.outcome.Outcome.{Outcome}
 use Rattle.cmd_call.specs.declared.outcome.Outcome.TheVariants.{Done, NoStore, NoObject, SiteFailed, NoMemory}
 use Rattle.cmd_call.specs.Call.{IsTold}
 use Rattle.cmd_call.specs.Outcome.{IsOfList}
 use Rattle.cmd_call.specs.Store.{Emits, EmitsPart, KeepsSlots, IsSiteHealthy}
-use Rattle.cmd_store.specs.Opened.{IsDirStore, NoDirStore, IsNoStore}
-use Rattle.cmd_store.specs.Lines.{store_line}
+use Rattle.cmd_store_open.specs.Opened.{IsDirStore, NoDirStore, IsNoStore}
+use Rattle.cmd_store_open.specs.Lines.{store_line}
 
 -- What a directory is asked: which texts are answers to it, and which say why there is none.
 abbrev pub Question : Type 1

@@ -12,7 +12,7 @@ ghost use Rattle.cmd_who.specs.Asking.{TellsIn};
 
 use ad_dir::Dir;
 use cmd_call::{Outcome, say};
-use cmd_store::{Engine, outcome_of, refuse};
+use cmd_store_open::{DirStore, outcome_of, refuse};
 use site_io::Site;
 use std::alloc::{AllocError, Global};
 
@@ -40,7 +40,7 @@ pub fn token<S: Site>(alloc: Global, site: &mut S, name: &str, sids: &[String]) 
     ensures does { TokenDoes S.Site name.now (map string_bytes sids.now) site.old site.new result }
     ensures site_failed { result ≡ SiteFailed → HasFailed S.Site site.old site.new }
 {
-    match Engine::resume(alloc, site) {
+    match DirStore::resume(alloc, site) {
         Ok(engine) => tell_token(alloc, site, engine.dir(), name, sids),
         Err(fault) => refuse(alloc, site, fault),
     }
@@ -64,7 +64,7 @@ pub fn who<S: Site>(alloc: Global, site: &mut S, right: &str, name: &str) -> Out
     ensures does { WhoDoes S.Site right.now name.now site.old site.new result }
     ensures site_failed { result ≡ SiteFailed → HasFailed S.Site site.old site.new }
 {
-    match Engine::resume(alloc, site) {
+    match DirStore::resume(alloc, site) {
         Ok(engine) => tell_who(alloc, site, engine.dir(), right, name),
         Err(fault) => refuse(alloc, site, fault),
     }
@@ -103,7 +103,7 @@ pub fn can<S: Site>(
         site.old site.new result }
     ensures site_failed { result ≡ SiteFailed → HasFailed S.Site site.old site.new }
 {
-    match Engine::resume(alloc, site) {
+    match DirStore::resume(alloc, site) {
         Ok(engine) => tell_can(alloc, site, engine.dir(), name, right, base),
         Err(fault) => refuse(alloc, site, fault),
     }

@@ -4,10 +4,10 @@ use Rattle.ad_diff.proofs.Putting.{column_right}
 use Rattle.ad_diff.proofs.columns.column_of.Goals as goal
 
 pub returns : goal.returns
-returns c = column_right c.args.sides.now c.args.g.both c.args.ground.now c.args.g.group c.plain-column.result
+returns c = column_right c.args.sides.now c.args.g.both c.args.context.now c.args.g.group c.plain-column.result
     c.judge_all.new.column c.judge_all-2.new.column c.holders_of-first.result.now c.holders_of-second.result.now
-    c.requires.parties c.requires.ground c.requires.base (c.plain-column.ensures c.args.ground.now.frame)
-    (c.holders_of-first.ensures ∙ ap (listed_if c.args.ground.now.holders.places) c.asked_in.ensures)
-    (c.holders_of-second.ensures ∙ ap (listed_if c.args.ground.now.holders_after.places) c.asked_in-2.ensures)
+    c.requires.parties c.requires.context c.requires.base (c.plain-column.ensures c.args.context.now.frame)
+    (c.holders_of-first.ensures ∙ ap (listed_if c.args.context.now.holders.places) c.asked_in.ensures)
+    (c.holders_of-second.ensures ∙ ap (listed_if c.args.context.now.holders_after.places) c.asked_in-2.ensures)
     c.in_ok-judge_all.ensures.right c.in_ok-judge_all.ensures.keeps c.in_ok-judge_all-2.ensures.right
     c.in_ok-judge_all-2.ensures.keeps

@@ -1,5 +1,5 @@
 use Rattle.std.proofs.Common.{◌∙◌, length, ap}
-use Rattle.ad_diff.proofs.Grounds.{family_new}
+use Rattle.ad_diff.proofs.Contexts.{family_new}
 use Rattle.ad_diff.proofs.families.begin.Goals as goal
 
 pub returns-clause-family : goal.returns-clause-family

@@ -1,4 +1,4 @@
-use Rattle.ad_diff.proofs.Grounds.{families_more}
+use Rattle.ad_diff.proofs.Contexts.{families_more}
 use Rattle.ad_diff.proofs.families.join.Goals as goal
 
 pub returns-clause-families : goal.returns-clause-families

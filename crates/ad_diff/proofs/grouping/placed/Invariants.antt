@@ -6,5 +6,5 @@ use Rattle.ad_diff.proofs.grouping.placed.Given as goal
 -- those so far are placed
 abbrev pub invariant-loop-g : goal.invariant-loop-g
 invariant-loop-g l =
-    IsPlacing l.sides l.ground.frame (members (take l.g-index l.fn.objects)) l.placing.objects.items
+    IsPlacing l.sides l.context.frame (members (take l.g-index l.fn.objects)) l.placing.objects.items
     l.placing.columns.items

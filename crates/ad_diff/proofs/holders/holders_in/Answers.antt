@@ -4,7 +4,7 @@ use Rattle.std.proofs.lemmas.Option.{slice_get_read}
 use Rattle.ad_ids.specs.declared.token.Token.{Token}
 use Rattle.ad_access.specs.Holder.{first_holder, holds}
 use Rattle.ad_diff.specs.Holders.{listed, Gains, AreHolders}
-use Rattle.ad_diff.proofs.Grounds.{holders_more}
+use Rattle.ad_diff.proofs.Contexts.{holders_more}
 use Rattle.ad_diff.proofs.holders.holders_in.Goals as goal
 
 pub each-preserved : goal.each-preserved

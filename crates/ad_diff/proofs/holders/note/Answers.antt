@@ -2,7 +2,7 @@ use Rattle.std.proofs.Common.{◌≡◌, Some, sym, ap}
 use Rattle.std.specs.Prelude.{is_some}
 use Rattle.indexmap.specs.IndexMap.{get}
 use Rattle.ad_ids.specs.SidValue.{same_sid}
-use Rattle.ad_diff.proofs.Grounds.{gains_one}
+use Rattle.ad_diff.proofs.Contexts.{gains_one}
 use Rattle.ad_diff.proofs.holders.note.Goals as goal
 
 pub returns-in-Some : goal.returns-in-Some

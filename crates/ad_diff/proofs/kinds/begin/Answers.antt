@@ -1,5 +1,5 @@
 use Rattle.std.proofs.Common.{◌∙◌, length, ap}
-use Rattle.ad_diff.proofs.Grounds.{kind_new}
+use Rattle.ad_diff.proofs.Contexts.{kind_new}
 use Rattle.ad_diff.proofs.kinds.begin.Goals as goal
 
 pub returns : goal.returns

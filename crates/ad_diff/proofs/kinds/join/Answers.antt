@@ -1,5 +1,5 @@
 use Rattle.std.proofs.Common.{sym}
-use Rattle.ad_diff.proofs.Grounds.{kinds_more}
+use Rattle.ad_diff.proofs.Contexts.{kinds_more}
 use Rattle.ad_diff.proofs.kinds.join.Goals as goal
 
 pub returns-clause-kinds : goal.returns-clause-kinds

@@ -2,7 +2,7 @@ use Rattle.std.proofs.Common.{length, refl, subst}
 use Rattle.std.proofs.lemmas.Option.{slice_get_read}
 use Rattle.ad_dir.proofs.NameLaws.{if_ok}
 use Rattle.ad_diff.specs.Kinds.{IsOfKind}
-use Rattle.ad_diff.proofs.Grounds.{kind_same}
+use Rattle.ad_diff.proofs.Contexts.{kind_same}
 use Rattle.ad_diff.proofs.kinds.kind_of.Goals as goal
 
 pub returns-then-is_of : goal.returns-then-is_of

@@ -5,7 +5,7 @@ use Rattle.ad_diff_rights.specs.declared.both.Both.{Both}
 use Rattle.ad_diff_rights.specs.declared.tokens.Party.{Party}
 use Rattle.ad_diff_rights.specs.Both.{are_principals, objects_of_both}
 use Rattle.ad_diff_rights.specs.Parties.{IsParty}
-use Rattle.ad_diff_rights.specs.Same.{AreSteady}
+use Rattle.ad_diff_rights.specs.Same.{AreUnchangedParties}
 use Rattle.ad_diff.proofs.telling.differences.Goals as goal
 
 pub parties-requires : goal.parties-requires
@@ -23,8 +23,8 @@ pub text_by-requires-clause-parties : goal.text_by-requires-clause-parties
 text_by-requires-clause-parties c = subst (All (IsParty c.args.before.now c.args.after.now))
     (sym c.as_slice-2.ensures.value) c.in_ok-parties.ensures.parties
 
-pub text_by-requires-clause-marked : goal.text_by-requires-clause-marked
-text_by-requires-clause-marked c =
-    subst (AreSteady c.args.before.now c.args.after.now c.as_slice-2.result.now) (sym c.as_slice-3.ensures.value)
-    (subst (λ (ps : List Party). AreSteady c.args.before.now c.args.after.now ps c.in_ok-marks.marks.items)
-    (c.as_slice.ensures.value ∙ sym c.as_slice-2.ensures.value) c.in_ok-marks.ensures)
+pub text_by-requires-clause-flagged : goal.text_by-requires-clause-flagged
+text_by-requires-clause-flagged c =
+    subst (AreUnchangedParties c.args.before.now c.args.after.now c.as_slice-2.result.now) (sym c.as_slice-3.ensures.value)
+    (subst (λ (ps : List Party). AreUnchangedParties c.args.before.now c.args.after.now ps c.in_ok-flags.flags.items)
+    (c.as_slice.ensures.value ∙ sym c.as_slice-2.ensures.value) c.in_ok-flags.ensures)

@@ -8,11 +8,11 @@ use Rattle.ad_diff.specs.Text.{members}
 use Rattle.ad_diff.specs.Frames.{HasBase, AreBases}
 use Rattle.ad_diff.specs.Table.{AreRows}
 use Rattle.ad_diff.proofs.Whole.{whole, members_live, placed_live}
-use Rattle.ad_diff.proofs.Grounds.{all_based}
+use Rattle.ad_diff.proofs.Contexts.{all_based}
 use Rattle.ad_diff.proofs.telling.text_by.Goals as goal
 
-pub ground_of-requires-clause-live : goal.ground_of-requires-clause-live
-ground_of-requires-clause-live c =
+pub comparison_context-requires-clause-live : goal.comparison_context-requires-clause-live
+comparison_context-requires-clause-live c =
     subst (All (IsLiveBoth c.args.sides.now.before.now c.args.sides.now.after.now)) (sym c.as_slice.ensures.value)
     c.in_ok-families.ensures.firsts
 
@@ -27,10 +27,10 @@ placed-requires-clause-live c =
 pub placed-requires-clause-bases : goal.placed-requires-clause-bases
 placed-requires-clause-bases c =
     let sides = c.args.sides.now in
-    let frame = c.in_ok-ground.ground.frame in
+    let frame = c.in_ok-context.context.frame in
     let firsts = c.in_ok-families.families.firsts.items in
     let bases : AreBases sides frame firsts = subst (AreBases sides frame) c.as_slice.ensures.value
-    c.in_ok-ground.ensures.bases in
+    c.in_ok-context.ensures.bases in
     subst (All (λ (g : Grouped). HasBase sides frame g.group g.both)) (sym c.as_slice-2.ensures.value)
     (all_based sides firsts frame c.in_ok-families.families.objects.items bases c.in_ok-families.ensures.families)
 
@@ -50,13 +50,14 @@ pub returns : goal.returns
 returns c =
     let placing = c.in_ok-placing.placing in
     let rows = c.in_ok-rows.rows in
-    let frame = c.in_ok-ground.ground.frame in
+    let frame = c.in_ok-context.context.frame in
     if_ok c.text_of.result
     (λ text is. whole c.args.sides.now frame placing.columns.items placing.objects.items rows.groups.items
     rows.leaders.items text.items (c.requires.both ∙ sym c.in_ok-rows.ensures.members) c.requires.parties
     c.in_ok-placing.ensures.placed
     (subst (λ (cs : List Column). AreRows frame cs rows.leaders.items rows.groups.items) c.as_slice-3.ensures.value
     c.in_ok-rows.ensures.rows)
+    c.in_ok-placing.ensures.used c.in_ok-rows.ensures.used
     (c.in_ok-rows.ensures.members ∙ c.requires.principals)
     (c.in_ok-placing.ensures.members ∙ ap members c.as_slice-2.ensures.value ∙ c.in_ok-families.ensures.members
     ∙ c.requires.objects) is)

@@ -1,6 +1,6 @@
 use Rattle.std.proofs.Common.{ap}
 use Rattle.ad_dir_model.specs.Directory.{Directory}
-use Rattle.ad_engine.specs.Messages.{message_decided}
+use Rattle.ad_engine_answer.specs.Messages.{message_decided}
 use Rattle.ad_engine_laws.specs.Log.{answer_to}
 use Rattle.ad_engine_laws.proofs.Taking.{agreed}
 use Rattle.ad_engine_laws.proofs.replicas.machines_that_took_the_same_entries_agree.Goals as goal

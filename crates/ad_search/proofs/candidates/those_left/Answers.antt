@@ -19,7 +19,7 @@ each-preserved c =
       subst (λ (left : List ℕ). HaveSameEntries dir search (left ++ drop (i + 1) all) all)
           (sym c.in_ok-push_number.ensures)
           (left_more dir search c.each.left.items all i number may (drop_more all i 0 c.each-test.true)
-          (λ out. never_by dir search.filter c.args.need.now number c.requires.needed (c.may_meet-may.ensures out))
+          (λ out. never_by dir search.filter c.args.plan.now number c.requires.needed (c.may_meet-may.ensures out))
           c.each.invariant.0),
       subst (AllByRecursion (λ (n : ℕ). is_live dir.objects n ≡ true)) (sym c.in_ok-push_number.ensures)
           (live_more (λ (n : ℕ). is_live dir.objects n ≡ true) c.each.left.items number may

@@ -1,5 +1,5 @@
 use Rattle.std.proofs.Common.{Err, ap, sym, subst}
-use Rattle.ad_engine.specs.declared.fault.OpenFault.{OpenFault}
+use Rattle.ad_engine_store.specs.declared.fault.OpenFault.{OpenFault}
 use Rattle.cmd_audit.specs.Steps.{Ended}
 use Rattle.cmd_audit.proofs.Unopened.{unopened}
 use Rattle.cmd_audit.proofs.auditing.audit.Goals as goal
@@ -12,7 +12,7 @@ returns-in-Ok g c =
 pub returns-in-Err : goal.returns-in-Err
 returns-in-Err g c =
     let all = subst (Ended g.I.Source g.S.Site c.args.source.now c.args.source.now c.args.site.now c.resume.new.site)
-    (sym c.of_open.ensures)
+    (sym c.outcome_of_open.ensures)
     (unopened g.I.Source g.S.Site c.args.source.now c.args.site.now c.resume.new.site c.in-Err.fault
     c.in-Err.ensures.outside c.in-Err.ensures.opened
     (λ is. c.in-Err.ensures.cause (ap (λ (f : OpenFault). Err f) is))) in

@@ -1,6 +1,6 @@
 use Rattle.std.proofs.Common.{◌∙◌, inl, refl, arith}
 use Rattle.cmd_call.proofs.Moments.{IsLawful, keeps_not, goes_not}
-use Rattle.cmd_store.proofs.serving.OneFrame.{part_none}
+use Rattle.cmd_store_open.proofs.Parts.{part_none}
 use Rattle.cmd_audit.proofs.Telling.{told_self, frame_told}
 use Rattle.cmd_audit.proofs.auditing.audit_frame.Goals as goal
 

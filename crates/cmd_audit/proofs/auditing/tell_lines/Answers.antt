@@ -1,6 +1,6 @@
 use Rattle.std.proofs.Common.{◌∙◌, refl, sym}
 use Rattle.cmd_call.proofs.Moments.{IsLawful}
-use Rattle.cmd_store.proofs.serving.OneFrame.{part_whole}
+use Rattle.cmd_store_open.proofs.Parts.{part_whole}
 use Rattle.cmd_audit.proofs.Telling.{no_bytes, keeps_emit, tells_none}
 use Rattle.cmd_audit.proofs.auditing.tell_lines.Goals as goal
 

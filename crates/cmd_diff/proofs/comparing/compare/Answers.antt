@@ -1,8 +1,8 @@
 use Rattle.std.proofs.Common.{inl, inr, Err, subst, ap}
 use Rattle.ad_dir_model.specs.Directory.{Directory}
 use Rattle.ad_diff.specs.Answers.{DiffTold}
-use Rattle.cmd_store.specs.EngineWords.{OpenFault}
-use Rattle.cmd_store.proofs.Refusing.{inside}
+use Rattle.cmd_store_open.specs.EngineWords.{OpenFault}
+use Rattle.cmd_store_open.proofs.Refusing.{inside}
 use Rattle.cmd_diff.specs.Steps.{TellsOf}
 use Rattle.cmd_diff.proofs.comparing.compare.Goals as goal
 

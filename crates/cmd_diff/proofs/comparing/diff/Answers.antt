@@ -3,7 +3,7 @@ use Rattle.ad_dir_model.specs.Directory.{Directory}
 use Rattle.ad_diff.specs.Answers.{DiffTold}
 use Rattle.ad_diff.proofs.Refusals.{diff_either}
 use Rattle.cmd_call.proofs.Moments.{IsLawful}
-use Rattle.cmd_store.specs.EngineWords.{OpenFault}
+use Rattle.cmd_store_open.specs.EngineWords.{OpenFault}
 use Rattle.cmd_diff.specs.Steps.{ComparesBeside}
 use Rattle.cmd_diff.proofs.CompareSteps.{by_first, by_second}
 use Rattle.cmd_diff.proofs.comparing.diff.Goals as goal

@@ -1,6 +1,6 @@
 use Rattle.std.proofs.Common.{Err, subst, ap}
 use Rattle.ad_dir_model.specs.Directory.{Directory}
-use Rattle.cmd_store.specs.EngineWords.{OpenFault}
+use Rattle.cmd_store_open.specs.EngineWords.{OpenFault}
 use Rattle.cmd_grants.specs.Answering.{AnswersIn}
 use Rattle.cmd_grants.proofs.GrantsSteps.{answered_told, answered_by}
 use Rattle.cmd_grants.proofs.giving.grants.Goals as goal

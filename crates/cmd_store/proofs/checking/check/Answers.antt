@@ -1,6 +1,6 @@
 use Rattle.std.proofs.Common.{Err, subst, ap}
 use Rattle.ad_dir_model.specs.Directory.{Directory}
-use Rattle.ad_engine.specs.declared.fault.OpenFault.{OpenFault}
+use Rattle.ad_engine_store.specs.declared.fault.OpenFault.{OpenFault}
 use Rattle.cmd_call.specs.Store.{SaysUnless}
 use Rattle.cmd_call.specs.declared.outcome.Outcome.TheVariants.{Done}
 use Rattle.cmd_store.specs.Check.{check_text}

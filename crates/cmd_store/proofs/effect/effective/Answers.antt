@@ -1,7 +1,7 @@
 use Rattle.std.proofs.Common.{ℕ, List, Err, subst, ap}
 use Rattle.ad_dn.specs.Value.{AreRdns}
 use Rattle.ad_dir_model.specs.Directory.{Directory}
-use Rattle.ad_engine.specs.declared.fault.OpenFault.{OpenFault}
+use Rattle.ad_engine_store.specs.declared.fault.OpenFault.{OpenFault}
 use Rattle.cmd_store.specs.Answering.{AnswersFor}
 use Rattle.cmd_store.specs.List.{number_named}
 use Rattle.cmd_store.proofs.EffectiveSteps.{answered_told, answered_by}

@@ -1,7 +1,7 @@
 use Rattle.std.proofs.Common.{ℕ, List, Err, subst, ap}
 use Rattle.ad_dn.specs.Value.{AreRdns}
 use Rattle.ad_dir_model.specs.Directory.{Directory}
-use Rattle.ad_engine.specs.declared.fault.OpenFault.{OpenFault}
+use Rattle.ad_engine_store.specs.declared.fault.OpenFault.{OpenFault}
 use Rattle.cmd_call.specs.Store.{SaysUnless}
 use Rattle.cmd_store.specs.List.{list_text, list_outcome}
 use Rattle.cmd_store.proofs.ListSteps.{listed_told, listed_by}

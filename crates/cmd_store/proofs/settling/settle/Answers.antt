@@ -1,5 +1,5 @@
 use Rattle.std.proofs.Common.{Err, ap}
-use Rattle.ad_engine.specs.declared.fault.OpenFault.{OpenFault}
+use Rattle.ad_engine_store.specs.declared.fault.OpenFault.{OpenFault}
 use Rattle.cmd_call.proofs.Moments.{IsLawful}
 use Rattle.cmd_store.proofs.SettleSteps.{settled_by}
 use Rattle.cmd_store.proofs.settling.settle.Goals as goal

@@ -1,6 +1,6 @@
 use Rattle.std.proofs.Common.{sym, subst}
 use Rattle.ad_dir_model.specs.Directory.{Directory}
-use Rattle.cmd_store.specs.Ready.{IsReady}
+use Rattle.cmd_store_open.specs.Ready.{IsReady}
 use Rattle.cmd_store.proofs.SettleSteps.{settled_unready}
 use Rattle.cmd_store.proofs.settling.settle_opened.Goals as goal
 

@@ -1,12 +1,12 @@
 use Rattle.std.proofs.Common.{◌≡◌, false, refl, sym, ap, subst, ⊎_elim, Err}
-use Rattle.ad_engine.specs.declared.engine_fault.EngineFault.{EngineFault}
+use Rattle.ad_engine_store.specs.declared.engine_fault.EngineFault.{EngineFault}
 use Rattle.cmd_call.specs.declared.outcome.Outcome.{Outcome}
 use Rattle.cmd_call.proofs.Moments.{IsLawful, rises_from}
 use Rattle.cmd_store.specs.Settle.{IsSettledReady}
-use Rattle.cmd_store.proofs.Failing.{unspent_fault}
+use Rattle.cmd_store_open.proofs.Failing.{unspent_fault}
 use Rattle.cmd_store.proofs.SettleSteps.{settled_told, settled_failed, settled_memory, made_some, open_on}
-use Rattle.cmd_store.proofs.serving.Ending.{stands_for}
-use Rattle.cmd_store.proofs.serving.OneFrame.{not_so}
+use Rattle.cmd_store_open.proofs.Readying.{stands_for}
+use Rattle.cmd_store_open.proofs.Parts.{not_so}
 use Rattle.cmd_store.proofs.settling.settle_pending.Goals as goal
 
 pub returns-in-Ok : goal.returns-in-Ok

@@ -3,7 +3,7 @@ use Rattle.std.proofs.lemmas.List.{nil_from_length}
 use Rattle.ad_dir_model.specs.Directory.{Directory}
 use Rattle.cmd_call.proofs.Moments.{IsLawful}
 use Rattle.cmd_store.proofs.SettleSteps.{settled_told, made_none}
-use Rattle.cmd_store.proofs.serving.Ending.{stands_for}
+use Rattle.cmd_store_open.proofs.Readying.{stands_for}
 use Rattle.cmd_store.proofs.settling.settle_ready.Goals as goal
 
 pub returns-then-len-eq0 : goal.returns-then-len-eq0

@@ -1,6 +1,6 @@
 use Rattle.std.proofs.lemmas.Result.{err_from_is_err_and}
 use Rattle.row_store.specs.Table.{table_of}
-use Rattle.ad_engine.proofs.Opening.{opened, memory_creating, refused_creating}
+use Rattle.ad_engine_store.proofs.Opening.{opened, memory_creating, refused_creating}
 use Rattle.cmd_store.proofs.storing.create_store.Goals as goal
 
 pub returns-in_err-rows-clause-creating : goal.returns-in_err-rows-clause-creating

@@ -1,8 +1,8 @@
 use Rattle.std.proofs.Common.{◌≤◌, [], length, arith}
 use Rattle.site_io.specs.Disk.{images_of}
 use Rattle.ad_frames.specs.Frames.{frames_of}
-use Rattle.cmd_store.specs.Lines.{objects_line}
-use Rattle.cmd_store.specs.serving.Reached.{after_first}
+use Rattle.cmd_store_open.specs.Lines.{objects_line}
+use Rattle.ad_engine.specs.Runs.{after_first}
 use Rattle.cmd_store_laws.proofs.story.served_across_a_crash.Goals as goal
 
 pub returns-clause-ok : goal.returns-clause-ok

@@ -1,7 +1,7 @@
 use Rattle.std.proofs.Common.{Err, subst, ap}
 use Rattle.std.specs.Option.{option_map}
 use Rattle.ad_dir_model.specs.Directory.{Directory}
-use Rattle.cmd_store.specs.EngineWords.{OpenFault}
+use Rattle.cmd_store_open.specs.EngineWords.{OpenFault}
 use Rattle.ad_who.specs.Answers.{CanTold}
 use Rattle.ad_who.proofs.Refusals.{can_either}
 use Rattle.cmd_who.specs.Asks.{Question}

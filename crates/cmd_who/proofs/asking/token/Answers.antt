@@ -1,7 +1,7 @@
 use Rattle.std.proofs.Common.{Err, subst, ap, map}
 use Rattle.std.specs.String.{string_bytes}
 use Rattle.ad_dir_model.specs.Directory.{Directory}
-use Rattle.cmd_store.specs.EngineWords.{OpenFault}
+use Rattle.cmd_store_open.specs.EngineWords.{OpenFault}
 use Rattle.ad_who.specs.Answers.{TokenTold}
 use Rattle.ad_who.proofs.Refusals.{token_either}
 use Rattle.cmd_who.specs.Asks.{Question}

@@ -1,6 +1,6 @@
 use Rattle.std.proofs.Common.{Err, subst, ap}
 use Rattle.ad_dir_model.specs.Directory.{Directory}
-use Rattle.cmd_store.specs.EngineWords.{OpenFault}
+use Rattle.cmd_store_open.specs.EngineWords.{OpenFault}
 use Rattle.ad_who.specs.Answers.{WhoTold}
 use Rattle.ad_who.proofs.Refusals.{who_either}
 use Rattle.cmd_who.specs.Asks.{Question}

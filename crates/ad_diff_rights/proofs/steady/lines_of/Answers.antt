@@ -1,8 +1,0 @@
-use Rattle.std.proofs.Common.{◌∙◌, sym}
-use Rattle.ad_diff_rights.proofs.Unchanged.{none_differs}
-use Rattle.ad_diff_rights.proofs.steady.lines_of.Goals as goal
-
-pub returns-then-unchanged : goal.returns-then-unchanged
-returns-then-unchanged c = c.new.ensures.items
-    ∙ sym (none_differs c.args.sides.now.before.now c.args.sides.now.after.now c.args.party.now c.args.own c.args.o
-    (c.requires.steady c.if-steady.true) (c.requires.unchanged c.if-unchanged.true))

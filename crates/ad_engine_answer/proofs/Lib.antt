@@ -1,0 +1,4 @@
+pub mod Framed
+pub mod Effects
+pub mod Decisions
+pub mod RunLaws

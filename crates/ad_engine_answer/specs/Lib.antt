@@ -1,0 +1,3 @@
+pub mod Output
+pub mod Messages
+pub mod Decided

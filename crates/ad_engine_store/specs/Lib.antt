@@ -1,0 +1,9 @@
+pub mod Standing
+pub mod Opening
+pub mod Created
+pub mod Faults
+pub mod Settling
+pub mod Serving
+pub mod Bound
+pub mod Tokens
+pub mod Stepping

@@ -1,0 +1,5 @@
+use Rattle.ad_text_laws.proofs.PrintedLaws.{of_held}
+use Rattle.ad_text_laws.proofs.who.what_can_prints_reads_back.Goals as goal
+
+pub returns : goal.returns
+returns c = λ dir token asked base forms none. of_held dir token asked forms none base

@@ -1,2 +1,0 @@
--- Why slots represent no directory, cause by cause.
-pub use Rattle.ad_engine.specs.declared.fault.OpenFault.TheVariants.{Taken, Empty, Broken, Row, Unsound, Site, Memory}

@@ -1,0 +1,9 @@
+pub mod Runs
+pub mod Reaching
+pub mod Crashing
+pub mod OneFrame
+pub mod Running
+pub mod Ending
+pub mod Unopened
+pub mod Unready
+pub mod Loop
