@@ -93,7 +93,7 @@ fault_to_read() {
 # Long work tells how far it is, where somebody looks or asks: from beside, by a child that the program doesn't know.
 tell_progress() {
     case ${1-} in
-        load | settle | serve | audit | check | grants | list | effective | token | who | can | sample)
+        load | serve | settle | check | audit | grants | list | effective | token | who | can | sample)
             if [ "${ADSD_PROGRESS-}" = 1 ] || { [ -t 2 ] && [ "${ADSD_PROGRESS-}" != 0 ]; }; then
                 "$tools/progress" $$ "$@" </dev/null >/dev/null &
             fi

@@ -1,19 +1,20 @@
 -- Each group but 0 has a member.
 use Rattle.std.proofs.Common.{◌≡◌, ◌⊎◌, ◌∙◌, ◌<◌, ◌≤◌, ℕ, zero, suc, inl, inr, true, Bool, List, [], ◌∷◌, ◌++◌, length}
 use Rattle.std.proofs.Common.{get_or, map, sym, ap, subst, refl, arith}
-use Rattle.std.specs.Prelude.{◌==◌, ◌||◌, false}
+use Rattle.std.specs.Prelude.{◌==◌, ◌||◌, ◌^◌, false, All}
 use Rattle.std.specs.List.{list_any}
 use Rattle.std.proofs.lemmas.Bool.{cases_lt, or_left, or_right}
 use Rattle.std.proofs.lemmas.Bool.Decides.{Decides-eqb}
 use Rattle.std.proofs.lemmas.List.{get_or_past, length-map}
+use Rattle.std.proofs.lemmas.List.Elements.{All-append, All-cons, All-nil}
 use Rattle.std.proofs.lemmas.List.Folds.{list_any-append}
 use Rattle.ad_diff_rights.specs.declared.both.Both.{Both}
 use Rattle.ad_diff.specs.declared.numbering.Grouped.{Grouped}
 use Rattle.ad_diff.specs.declared.bases.Frame.{Frame}
 use Rattle.ad_diff.specs.declared.columns.Column.{Column}
-use Rattle.ad_diff.specs.Text.{cell, has_member}
+use Rattle.ad_diff.specs.Text.{cell, has_member, HasNumber}
 use Rattle.ad_diff.specs.Frames.{lines_at, IsNumbered}
-use Rattle.ad_diff.specs.Table.{row_of, table_of, AreUsed}
+use Rattle.ad_diff.specs.Table.{row_of, table_of, AreUsed, AreNumbered}
 use Rattle.ad_diff.proofs.Lists.{mapped_at, there_at}
 use Rattle.ad_diff.proofs.Exact.{none_of_principals}
 
@@ -40,7 +41,7 @@ used_still (suc n) groups more used = (
 )
 
 -- one more member, of a group that was there, or of a new one
-pub used_more : (old new : ℕ) (groups others : List Grouped) (both : Both) (group : ℕ) → IsNumbered old new group
+used_more : (old new : ℕ) (groups others : List Grouped) (both : Both) (group : ℕ) → IsNumbered old new group
     → AreUsed old groups → others ≡ groups ++ (record { both = both; group = group } ∷ []) → AreUsed new others
 used_more old new groups others both group (inl same) used are =
     let g : Grouped = record { both = both; group = group } in
@@ -50,6 +51,17 @@ used_more old new groups others both group (inr (more, last)) used are =
     let g : Grouped = record { both = both; group = group } in
     subst (AreUsed new) (sym are) (subst (λ (n : ℕ). AreUsed n (groups ++ (g ∷ []))) (sym more)
     (member_last groups g (suc old) (last ∙ more), used_still old groups (g ∷ []) used))
+
+pub numbered_more : (old new : ℕ) (groups others : List Grouped) (both : Both) (group : ℕ) → IsNumbered old new group
+    → group < 2 ^ 32 → AreNumbered old groups → others ≡ groups ++ (record { both = both; group = group } ∷ [])
+    → AreNumbered new others
+numbered_more old new groups others both group count small numbered are =
+    let g : Grouped = record { both = both; group = group } in
+    record {
+      used = used_more old new groups others both group count numbered.used are;
+      fit = subst (All HasNumber) (sym are) (All-append HasNumber groups (g ∷ []) numbered.fit
+          (All-cons HasNumber g [] small (All-nil HasNumber)));
+    }
 
 -- ---- cells
 

@@ -15,7 +15,7 @@ use Rattle.ad_diff.specs.declared.bases.Frame.{Frame}
 use Rattle.ad_diff.specs.declared.columns.Column.{Column}
 use Rattle.ad_diff.specs.Text.{members, principal_line, object_line, row_text, table_text, only_text, IsDiffText}
 use Rattle.ad_diff.specs.Frames.{lines_at}
-use Rattle.ad_diff.specs.Table.{ArePlaced, row_of, table_of, AreRows, AreUsed}
+use Rattle.ad_diff.specs.Table.{ArePlaced, row_of, table_of, AreRows, AreNumbered}
 use Rattle.ad_diff.proofs.Exact.{exact_all, none_of_objects, none_of_principals}
 use Rattle.ad_diff.proofs.Used.{cells_of_members}
 
@@ -30,7 +30,7 @@ pub whole : (sides : Sides) (frame : Frame) (columns : List Column) (objects gro
     → map (λ (party : Party). party.both) sides.parties.now ≡ members groups
     → All (IsParty sides.before.now sides.after.now) sides.parties.now
     → ArePlaced sides frame columns objects → AreRows frame columns leaders groups
-    → AreUsed (length columns) objects → AreUsed (length leaders) groups
+    → AreNumbered (length columns) objects → AreNumbered (length leaders) groups
     → members groups ≡ principals_of_both sides.before.now sides.after.now
     → members objects ≡ objects_of_both sides.before.now sides.after.now
     → text ≡ flat_map (principal_line sides.after.now) groups ++ (flat_map (object_line sides.after.now) objects
@@ -47,10 +47,12 @@ whole sides frame columns objects groups leaders text same are placed rows thing
       table = table_of frame columns leaders;
       are_principals = they_are;
       are_objects = things_are;
+      numbered_principals = they.fit;
+      numbered_objects = things.fit;
       exact = exact_all sides frame columns objects groups leaders same are placed rows;
       unlisted_objects = λ k. none_of_objects frame columns leaders k;
       unlisted_principals = λ l. none_of_principals frame columns leaders l;
-      of_members = λ l k. cells_of_members frame columns leaders objects groups things they l k;
+      of_members = λ l k. cells_of_members frame columns leaders objects groups things.used they.used l k;
       lines = is ∙ ap (λ (t : List ℕ). flat_map (principal_line after) groups ++ (flat_map (object_line after) objects
           ++ (t ++ (only_text (codes "only before ") before after ++ only_text (codes "only after ") after before))))
           (table_is frame columns leaders);

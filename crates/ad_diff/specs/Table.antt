@@ -7,7 +7,7 @@ use Rattle.ad_diff_rights.specs.Own.{changes_in}
 use Rattle.ad_diff.specs.declared.numbering.Grouped.{Grouped}
 use Rattle.ad_diff.specs.declared.bases.Frame.{Frame}
 use Rattle.ad_diff.specs.declared.columns.Column.{Column}
-use Rattle.ad_diff.specs.Text.{members, has_member}
+use Rattle.ad_diff.specs.Text.{members, has_member, HasNumber}
 use Rattle.ad_diff.specs.Frames.{lines_at, group_lines, IsNumbered}
 
 -- ---- the table
@@ -58,6 +58,11 @@ abbrev pub AreUsed : ℕ → List Grouped → Type 0
 AreUsed zero groups = Unit {0}
 AreUsed (suc n) groups = (has_member groups (suc n) ≡ true) × AreUsed n groups
 
+-- so many groups are in use, and each has a number
+pub record AreNumbered (count : ℕ) (groups : List Grouped) : Type 0 where
+  pub used : AreUsed count groups
+  pub fit : All HasNumber groups
+
 -- ---- what the steps keep
 
 -- the principals so far are in groups
@@ -65,11 +70,11 @@ pub record AreGrouped (frame : Frame) (columns : List Column) (done : List Both)
     (leaders : List ℕ) : Type 0 where
   pub members_are : members groups ≡ done
   pub rows : AreRows frame columns leaders groups
-  pub used : AreUsed (length leaders) groups
+  pub numbered : AreNumbered (length leaders) groups
 
 -- the objects so far are placed
 pub record IsPlacing (sides : Sides) (frame : Frame) (done : List Both) (objects : List Grouped)
     (columns : List Column) : Type 0 where
   pub members_are : members objects ≡ done
   pub placed : ArePlaced sides frame columns objects
-  pub used : AreUsed (length columns) objects
+  pub numbered : AreNumbered (length columns) objects

@@ -1,5 +1,5 @@
 -- The text of differences: principals and objects in groups, and for a group of each what its members gain and lose.
-use Rattle.std.specs.Prelude.{◌≡◌, ◌⊎◌, ℕ, ◌+◌, Bool, true, ◌==◌, if◌then◌else◌, is_some, List, [], ◌∷◌}
+use Rattle.std.specs.Prelude.{◌≡◌, ◌⊎◌, ℕ, ◌+◌, ◌^◌, ◌<◌, Bool, true, ◌==◌, if◌then◌else◌, is_some, List, [], ◌∷◌}
 use Rattle.std.specs.Prelude.{◌++◌, codes, decimal, map, get_or, All}
 use Rattle.std.specs.List.{flat_map, list_any}
 use Rattle.std.specs.Option.{option_map_or}
@@ -22,6 +22,10 @@ members groups = map (λ (g : Grouped). g.both) groups
 -- one is in the group of this number
 abbrev pub has_member : List Grouped → ℕ → Bool
 has_member groups group = list_any (λ (g : Grouped). g.group == group) groups
+
+-- the number of the group is one of 32 bits
+abbrev pub HasNumber : Grouped → Type 0
+HasNumber g = g.group < 2 ^ 32
 
 -- the lines of a group of objects and a group of principals, in a table of both; those that aren't in it have none
 unfoldable pub cell : List (List (List ℕ)) → ℕ → ℕ → List ℕ
@@ -74,7 +78,7 @@ only_text label dir other = flat_map (only_line label dir other) (numbers dir.ob
 
 -- ---- all
 
--- Each principal and each object of both is in a group. On each object each principal gains and loses exactly what
+-- Each principal and each object of both is in a group, which has a number. On each object each principal gains and loses exactly what
 -- the lines of their groups say. Group 0 of either has no lines, nor has a group that nobody, or nothing, is in.
 pub record IsDiffText (before after : Directory) (text : List ℕ) : Type 0 where
   pub principals : List Grouped
@@ -82,6 +86,8 @@ pub record IsDiffText (before after : Directory) (text : List ℕ) : Type 0 wher
   pub table : List (List (List ℕ))
   pub are_principals : members principals ≡ principals_of_both before after
   pub are_objects : members objects ≡ objects_of_both before after
+  pub numbered_principals : All HasNumber principals
+  pub numbered_objects : All HasNumber objects
   pub exact : All (λ (p : Grouped). All (λ (o : Grouped). Differs before after p.both o.both
       (cell table o.group p.group)) objects) principals
   pub unlisted_objects : (principals : ℕ) → cell table 0 principals ≡ []

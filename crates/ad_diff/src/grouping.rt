@@ -8,12 +8,12 @@ ghost use Rattle.ad_diff_rights.specs.Sides.{AreFlagged};
 ghost use Rattle.ad_diff.specs.declared.bases.Frame.{Frame as FrameValue};
 ghost use Rattle.ad_diff.specs.Text.{members};
 ghost use Rattle.ad_diff.specs.Frames.{lines_at, HasBase, IsContext, IsAdded};
-ghost use Rattle.ad_diff.specs.Table.{ArePlaced, AreUsed};
+ghost use Rattle.ad_diff.specs.Table.{ArePlaced, AreNumbered};
 
 use crate::bases::{Frame, is_quiet_family};
 use crate::columns::{Column, column_of, is_plain};
 use crate::context::Context;
-use crate::numbering::{Grouped, number_of};
+use crate::numbering::{Grouped, group_fits, number_of};
 use ad_diff_rights::Sides;
 use indexmap::IndexMap;
 use std::alloc::{AllocError, Global};
@@ -106,16 +106,17 @@ fn place(
     requires base { HasBase sides.now context.now.frame g.group g.both }
     requires placed { ArePlaced sides.now context.now.frame placing.now.columns.items
         placing.now.objects.items }
-    requires used { AreUsed (length placing.now.columns.items) placing.now.objects.items }
+    requires numbered { AreNumbered (length placing.now.columns.items) placing.now.objects.items }
     ensures members { OnOk result (members placing.new.objects.items
         ≡ members placing.old.objects.items ++ (g.both ∷ [])) }
     ensures placed { OnOk result (ArePlaced sides.now context.now.frame placing.new.columns.items
         placing.new.objects.items) }
-    ensures used { OnOk result (AreUsed (length placing.new.columns.items)
+    ensures numbered { OnOk result (AreNumbered (length placing.new.columns.items)
         placing.new.objects.items) }
 {
     let column = column_of(alloc, sides, context, g)?;
     let group = group_of(&context.frame, &mut placing.columns, hint, column)?;
+    group_fits(group);
     placing.objects.push(Grouped {
         both: g.both,
         group,
@@ -146,7 +147,7 @@ pub(crate) fn placed(
         ≡ members objects.now) }
     ensures placed { IfOk result (λ placing. ArePlaced sides.now context.now.frame
         placing.columns.items placing.objects.items) }
-    ensures used { IfOk result (λ placing. AreUsed (length placing.columns.items)
+    ensures numbered { IfOk result (λ placing. AreNumbered (length placing.columns.items)
         placing.objects.items) }
 {
     let mut hints: IndexMap<u32, u32> = IndexMap::new(alloc);

@@ -1,6 +1,6 @@
 //! Principals and objects with the numbers of their groups.
 
-ghost use Rattle.std.specs.Prelude.{◌≡◌, IfOk};
+ghost use Rattle.std.specs.Prelude.{◌≡◌, ◌<◌, ◌^◌, IfOk};
 
 use ad_diff_rights::Both;
 use std::alloc::AllocError;
@@ -25,3 +25,8 @@ pub(crate) fn number_of(place: usize) -> Result<u32, AllocError>
         Err(_) => Err(AllocError),
     }
 }
+
+/// The number of a group is one of 32 bits. It does nothing.
+pub(crate) fn group_fits(group: u32)
+    ensures { group < 2 ^ 32 }
+{}

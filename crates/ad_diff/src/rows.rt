@@ -5,12 +5,12 @@ ghost use Rattle.ad_diff.specs.declared.bases.Frame.{Frame as FrameValue};
 ghost use Rattle.ad_diff.specs.declared.columns.Column.{Column as ColumnValue};
 ghost use Rattle.ad_diff.specs.Text.{members};
 ghost use Rattle.ad_diff.specs.Frames.{lines_at};
-ghost use Rattle.ad_diff.specs.Table.{IsRow, IsLed, AreRows, AreUsed};
+ghost use Rattle.ad_diff.specs.Table.{IsRow, IsLed, AreRows, AreNumbered};
 
 use crate::alike::{NOTHING, mixed, mixed_bytes};
 use crate::bases::Frame;
 use crate::columns::{Column, lines_at};
-use crate::numbering::{Grouped, number_of};
+use crate::numbering::{Grouped, group_fits, number_of};
 use ad_diff_rights::Both;
 use indexmap::IndexMap;
 use std::alloc::{AllocError, Global};
@@ -160,15 +160,16 @@ fn join(
     principal: Both,
 ) -> Result<u32, AllocError>
     requires rows { AreRows frame.now columns.now rows.now.leaders.items rows.now.groups.items }
-    requires used { AreUsed (length rows.now.leaders.items) rows.now.groups.items }
+    requires numbered { AreNumbered (length rows.now.leaders.items) rows.now.groups.items }
     ensures members { OnOk result (members rows.new.groups.items
         ≡ members rows.old.groups.items ++ (principal ∷ [])) }
     ensures rows { OnOk result (AreRows frame.now columns.now rows.new.leaders.items
         rows.new.groups.items) }
-    ensures used { OnOk result (AreUsed (length rows.new.leaders.items) rows.new.groups.items) }
+    ensures numbered { OnOk result (AreNumbered (length rows.new.leaders.items) rows.new.groups.items) }
 {
     let place = rows.groups.as_slice().len();
     let group = group_of(frame, columns, &mut rows.leaders, place, hint)?;
+    group_fits(group);
     rows.groups.push(Grouped {
         both: principal,
         group,
@@ -190,7 +191,7 @@ pub(crate) fn grouped(
     ensures members { IfOk result (λ rows. members rows.groups.items ≡ principals.now) }
     ensures rows { IfOk result (λ rows. AreRows frame.now columns.now rows.leaders.items
         rows.groups.items) }
-    ensures used { IfOk result (λ rows. AreUsed (length rows.leaders.items) rows.groups.items) }
+    ensures numbered { IfOk result (λ rows. AreNumbered (length rows.leaders.items) rows.groups.items) }
 {
     let hashes = hashes_of(alloc, frame, columns)?;
     let mut hints: IndexMap<u64, u32> = IndexMap::new(alloc);

@@ -54,7 +54,7 @@ fn class_names(add: &Add) -> &[Bytes]
 /// # Errors
 ///
 /// Memory ran out.
-#[tactic(auto, unfolding(crate::specs::Adding::new_class))]
+#[tactic(auto, unfolding(ad_needs_rules::specs::Adding::new_class))]
 pub fn new_class(alloc: Global, dir: &Dir, add: &Add) -> Result<Option<ClassId>, AllocError>
     ensures class { IfOk result (λ class. option_map (λ id. id.0) class
         ≡ new_class dir.now add.now) }

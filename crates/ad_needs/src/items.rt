@@ -57,7 +57,7 @@ fn is_of_one(item: &Item, op: u8) -> bool
 }
 
 /// Whether the items force a password.
-#[tactic(auto, unfolding(crate::specs::Modifying::is_forced))]
+#[tactic(auto, unfolding(ad_needs_rules::specs::Modifying::is_forced))]
 pub(crate) fn is_forced(items: &[&Item]) -> bool
     ensures { result ≡ is_forced (map (λ item. item.now) items.now) }
 {
@@ -68,7 +68,7 @@ pub(crate) fn is_forced(items: &[&Item]) -> bool
 }
 
 // Whether the items change a password.
-#[tactic(auto, unfolding(crate::specs::Modifying::is_changed))]
+#[tactic(auto, unfolding(ad_needs_rules::specs::Modifying::is_changed))]
 fn is_changed(items: &[&Item]) -> bool
     ensures { result ≡ is_changed (map (λ item. item.now) items.now) }
 {

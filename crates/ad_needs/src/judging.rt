@@ -20,7 +20,7 @@ use std::alloc::{AllocError, Global};
 /// # Errors
 ///
 /// Memory ran out.
-#[tactic(auto, unfolding(crate::specs::Verdicts::verdict_of))]
+#[tactic(auto, unfolding(ad_needs_rules::specs::Verdicts::verdict_of))]
 pub fn verdict(
     alloc: Global,
     dir: &Dir,

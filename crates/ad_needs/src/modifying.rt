@@ -47,7 +47,7 @@ fn push_if(all: &mut List<ActItem>, item: Option<ActItem>) -> Result<(), AllocEr
 }
 
 // The items by the places of their attributes, but for those of the descriptor.
-#[tactic(auto, unfolding(crate::specs::Modifying::act_items))]
+#[tactic(auto, unfolding(ad_needs_rules::specs::Modifying::act_items))]
 fn act_items(alloc: Global, schema: &Schema, items: &[Item]) -> Result<List<ActItem>, AllocError>
     ensures { IfOk result (λ all. all ≡ act_items schema.now items.now) }
 {

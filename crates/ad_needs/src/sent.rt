@@ -40,7 +40,7 @@ fn sent_in<'a>(attrs: &'a [(Bytes, List<Bytes>)], name: &[u8]) -> Option<&'a [By
 }
 
 /// The values that were sent of the attribute of a name.
-#[tactic(auto, unfolding(crate::specs::Adding::sent))]
+#[tactic(auto, unfolding(ad_needs_rules::specs::Adding::sent))]
 pub(crate) fn sent<'a>(add: &'a Add, name: &[u8]) -> Option<&'a [Bytes]>
     ensures { option_map (λ values. values.now) result ≡ sent add.entry.now name.now }
 {
@@ -321,7 +321,7 @@ fn values_in(
 /// # Errors
 ///
 /// Memory ran out.
-#[tactic(auto, unfolding(crate::specs::Adding::new_values, crate::specs::Adding::all_ordinary))]
+#[tactic(auto, unfolding(ad_needs_rules::specs::Adding::new_values, ad_needs_rules::specs::Adding::all_ordinary))]
 pub(crate) fn new_values(
     alloc: Global,
     schema: &Schema,

@@ -8,3 +8,5 @@ pub mod WordLines
 pub mod EffectiveLaws
 pub mod PrintedLaws
 pub mod DiffLaws
+pub mod DiffLabels
+pub mod DiffTexts

@@ -7,3 +7,4 @@ pub mod Words
 pub mod Effective
 pub mod Printed
 pub mod Diff
+pub mod DiffTold

@@ -37,7 +37,9 @@ mod who;
 mod words;
 
 pub use audit::the_lines_of_audit_read_back;
-pub use diff::the_lines_of_diff_read_back;
+pub use diff::{
+    answers_of_one_text_tell_the_same, the_lines_of_diff_read_back, what_diff_prints_reads_back,
+};
 pub use effective::the_text_of_effective_is_of_words;
 pub use lines::a_text_gives_back_its_lines;
 pub use list::the_lines_of_list_read_back;

@@ -36,7 +36,7 @@ fn refusal(alloc: Global, dir: &Dir, fault: AskFault) -> Result<Answer, AllocErr
     })
 }
 
-fn answer(text: Vec<u8>) -> Answer
+fn answer_of(text: Vec<u8>) -> Answer
     ensures { (result.answered ≡ true) × (result.text.items ≡ text.items) }
 {
     Answer {
@@ -57,7 +57,7 @@ pub fn token(alloc: Global, dir: &Dir, name: &str, sids: &[String]) -> Result<An
         told.answered told.text.items) }
 {
     match token_lines(alloc, dir, name.as_bytes(), sids) {
-        Ok(text) => Ok(answer(text)),
+        Ok(text) => Ok(answer_of(text)),
         Err(fault) => refusal(alloc, dir, fault),
     }
 }
@@ -74,7 +74,7 @@ pub fn who(alloc: Global, dir: &Dir, right: &str, name: &str) -> Result<Answer, 
         told.text.items) }
 {
     match who_lines(alloc, dir, right.as_bytes(), name.as_bytes()) {
-        Ok(text) => Ok(answer(text)),
+        Ok(text) => Ok(answer_of(text)),
         Err(fault) => refusal(alloc, dir, fault),
     }
 }
@@ -97,7 +97,7 @@ pub fn can(
         (option_map (λ text. text.now) base.entry) told.answered told.text.items) }
 {
     match can_lines(alloc, dir, name.as_bytes(), right.as_bytes(), base) {
-        Ok(text) => Ok(answer(text)),
+        Ok(text) => Ok(answer_of(text)),
         Err(fault) => refusal(alloc, dir, fault),
     }
 }

@@ -8,8 +8,8 @@
 //!
 //! # Proved
 //!
-//! The status is that of the outcome of the command that the words name, which did with source and sites what its
-//! record says; 2 comes exactly where the words are no form, and then nothing is touched. `main` around it is
+//! The status is that of the outcome of the command that the words ask for, which did with source and sites what its
+//! record says; 2 comes exactly where the words are of no form, and then nothing is touched. `main` around it is
 //! tested.
 //!
 //! # The caller owes
@@ -31,6 +31,7 @@ mod run;
 mod streams;
 mod words;
 
+use cmd_words::{Command, Opening, command_of};
 use noted::Noted;
 use site_io::{FileSite, OutSite, SiteFault, StdSource};
 use std::alloc::{AllocError, Global};
@@ -97,7 +98,7 @@ fn is_cut_short(status: u8, fault: Option<SiteFault>) -> bool {
 // Tells why a store is refused, or which word names nothing in it: it is opened once more for that, to be read.
 fn tell_refused(
     rt: &HostRuntime,
-    words: &[String],
+    command: &Command<'_>,
     store: &str,
     makes_store: bool,
     site: &FileSite<HostRuntime, Stdout>,
@@ -105,16 +106,16 @@ fn tell_refused(
     reason::tell_refusal(rt, store, makes_store, site);
     if !makes_store {
         if let Ok(mut again) = site_of(rt, store, true) {
-            nearest::tell_unknown(rt, words, &mut again);
+            nearest::tell_unknown(rt, command, &mut again);
         }
     }
 }
 
 // Whether the input are lines of grants.
-fn reads_lines(words: &[String]) -> bool {
-    match words {
-        [word, ..] => word.as_str() == "grants",
-        [] => false,
+fn reads_lines(command: &Command<'_>) -> bool {
+    match command {
+        Command::Grants { .. } => true,
+        _ => false,
     }
 }
 
@@ -126,24 +127,31 @@ fn tell_lines(rt: &HostRuntime, text: &[u8], store: &str) {
 }
 
 // Runs over the files of the store that the words name.
-fn run_over(rt: &HostRuntime, streams: &Streams, words: &[String], store: &str) -> u8 {
-    let Ok(mut site) = site_of(rt, store, streams.lacks_output || run::only_looks(words)) else {
+fn run_over(
+    rt: &HostRuntime,
+    streams: &Streams,
+    words: &[String],
+    command: &Command<'_>,
+    store: &str,
+) -> u8 {
+    let opening = command.opening();
+    let Ok(mut site) = site_of(rt, store, streams.lacks_output || opening == Opening::Reads) else {
         reason::tell_no_memory(rt);
         return NO_MEMORY;
     };
-    let of_lines = reads_lines(words);
+    let of_lines = reads_lines(command);
     let most = if of_lines { LINES_BYTES } else { FIRST_BYTES };
     let mut source = Noted::new(rt.alloc(), StdSource::new(rt.stdin()), most);
     let mut none = OutSite::new(rt.stdout());
     let status = beside::run_beside(rt.alloc(), words, &mut source, &mut site, &mut none);
-    let makes_store = run::makes_store(words);
+    let makes_store = opening == Opening::Makes;
     if makes_store && is_cut_short(status, site.fault()) {
         let _ = site.remove_made();
     }
     match status {
         NOT_OF_FORM if makes_store => looks::tell_look(rt, source.first()),
         NOT_OF_FORM if of_lines => tell_lines(rt, source.first(), store),
-        REFUSED => tell_refused(rt, words, store, makes_store, &site),
+        REFUSED => tell_refused(rt, command, store, makes_store, &site),
         NO_INPUT => reason::tell_input(rt, streams, source.source().cause()),
         SITE_FAILED => reason::tell_site(rt, streams, store, site.fault()),
         NO_MEMORY => reason::tell_no_memory(rt),
@@ -215,11 +223,12 @@ fn main(rt: HostRuntime) -> ExitCode {
             });
         }
     };
-    let first = beside::first_compared(&words);
-    let second = beside::second_compared(&words);
-    ExitCode::from(match (first, second, run::store_named(&words)) {
-        (Some(first), Some(second), _) => run_over_both(&rt, &streams, &words, first, second),
-        (_, _, Some(store)) => run_over(&rt, &streams, &words, store),
+    let Some(command) = command_of(&words) else {
+        return ExitCode::from(run_plain(&rt, &streams, &words));
+    };
+    ExitCode::from(match (command.store(), command.other_store()) {
+        (Some(first), Some(second)) => run_over_both(&rt, &streams, &words, first, second),
+        (Some(store), None) => run_over(&rt, &streams, &words, &command, store),
         _ => run_plain(&rt, &streams, &words),
     })
 }

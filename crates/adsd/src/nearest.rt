@@ -4,6 +4,7 @@
 use ad_dir::Dir;
 use ad_nearest::{Hint, unknown_identifier, unknown_name, unknown_object, unknown_right};
 use cmd_store_open::DirStore;
+use cmd_words::Command;
 use site_io::FileSite;
 use std::alloc::{AllocError, Global};
 use std::io::Stdout;
@@ -47,11 +48,11 @@ fn in_who<'a>(
 fn in_base<'a>(
     alloc: Global,
     dir: &Dir,
-    words: &'a [String],
+    base: Option<&'a str>,
 ) -> Result<Option<Hint<'a>>, AllocError> {
-    match words {
-        [base, ..] => unknown_name(alloc, dir, base.as_str(), false),
-        [] => Ok(None),
+    match base {
+        Some(base) => unknown_name(alloc, dir, base, false),
+        None => Ok(None),
     }
 }
 
@@ -59,7 +60,7 @@ fn in_right_and_base<'a>(
     alloc: Global,
     dir: &Dir,
     right: &'a str,
-    base: &'a [String],
+    base: Option<&'a str>,
 ) -> Result<Option<Hint<'a>>, AllocError> {
     match unknown_right(alloc, dir.schema(), right)? {
         Some(hint) => Ok(Some(hint)),
@@ -72,7 +73,7 @@ fn in_can<'a>(
     dir: &Dir,
     name: &'a str,
     right: &'a str,
-    base: &'a [String],
+    base: Option<&'a str>,
 ) -> Result<Option<Hint<'a>>, AllocError> {
     match unknown_name(alloc, dir, name, true)? {
         Some(hint) => Ok(Some(hint)),
@@ -81,34 +82,35 @@ fn in_can<'a>(
 }
 
 // The words after the store, in the order in which the command judges them.
-fn in_words<'a>(
+fn in_command<'a>(
     alloc: Global,
     dir: &Dir,
-    words: &'a [String],
+    command: &Command<'a>,
 ) -> Result<Option<Hint<'a>>, AllocError> {
-    match words {
-        [word, _, name] if word.as_str() == "list" => unknown_object(alloc, dir, name.as_str()),
-        [word, _, name] if word.as_str() == "effective" => {
-            unknown_object(alloc, dir, name.as_str())
-        }
-        [word, _, name, sids @ ..] if word.as_str() == "token" => {
-            in_token(alloc, dir, name.as_str(), sids)
-        }
-        [word, _, right, name] if word.as_str() == "who" => {
-            in_who(alloc, dir, right.as_str(), name.as_str())
-        }
-        [word, _, name, right, base @ ..] if word.as_str() == "can" => {
-            in_can(alloc, dir, name.as_str(), right.as_str(), base)
-        }
+    match *command {
+        Command::List { name, .. } => unknown_object(alloc, dir, name),
+        Command::Effective { name, .. } => unknown_object(alloc, dir, name),
+        Command::Token { name, sids, .. } => in_token(alloc, dir, name, sids),
+        Command::Who { right, name, .. } => in_who(alloc, dir, right, name),
+        Command::Can {
+            name,
+            right,
+            base,
+            ..
+        } => in_can(alloc, dir, name, right, base),
         _ => Ok(None),
     }
 }
 
 /// Tells which word names nothing and what is nearest to it. The site is of the store's files, opened once more to be
 /// read; where it represents no directory nothing is told.
-pub fn tell_unknown(rt: &HostRuntime, words: &[String], site: &mut FileSite<HostRuntime, Stdout>) {
+pub fn tell_unknown(
+    rt: &HostRuntime,
+    command: &Command<'_>,
+    site: &mut FileSite<HostRuntime, Stdout>,
+) {
     if let Ok(engine) = DirStore::resume(rt.alloc(), site) {
-        if let Ok(Some(hint)) = in_words(rt.alloc(), engine.dir(), words) {
+        if let Ok(Some(hint)) = in_command(rt.alloc(), engine.dir(), command) {
             let _ = eprintln!(rt; "adsd: {hint}");
         }
     }

@@ -4,31 +4,12 @@ ghost use Rattle.std.specs.Prelude.{◌<◌, IfSome};
 
 use crate::streams::Streams;
 use ad_nearest::Shown;
+use cmd_words::FORMS;
 use site_io::{FileSite, SiteFault, Slot};
 use std::alloc::Global;
 use std::io::{ErrorKind, Stdout};
 use std::{fmt, io};
 use strsim::osa_distance;
-
-/// The forms of the words after the names of their commands.
-static FORMS: [(&str, &str); 16] = [
-    ("access", ""),
-    ("sddl", ""),
-    ("change", ""),
-    ("load", " STORE"),
-    ("serve", " STORE"),
-    ("settle", " STORE"),
-    ("check", " STORE"),
-    ("audit", " STORE"),
-    ("grants", " STORE"),
-    ("list", " STORE DN"),
-    ("effective", " STORE DN"),
-    ("token", " STORE NAME SID.., and there may be no SID"),
-    ("who", " STORE RIGHT NAME"),
-    ("can", " STORE NAME RIGHT BASE, and BASE may be left out"),
-    ("diff", " STORE STORE2"),
-    ("sample", " STORE N, and N is from 1 to 1000"),
-];
 
 /// A command's name is no longer than this in bytes, with one letter more.
 const LONGEST: usize = 10;
@@ -114,10 +95,26 @@ fn tell_forms(rt: &HostRuntime, first: &str) -> io::Result<()> {
         let word = Shown { text: first };
         eprint!(rt; "adsd: there is no command {word}")?;
     }
-    eprint!(rt;
-        "; the commands: access, sddl, change, and of a STORE load, serve, settle, check, audit, "
-    )?;
-    eprintln!(rt; "grants, list, effective, token, who, can, diff, sample")
+    eprint!(rt; "; the commands: ")?;
+    tell_names(rt)?;
+    eprintln!(rt; "")
+}
+
+// Tells the names of all commands, first those without a store.
+fn tell_names(rt: &HostRuntime) -> io::Result<()> {
+    let mut has_store = false;
+    for i in 0..FORMS.len() {
+        let (name, others) = FORMS[i];
+        if i > 0 {
+            eprint!(rt; ", ")?;
+        }
+        if !has_store && !others.is_empty() {
+            eprint!(rt; "and of a STORE ")?;
+            has_store = true;
+        }
+        eprint!(rt; "{name}")?;
+    }
+    Ok(())
 }
 
 /// Tells that a word is no text.

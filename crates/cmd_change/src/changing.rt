@@ -1,11 +1,13 @@
 //! Change records as frames for `serve`.
 
-ghost use Rattle.std.specs.Prelude.{◌≡◌, ◌++◌, ◌<◌, ◌≤◌, ℕ, List, length, if◌then◌else◌, IfOk, IfErr, IsErrOf, OnOk};
+ghost use Rattle.std.specs.Prelude.{◌≡◌, true, ◌++◌, ◌<◌, ◌≤◌, ℕ, List, length, if◌then◌else◌, IfOk, IfErr, IsErrOf, OnOk};
 ghost use Rattle.site_io.specs.Counts.{HasRisen};
 ghost use Rattle.ad_ldif.specs.Change.{change_seen};
 ghost use Rattle.ad_ldif.specs.Ranges.{HasItemOps};
-ghost use Rattle.cmd_call.specs.Outcome.{IsStopped};
-ghost use Rattle.cmd_call.specs.declared.outcome.Outcome.TheVariants.{NoCommand, SourceFailed, SiteFailed};
+ghost use Rattle.cmd_call.specs.Outcome.{status_of, IsStopped};
+ghost use Rattle.cmd_call.specs.declared.outcome.Outcome.TheVariants.{SourceFailed, SiteFailed};
+ghost use Rattle.cmd_words.specs.Command.CommandValue.{Change};
+ghost use Rattle.cmd_words.specs.Table.{may_end};
 ghost use Rattle.cmd_change.specs.Change.{ChangeDoes, frame, body_of, fits, word_of, refusal, line_of};
 ghost use Rattle.cmd_change.specs.Reply.{IsReply, IsReplyFor, ReadToEnd};
 
@@ -154,7 +156,7 @@ pub fn change<I: Source, S: Site>(alloc: Global, source: &mut I, site: &mut S) -
         (I.faults source.new) }
     ensures site_failed { result ≡ SiteFailed → HasRisen (S.out_faults site.old)
         (S.out_faults site.new) }
-    ensures a_command { result ≡ NoCommand → ⊥ }
+    ensures status { may_end Change (status_of result) ≡ true }
     ensures slots { S.slot_faults site.new ≡ S.slot_faults site.old }
 {
     match reply_to_input(alloc, source) {

@@ -1,3 +1,4 @@
 pub mod RequestCodec
 pub mod Refusals
 pub mod SddlReplies
+pub mod Ends

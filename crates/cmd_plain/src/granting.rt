@@ -1,9 +1,11 @@
 //! The command `access`: the rights that a descriptor grants to a token.
 
-ghost use Rattle.std.specs.Prelude.{◌≡◌, IfOk, IfErr, IsErrOf};
+ghost use Rattle.std.specs.Prelude.{◌≡◌, true, IfOk, IfErr, IsErrOf};
 ghost use Rattle.site_io.specs.Counts.{HasRisen};
-ghost use Rattle.cmd_call.specs.Outcome.{IsEarly};
-ghost use Rattle.cmd_call.specs.declared.outcome.Outcome.TheVariants.{NoCommand, SourceFailed, SiteFailed};
+ghost use Rattle.cmd_call.specs.Outcome.{status_of, IsEarly};
+ghost use Rattle.cmd_call.specs.declared.outcome.Outcome.TheVariants.{SourceFailed, SiteFailed};
+ghost use Rattle.cmd_words.specs.Command.CommandValue.{Access};
+ghost use Rattle.cmd_words.specs.Table.{may_end};
 ghost use Rattle.cmd_plain.specs.Access.{IsGrantedMask, access_line, Answers, IsQuestion, IsLineFor, IsRefused};
 ghost use Rattle.cmd_plain.specs.Access.{AccessDoes};
 ghost use Rattle.cmd_plain.specs.RequestView.{question_seen};
@@ -104,7 +106,7 @@ pub fn access<I: Source, S: Site>(alloc: Global, source: &mut I, site: &mut S) -
         (I.faults source.new) }
     ensures site_failed { result ≡ SiteFailed → HasRisen (S.out_faults site.old)
         (S.out_faults site.new) }
-    ensures a_command { result ≡ NoCommand → ⊥ }
+    ensures status { may_end Access (status_of result) ≡ true }
     ensures slots { S.slot_faults site.new ≡ S.slot_faults site.old }
 {
     match answer_whole(alloc, source) {

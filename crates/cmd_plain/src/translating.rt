@@ -1,10 +1,12 @@
 //! The command `sddl`: the bytes of a descriptor that stands as a text, and its canonical text.
 
-ghost use Rattle.std.specs.Prelude.{◌≡◌, ◌<◌, ◌+◌, ℕ, List, length, IfOk, IfErr, IsErrOf};
+ghost use Rattle.std.specs.Prelude.{◌≡◌, true, ◌<◌, ◌+◌, ℕ, List, length, IfOk, IfErr, IsErrOf};
 ghost use Rattle.std.specs.String.{string_bytes};
 ghost use Rattle.site_io.specs.Counts.{HasRisen};
-ghost use Rattle.cmd_call.specs.Outcome.{IsStopped};
-ghost use Rattle.cmd_call.specs.declared.outcome.Outcome.TheVariants.{NoCommand, SourceFailed, SiteFailed};
+ghost use Rattle.cmd_call.specs.Outcome.{status_of, IsStopped};
+ghost use Rattle.cmd_call.specs.declared.outcome.Outcome.TheVariants.{SourceFailed, SiteFailed};
+ghost use Rattle.cmd_words.specs.Command.CommandValue.{Sddl};
+ghost use Rattle.cmd_words.specs.Table.{may_end};
 ghost use Rattle.cmd_plain.specs.Sddl.{SddlDoes, limit, text_of, word_of, refusal, lines_of};
 ghost use Rattle.cmd_plain.specs.SddlReply.{IsReply, IsReplyFor, ReadToEnd};
 
@@ -139,7 +141,7 @@ pub fn sddl<I: Source, S: Site>(alloc: Global, source: &mut I, site: &mut S) -> 
         (I.faults source.new) }
     ensures site_failed { result ≡ SiteFailed → HasRisen (S.out_faults site.old)
         (S.out_faults site.new) }
-    ensures a_command { result ≡ NoCommand → ⊥ }
+    ensures status { may_end Sddl (status_of result) ≡ true }
     ensures slots { S.slot_faults site.new ≡ S.slot_faults site.old }
 {
     match reply_to_input(alloc, source) {

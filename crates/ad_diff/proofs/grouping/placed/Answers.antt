@@ -16,5 +16,5 @@ loop-g-preserved c =
           (get_or c.args.objects.now c.loop-g.g-index none ∷ []))
           ∙ ap members (sym (take_more c.args.objects.now c.loop-g.g-index none c.loop-g-test.true));
       placed = c.in_ok-group.ensures.placed;
-      used = c.in_ok-group.ensures.used;
+      numbered = c.in_ok-group.ensures.numbered;
     }

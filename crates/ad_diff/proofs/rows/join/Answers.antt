@@ -1,6 +1,6 @@
 use Rattle.std.proofs.Common.{length, ap}
 use Rattle.ad_diff.proofs.Groups.{rows_more}
-use Rattle.ad_diff.proofs.Used.{used_more}
+use Rattle.ad_diff.proofs.Used.{numbered_more}
 use Rattle.ad_diff.proofs.rows.join.Goals as goal
 
 pub returns-clause-rows : goal.returns-clause-rows
@@ -10,7 +10,7 @@ returns-clause-rows c = rows_more c.args.frame.now c.args.columns.now c.args.row
     (record { both = c.args.principal; group = c.in_ok-group.group }) c.in_ok-group.ensures c.requires.rows
     (ap length c.as_slice-place.ensures.value) c.in_ok-push.ensures.items
 
-pub returns-clause-used : goal.returns-clause-used
-returns-clause-used c = used_more (length c.args.rows.now.leaders.items) (length c.group_of.new.leaders.items)
+pub returns-clause-numbered : goal.returns-clause-numbered
+returns-clause-numbered c = numbered_more (length c.args.rows.now.leaders.items) (length c.group_of.new.leaders.items)
     c.args.rows.now.groups.items c.push.new.self.items c.args.principal c.in_ok-group.group
-    c.in_ok-group.ensures.count c.requires.used c.in_ok-push.ensures.items
+    c.in_ok-group.ensures.count c.group_fits.ensures c.requires.numbered c.in_ok-push.ensures.items

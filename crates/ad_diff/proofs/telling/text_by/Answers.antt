@@ -57,7 +57,7 @@ returns c =
     c.in_ok-placing.ensures.placed
     (subst (λ (cs : List Column). AreRows frame cs rows.leaders.items rows.groups.items) c.as_slice-3.ensures.value
     c.in_ok-rows.ensures.rows)
-    c.in_ok-placing.ensures.used c.in_ok-rows.ensures.used
+    c.in_ok-placing.ensures.numbered c.in_ok-rows.ensures.numbered
     (c.in_ok-rows.ensures.members ∙ c.requires.principals)
     (c.in_ok-placing.ensures.members ∙ ap members c.as_slice-2.ensures.value ∙ c.in_ok-families.ensures.members
     ∙ c.requires.objects) is)

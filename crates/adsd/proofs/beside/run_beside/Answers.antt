@@ -1,45 +1,49 @@
-use Rattle.std.proofs.Common.{◌≡◌, ◌∙◌, inl, Bool, true, false, map, refl, sym, subst}
+use Rattle.std.proofs.Common.{◌≡◌, ◌∙◌, ℕ, None, Some, Option, map, ap, refl, sym, subst}
+use Rattle.std.specs.Option.{option_map}
 use Rattle.std.specs.String.{string_bytes}
-use Rattle.cmd_call.specs.declared.outcome.Outcome.{Outcome}
-use Rattle.adsd.specs.Words.{is_form}
-use Rattle.adsd.specs.Beside.{is_diff_form, is_form_beside, DoesBeside}
-use Rattle.adsd.proofs.Forms.{not_two, not_four, is_five, clash, with_other, without_other}
+use Rattle.cmd_call.specs.Outcome.{status_of}
+use Rattle.cmd_call.specs.declared.outcome.Outcome.TheVariants.{NoCommand}
+use Rattle.cmd_words.specs.Command.{CommandValue, value_of}
+use Rattle.cmd_words.specs.Forms.{command_of}
+use Rattle.adsd.proofs.Ends.{Promises, of_command, of_none}
 use Rattle.adsd.proofs.beside.run_beside.Goals as goal
 
-pub returns-then-is_diff_form : goal.returns-then-is_diff_form
-returns-then-is_diff_form g c =
-    let words = map string_bytes c.args.words.now in
-    let yes : is_diff_form words ≡ true = sym c.is_diff_form.ensures ∙ c.if-is_diff_form.true in
-    let does = subst (λ (b : Bool). DoesBeside g.I.Source g.S.Site g.T.Site b words c.args.source.now
-    c.args.source.now c.args.site.now c.diff.new.site c.args.other.now c.diff.new.other c.diff.result) (sym yes)
-    (refl, c.diff.ensures.does) in
-    let only = c.diff.ensures.does.only in
+pub returns-in-Some : goal.returns-in-Some
+returns-in-Some g c =
+    let is : Some (value_of c.in-Some.command) ≡ command_of (map string_bytes c.args.words.now) =
+    sym (ap (option_map value_of) c.in-Some.is) ∙ c.command_of.ensures.command in
+    let did = of_command g.I.Source g.S.Site g.T.Site (value_of c.in-Some.command) c.args.source.now c.run.new.source
+    c.args.site.now c.run.new.site c.args.other.now c.run.new.other c.run.result c.run.ensures in
+    let asked = subst (λ (asked : Option CommandValue). Promises g.I.Source g.S.Site g.T.Site asked c.args.source.now
+    c.run.new.source c.args.site.now c.run.new.site c.args.other.now c.run.new.other (status_of c.run.result))
+    is did in
+    let p = subst (λ (status : ℕ). Promises g.I.Source g.S.Site g.T.Site (command_of (map string_bytes c.args.words.now))
+    c.args.source.now c.run.new.source c.args.site.now c.run.new.site c.args.other.now c.run.new.other status)
+    (sym c.status.ensures) asked in
     record {
-      words = (
-        λ two. absurd (not_two c.diff.result only (sym c.status.ensures ∙ two)),
-        λ no. absurd (clash (is_form_beside words) (with_other (is_diff_form words) (is_form words) yes) no),
-      );
-      untouched = λ two. absurd (not_two c.diff.result only (sym c.status.ensures ∙ two));
-      does = (c.diff.result, c.status.ensures, does);
-      source_failed = λ four. absurd (not_four c.diff.result only (sym c.status.ensures ∙ four));
-      site_failed = λ five. c.diff.ensures.site_failed (is_five c.diff.result only (sym c.status.ensures ∙ five));
-      slots = λ store form. absurd (clash (is_diff_form words) yes form);
+      words = p.words;
+      untouched = p.untouched;
+      does = p.does;
+      source_failed = p.source_failed;
+      site_failed = p.site_failed;
+      slots = p.slots;
     }
 
-pub returns-else-is_diff_form : goal.returns-else-is_diff_form
-returns-else-is_diff_form g c =
-    let words = map string_bytes c.args.words.now in
-    let no : is_diff_form words ≡ false = sym c.is_diff_form.ensures ∙ c.if-is_diff_form.false in
-    let same : is_form_beside words ≡ is_form words = without_other (is_diff_form words) (is_form words) no in
-    let outcome : Outcome = c.run.ensures.does.0 in
-    let does = subst (λ (b : Bool). DoesBeside g.I.Source g.S.Site g.T.Site b words c.args.source.now
-    c.run.new.source c.args.site.now c.run.new.site c.args.other.now c.args.other.now outcome) (sym no)
-    (refl, c.run.ensures.does.2) in
+pub returns-in-None : goal.returns-in-None
+returns-in-None g c =
+    let is : None ≡ command_of (map string_bytes c.args.words.now) =
+    sym (ap (option_map value_of) c.in-None.is) ∙ c.command_of.ensures.command in
+    let asked = subst (λ (asked : Option CommandValue). Promises g.I.Source g.S.Site g.T.Site asked c.args.source.now
+    c.args.source.now c.args.site.now c.args.site.now c.args.other.now c.args.other.now (status_of NoCommand))
+    is (of_none g.I.Source g.S.Site g.T.Site c.args.source.now c.args.site.now c.args.other.now) in
+    let p = subst (λ (status : ℕ). Promises g.I.Source g.S.Site g.T.Site (command_of (map string_bytes c.args.words.now))
+    c.args.source.now c.args.source.now c.args.site.now c.args.site.now c.args.other.now c.args.other.now status)
+    (sym c.status-in-None.ensures) asked in
     record {
-      words = (λ two. same ∙ c.run.ensures.words.0 two, λ none. c.run.ensures.words.1 (sym same ∙ none));
-      untouched = λ two. let kept = c.run.ensures.untouched two in (kept.0, kept.1, refl);
-      does = (outcome, c.run.ensures.does.1, does);
-      source_failed = c.run.ensures.source_failed;
-      site_failed = λ five. inl (c.run.ensures.site_failed five);
-      slots = λ store form. c.run.ensures.slots store;
+      words = p.words;
+      untouched = p.untouched;
+      does = p.does;
+      source_failed = p.source_failed;
+      site_failed = p.site_failed;
+      slots = p.slots;
     }

@@ -1,0 +1,89 @@
+-- What the text of diff tells: the lines of an answer, and when they can be read back.
+use Rattle.std.specs.Prelude.{◌≡◌, ℕ, ◌+◌, true, ◌==◌, if◌then◌else◌, is_some, Option, Some, List, [], ◌∷◌, ◌++◌, IfSome}
+use Rattle.std.specs.Prelude.{slice_get, unwrap_or}
+use Rattle.std.specs.List.{AllByRecursion, flat_map}
+use Rattle.std.specs.Option.{option_map_or}
+use Rattle.ad_ids.specs.SidValue.{SidValue}
+use Rattle.ad_dn.specs.declared.rdn.Dn.{Dn}
+use Rattle.ad_schema.specs.declared.line.SchemaRecord.{SchemaRecord}
+use Rattle.ad_schema.specs.declared.info.AttrInfo.{AttrInfo}
+use Rattle.ad_schema.specs.declared.info.ClassInfo.{ClassInfo}
+use Rattle.ad_schema.specs.declared.info.RightInfo.{RightInfo}
+use Rattle.ad_schema.specs.Attributes.{attrs_of, rights_of}
+use Rattle.ad_schema.specs.Classes.{classes_of}
+use Rattle.ad_dir_model.specs.Directory.{Directory}
+use Rattle.ad_dir_model.specs.Objects.{numbers, Rise}
+use Rattle.ad_dir_model.specs.Identity.{self_sid}
+use Rattle.ad_diff_rights.specs.Both.{counterpart}
+use Rattle.ad_diff.specs.declared.numbering.Grouped.{Grouped}
+use Rattle.ad_diff.specs.Text.{IsDiffText}
+use Rattle.ad_text_laws.specs.Lines.{is_line, facts_of}
+use Rattle.ad_text_laws.specs.Printed.{HasForms, name_at}
+use Rattle.ad_text_laws.specs.Diff.{DiffLine, principal, object, block, only_before, only_after, diff_line_of, IsDiffLine}
+use Rattle.ad_text_laws.specs.Diff.{diff_text}
+
+-- The names of the schema have no line end. Those of attributes and classes never have; the cn of a right may be any
+-- bytes.
+pub record HasLineNames (schema : List SchemaRecord) : Type 0 where
+  pub attrs : (place : ℕ) → IfSome (slice_get (attrs_of schema) place) (λ (a : AttrInfo). is_line a.name ≡ true)
+  pub classes : (place : ℕ) → IfSome (slice_get (classes_of schema) place) (λ (c : ClassInfo). is_line c.name ≡ true)
+  pub rights : AllByRecursion (λ (r : RightInfo). is_line r.name ≡ true) (rights_of schema)
+
+-- what is needed of each of the two directories
+pub record IsTellable (dir : Directory) : Type 0 where
+  pub forms : HasForms dir
+  pub rise : Rise dir.objects
+  pub names : HasLineNames dir.schema
+
+-- ---- groups
+
+-- a principal in a group but 0: the number of the group, its identifier and its name
+abbrev pub principal_told : Directory → Grouped → List DiffLine
+principal_told after g =
+    if g.group == 0 then []
+    else option_map_or (λ (sid : SidValue). principal g.group sid (name_at after g.both.after) ∷ [])
+    (self_sid after g.both.after) []
+
+-- an object in a group but 0: the number of the group and its name
+abbrev pub object_told : Directory → Grouped → List DiffLine
+object_told after g = if g.group == 0 then [] else object g.group (name_at after g.both.after) ∷ []
+
+-- ---- differences
+
+-- of a group of each, where there are any: the numbers of both, and what is gained and lost
+abbrev pub cell_told : ℕ → ℕ → List ℕ → List DiffLine
+cell_told objects principals [] = []
+cell_told objects principals (b ∷ bytes) =
+    block principals objects ∷ unwrap_or (facts_of diff_line_of (b ∷ bytes)) []
+
+-- of the groups of principals from this number on
+unfoldable pub row_told : ℕ → ℕ → List (List ℕ) → List DiffLine
+row_told objects principals [] = []
+row_told objects principals (lines ∷ others) =
+    cell_told objects principals lines ++ row_told objects (principals + 1) others
+
+-- of the groups of objects from this number on
+unfoldable pub table_told : ℕ → List (List (List ℕ)) → List DiffLine
+table_told objects [] = []
+table_told objects (row ∷ rows) = row_told objects 0 row ++ table_told (objects + 1) rows
+
+-- ---- what isn't compared
+
+abbrev pub only_told : (Dn → DiffLine) → Directory → Directory → ℕ → List DiffLine
+only_told make dir other number = if is_some (counterpart dir other number) then [] else make (name_at dir number) ∷ []
+
+-- ---- all
+
+abbrev pub lines_told : Directory → Directory → List Grouped → List Grouped → List (List (List ℕ)) → List DiffLine
+lines_told before after principals objects table =
+    flat_map (principal_told after) principals
+    ++ (flat_map (object_told after) objects
+    ++ (table_told 0 table
+    ++ (flat_map (only_told only_before before after) (numbers before.objects)
+    ++ flat_map (only_told only_after after before) (numbers after.objects))))
+
+-- The text is of the lines of its answer, and reads back to them.
+pub record IsRead (before after : Directory) (text : List ℕ) (told : IsDiffText before after text) : Type 0 where
+  pub form : AllByRecursion IsDiffLine (lines_told before after told.principals told.objects told.table)
+  pub lines : text ≡ diff_text (lines_told before after told.principals told.objects told.table)
+  pub read : facts_of diff_line_of text ≡ Some (lines_told before after told.principals told.objects told.table)

@@ -1,0 +1,4 @@
+pub mod Size
+pub mod Command
+pub mod Forms
+pub mod Table
