@@ -1,9 +1,13 @@
-"""What docs/claims.md says of each crate."""
+"""The sections of docs/claims.md: what each crate claims, by the sentences of its front page, and the clause that carries it, by
+docs/claims.txt."""
 
 import os
 import re
 
-from specs import CRATES, TOP, House, text_of
+import front
+import generated
+from specs import TOP, House, text_of
+from trust import wrapped
 
 
 class Crate:
@@ -40,12 +44,21 @@ class Crate:
         self.names.update(self.clauses)
 
 
-def sections(text):
-    """Each crate's section: its name and its lines, joined to bullets and other paragraphs."""
-    for part in re.split(r"^## ", text, flags=re.M)[1:]:
+LINE = re.compile(r"^(?:(\d+)(?:-(\d+))?|(\+)) (.*)$")
+
+
+def sections():
+    """Each crate of docs/claims.txt with its lines: the numbers of sentences that one is about, none for a claim of its own; and the text."""
+    for part in re.split(r"^## ", text_of(os.path.join(TOP, "docs/claims.txt")), flags=re.M)[1:]:
         head, _, body = part.partition("\n")
-        blocks = re.split(r"\n(?=- )|\n\n", body)
-        yield head.strip(), [" ".join(block.split()) for block in blocks if block.strip()]
+        lines = []
+        for line in filter(None, body.split("\n")):
+            match = LINE.match(line)
+            if not match:
+                raise SystemExit(f"docs/claims.txt, {head}: neither a sentence's number nor +: {line}")
+            first = int(match[1]) if match[1] else 0
+            lines.append((range(first, int(match[2] or first) + 1) if first else range(0), match[4]))
+        yield head.strip(), lines
 
 
 def words_of(block):
@@ -55,42 +68,52 @@ def words_of(block):
             yield code, [part for part in code.split("::") if part]
 
 
-def faults_of(name, blocks, crate, others):
-    found, general = [], set()
-    for block in blocks:
-        called = set()
-        for code, parts in words_of(block):
-            for part in parts:
-                if part not in crate.names and part not in others:
-                    found.append(f"docs/claims.md, {name}: `{code}` isn't found in the code")
-                    break
-            called.update(part for part in parts if part in crate.clauses)
-        if not block.startswith("- "):
-            general |= called
-        own = set().union(*(crate.clauses[it] for it in called), *(crate.clauses[it] for it in general))
-        every = set().union(*crate.clauses.values()) if block.startswith("- All") or not called else own
-        for clause in re.findall(r"(?<!\*)\*(\w+)\*(?!\*)", block):
-            if clause not in own | every:
-                found.append(f"docs/claims.md, {name}: no contract that is named there has a clause *{clause}*: {block[:70]}")
-    return found
+def faults_of(name, line, crate, others):
+    """What a line names that the crate doesn't have, and the clauses that no contract has which it names."""
+    called = set()
+    for code, parts in words_of(line):
+        for part in parts:
+            if part not in crate.names and part not in others:
+                yield f"docs/claims.txt, {name}: `{code}` isn't found in the code"
+                break
+        called.update(part for part in parts if part in crate.clauses)
+    known = set().union(*(crate.clauses[it] for it in called or crate.clauses))
+    for clause in re.findall(r"(?<!\*)\*(\w+)\*(?!\*)", line):
+        if clause not in known:
+            yield f"docs/claims.txt, {name}: no contract that is named there has a clause *{clause}*: {line[:70]}"
 
 
-def faults():
-    text = text_of(os.path.join(TOP, "docs/claims.md"))
+def made(name, lines, found):
+    """The crate's section of docs/claims.md."""
+    proved = front.sentences(front.page(name).get("Proved", ""))
+    told = [at for numbers, _ in lines for at in numbers]
+    if told != list(range(1, len(proved) + 1)):
+        found.append(f"docs/claims.txt, {name}: it tells the sentences {told}, and its front page has {len(proved)} under '# Proved'")
+    text = [f"## {name}", ""]
+    for numbers, carried in lines:
+        claim = " ".join(proved[at - 1] for at in numbers if at <= len(proved))
+        line = (claim if carried == "-" else f"{claim} → {carried}") if claim else carried
+        text += wrapped("- " + line.rstrip(".") + ".")
+    return text + [""]
+
+
+def faults(writes):
     house = House()
     crates = {name: Crate(house, name) for name in house.crates}
     known = set().union(*(crate.names for crate in crates.values()))
     for below in house.crates.values():
         known.update(below)
-    known |= {"Ok", "Err", "Some", "None", "Option", "Result", "Vec", "IntoIterator", "Eq", "PartialEq", "usize", "true", "false", "self", "rt", "main"}
-    found, told = [], set()
-    for name, blocks in sections(text):
-        told.add(name)
-        if name in crates:
-            found += faults_of(name, blocks, crates[name], known)
+    known |= {"Ok", "Err", "Some", "None", "Option", "Result", "Vec", "IntoIterator", "Eq", "PartialEq", "usize", "true", "false", "self", "rt", "main", "eq"}
+    found, page, told = [], [], dict(sections())
+    for name in house.crates:
+        if name in told:
+            found += [fault for _, line in told[name] for fault in faults_of(name, line, crates[name], known)]
+            page += made(name, told[name], found)
+        elif not name.startswith("tests_"):
+            found.append(f"docs/claims.txt: there is nothing of {name}")
+    found += [f"docs/claims.txt: {name} is no crate of crates.txt" for name in told if name not in crates]
     promised = text_of(os.path.join(TOP, "README.md")).partition("## What is promised\n")[2].partition("\n## ")[0]
     for code, parts in words_of(promised):
         if any(part not in known for part in parts):
             found.append(f"README.md: `{code}` isn't found in the code")
-    found += [f"docs/claims.md: there is no section of {name}" for name in crates if name not in told and not name.startswith("tests_")]
-    return found
+    return found + generated.faults(os.path.join(TOP, "docs/claims.md"), "claims", page[:-1], writes)

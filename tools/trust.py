@@ -1,12 +1,17 @@
-"""What the contract of `run_beside` rests on: docs/trust.md."""
+"""What the answer of each command rests on: docs/trust.md."""
 
 import os
 import re
 
 import generated
-from specs import CRATES, TOP, House, crates, text_of
+from specs import TOP, House, crates, text_of
 
 WIDTH = 120
+SEEN = [("site_io", "Source"), ("site_io", "Site")]
+# The commands that share what a file is for: it stands in the first of these lists, else with each command by itself.
+PLAIN = ("access", "sddl", "change")
+MAKING = ("load", "sample")
+SERVING = ("audit", "sample", "serve")
 
 
 def wrapped(line):
@@ -21,32 +26,32 @@ def wrapped(line):
     return rows + [row]
 
 
-def about_code(code, names):
-    """What stands above these types in the code."""
+def records(house):
+    """The record of each command, as the clause *does* of `run_beside` names it: the command's word, and where the record stands."""
+    brought = house.specs["adsd/specs/Commands.antt"].imports
+    return {name[:-4].lower(): {name: where} for name, where in brought.items() if name.endswith("Does") and name != "Does"}
+
+
+def exports(house):
+    """What stands before the bodies of the exports for C, and what their files bring in."""
+    heads, brought = [], {}
+    for file, code in house.code.items():
+        if file.startswith("adsd_c/"):
+            found = re.findall(r"^pub extern \"C\" fn .*?^\{", code.text, re.M | re.S)
+            heads += found
+            brought.update(code.imports if found else {})
+    return "\n".join(heads), brought
+
+
+def line_of(house, files):
+    """Files by their crates, top down: those of specs/ by their names, those of src/ with their endings."""
     told = []
-    for name in sorted(names):
-        match = re.search(rf"((?:^[ ]*///.*\n)*)(?:^#\[.*\n)*^(?:pub(?:\([^)]*\))? )?(?:struct|enum|trait|type) {name}\b", code.text, re.M)
-        lines = [line.strip()[3:].strip() for line in match[1].split("\n")] if match else []
-        text = " ".join(lines).strip()
-        text = re.split(r"(?<=[.:])\s", text)[0].rstrip(".:") if text else ""
-        told.append(f"`{name}`" + (f" ({text})" if text else ""))
-    return "the types " + ", ".join(told) if len(told) > 1 else "the type " + told[0]
-
-
-def line_of(house, file, names):
-    crate, _, short = file.partition("/")
-    link = f"[`{short}`](../crates/{file})"
-    if file in house.code:
-        return f"- {link}: {about_code(house.code[file], names)}"
-    specs = house.specs[file]
-    missing = set(specs.items) - names
-    if not missing:
-        told = "all of it" if len(names) > 1 else f"`{min(names)}`"
-    elif len(missing) < 4:
-        told = "all but " + ", ".join(f"`{name}`" for name in sorted(missing))
-    else:
-        told = ", ".join(f"`{name}`" for name in sorted(names))
-    return f"- {link}: {specs.about.rstrip('.')}. ({told})"
+    for crate in reversed(list(house.crates)):
+        own = sorted((file for file in files if file.split("/")[0] == crate), key=lambda file: ("/src/" in file, file))
+        if own:
+            names = [re.sub(r"^\w+/(?:specs|src)/|\.antt$", "", file) for file in own]
+            told.append(f"[`{crate}`](../crates/{crate}) " + " ".join(f"`{name}`" for name in names))
+    return "; ".join(told)
 
 
 def ports():
@@ -58,28 +63,50 @@ def ports():
     return [f"docs/trust.md: the toolchain's {name} isn't told" for name in sorted(found)]
 
 
+def lists(house):
+    """For each command, and for the library, what is reached; and the toolchain's modules."""
+    code = house.code["adsd/src/beside.rt"]
+    whole, foreign = house.closure(dict(code.functions())["run_beside"], code.imports, SEEN)
+    reached = {word: house.closure(next(iter(brought)), brought, SEEN)[0] for word, brought in records(house).items()}
+    library, others = house.closure(*exports(house))
+    for module, names in others.items():
+        foreign.setdefault(module, set()).update(names)
+    return whole, reached, library, foreign
+
+
 def faults(writes):
     house = House()
-    code = house.code["adsd/src/beside.rt"]
-    head = dict(code.functions())["run_beside"]
-    reached, foreign = house.closure(head, code.imports, [("site_io", "Source"), ("site_io", "Site")])
-    found, lines = [], []
-    count = sum(len(names) for names in reached.values())
-    lines += wrapped(
-        f"The contract of `run_beside` rests on {count} definitions and types in {len(reached)} files of this repository. "
-        "Top down, with what each file says, and in brackets what of it is reached:"
-    )
-    for crate in reversed(list(house.crates)):
-        files = sorted((file for file in reached if file.split("/")[0] == crate), key=lambda file: ("/src/" in file, file))
-        if not files:
-            continue
-        lines += ["", f"### {crate}", ""]
-        for file in files:
-            if file in house.specs and not house.specs[file].about:
-                found.append(f"crates/{file}: it begins with no comment that says what it is about")
-            lines += wrapped(line_of(house, file, reached[file]))
-    lines += ["", "### Of the toolchain", ""]
-    for module in sorted(foreign):
-        names = ", ".join(f"`{name}`" for name in sorted(foreign[module]))
-        lines += wrapped(f"- `{module}`: {names}")
-    return found + ports() + generated.faults(os.path.join(TOP, "docs/trust.md"), "what run_beside rests on", lines, writes)
+    whole, reached, library, foreign = lists(house)
+    words = set(whole) - set().union(*map(set, reached.values()))
+    # Each group's files stand in its list and in none below it.
+    groups = [
+        ("Every command", list(reached)),
+        ("Every command over a store", [word for word in reached if word not in PLAIN]),
+        ("Every command over a store that is there", [word for word in reached if word not in PLAIN + MAKING]),
+        ("`audit`, `sample` and `serve`, which answer frames,", list(SERVING)),
+    ]
+    lines, shared = [], {word: set() for word in reached}
+
+    def point(head, files):
+        lines.extend(wrapped(f"- **{head}**: {line_of(house, files)}."))
+
+    size = sum(map(len, whole.values()))
+    lines += wrapped(f"In all `run_beside` rests on {size} definitions and types in {len(whole)} files of this repository.") + [""]
+    for head, members in groups:
+        common = set.intersection(*(set(reached[word]) - shared[word] for word in members))
+        for word in members:
+            shared[word] |= common
+        point(head if members == list(reached) else f"{head} besides", common | (words if members == list(reached) else set()))
+    lines.append("")
+    for word in sorted(reached):
+        size = sum(map(len, reached[word].values()))
+        point(f"`{word}`, {size} in {len(set(reached[word]) | words)} files, besides", set(reached[word]) - shared[word])
+    lines.append("")
+    point(f"The library for C, {sum(map(len, library.values()))} in {len(library)} files", set(library))
+    lines += ["", *wrapped("Of the toolchain: " + ", ".join(f"`{module[7:]}`" for module in sorted(foreign)) + ".")]
+    silent = [
+        f"crates/{file}: it begins with no comment that says what it is about"
+        for file in sorted({**whole, **library})
+        if file in house.specs and not house.specs[file].about
+    ]
+    return silent + ports() + generated.faults(os.path.join(TOP, "docs/trust.md"), "what answers rest on", lines, writes)
