@@ -28,7 +28,10 @@ def wrapped(line):
 
 def records(house):
     """The record of each command, as the clause *does* of `run_beside` names it: the command's word, and where the record stands."""
-    brought = house.specs["adsd/specs/Commands.antt"].imports
+    brought = {}
+    for file, specs in house.specs.items():
+        if file.startswith("adsd/"):
+            brought.update(specs.imports)
     return {name[:-4].lower(): {name: where} for name, where in brought.items() if name.endswith("Does") and name != "Does"}
 
 
