@@ -1,5 +1,6 @@
 """What an edit costs by the times of docs/proofs.md: what is proved anew after it, and how long that takes at least with any number
-of processors, which is the longest chain of crates above."""
+of processors, which is the longest chain of crates above. And what a first check of a crate costs where nothing is proved: it and all
+that it stands on."""
 
 import os
 import re
@@ -9,6 +10,8 @@ import sys
 from specs import TOP, crates, text_of
 
 ROW = re.compile(r"^\| `(\w+)` \|" + r" ([\d,]*) \|" * 6 + "$", re.M)
+# A room of docs/architecture.md, and a crate of it.
+ROOM, CRATE = re.compile(r"^### (.+)$", re.M), re.compile(r"^\| `(\w+)` \|", re.M)
 # So many commits the figures of docs/proofs.md are over.
 COMMITS = 372
 
@@ -57,6 +60,30 @@ def touched(commits, until):
     if said.returncode:
         sys.exit(said.returncode)
     return [set(re.findall(r"^crates/(\w+)/", commit, re.M)) for commit in said.stdout.split("\0")[1:]]
+
+
+def rooms(stands):
+    """The crates of each room of docs/architecture.md, and behind these the crates that are in none."""
+    parts = ROOM.split(text_of(os.path.join(TOP, "docs/architecture.md")))[1:]
+    found = {room: [it for it in CRATE.findall(text) if it in stands] for room, text in zip(parts[::2], parts[1::2])}
+    found = {room: names for room, names in found.items() if names}
+    found["none of them"] = [name for name in stands if not any(name in names for names in found.values())]
+    return found
+
+
+def first_checks():
+    """For each room what a first check of its cheapest and of its dearest crate costs, with all below; and what a first check in a
+    tree where these stand proved costs: of the crate alone."""
+    stands, took = crates(), measured()
+    higher = above(stands)
+    own = {name: took.get(name, (0, 0))[0] for name in stands}
+    whole = {name: own[name] + sum(own[it] for it in stands if name in higher[it]) for name in stands}
+    lines = ["room\tfrom\tto\tthe crate alone"]
+    for room, names in rooms(stands).items():
+        least, most = (pick(names, key=lambda name: whole[name]) for pick in (min, max))
+        alone = sorted(own[name] for name in names)
+        lines.append(f"{room}\t{whole[least]:,} s ({least})\t{whole[most]:,} s ({most})\t{alone[0]:,} to {alone[-1]:,} s")
+    return lines
 
 
 def mean(figures, edits):
