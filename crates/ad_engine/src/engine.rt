@@ -3,6 +3,7 @@
 ghost use Rattle.std.specs.Prelude.{◌≡◌, ◌↔◌, ◌<◌, [], true, false, IfSome, IfOk, OnOk, IsErr, IsErrOf};
 ghost use Rattle.site_io.specs.Counts.{HasRisen};
 ghost use Rattle.site_io.specs.Outside.{OnlyLooks, TouchesSlots};
+ghost use Rattle.gate_log.specs.Store.{IsOne};
 ghost use Rattle.gate_log.specs.declared.version.Version.TheVariants.{Two};
 ghost use Rattle.ad_dir_model.specs.Soundness.{IsSound};
 ghost use Rattle.ad_dir_model.specs.Steps.{EmptiesAfter, steps};

@@ -10,6 +10,7 @@ ghost use Rattle.ad_engine_store.specs.Tokens.{with_token, without_token};
 ghost use Rattle.ad_engine_store.specs.Bound.{HasRoom, IsBounded};
 ghost use Rattle.ad_engine_store.specs.Serving.{LeavesOldOrNew, LastsOn};
 ghost use Rattle.ad_engine_store.specs.Settling.{LastsAs};
+ghost use Rattle.ad_engine_store.specs.Standing.{Stands, StandsIn};
 ghost use Rattle.ad_engine.specs.Served.{Serves};
 ghost use Rattle.ad_engine_store.specs.Stepping.{made_by, MayCommit};
 
