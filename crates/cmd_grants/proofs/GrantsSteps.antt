@@ -234,8 +234,8 @@ module _ {I S : Type 0} (source : SourceGhosts I) (site : SiteGhosts S) where
   -- a part of a text was emitted
   given_part : (from to : I) (x z : S) (outcome : Outcome) → KeepsSlots site x z → IsPartlyGiven source site from x z
       → IsCut site x z outcome → Answers from to x z outcome
-  given_part from to x z outcome keeps partly (inl failed) = subst (Answers from to x z) (sym failed.0)
-      (answered_failed from to x z keeps (inr failed.1) partly)
+  given_part from to x z outcome keeps partly (inl gone) = subst (Answers from to x z) (sym gone.0)
+      (answered_failed from to x z keeps (inr gone.1) partly)
   given_part from to x z outcome keeps partly (inr memory) = subst (Answers from to x z) (sym memory)
       (answered_memory from to x z keeps partly)
 
@@ -285,8 +285,8 @@ module _ {I S : Type 0} (source : SourceGhosts I) (site : SiteGhosts S) where
 
   -- what was emitted since an earlier moment from which on nothing was
   cut_since : (x y z : S) (outcome : Outcome) → OnlyLooks site x y → IsCut site y z outcome → IsCut site x z outcome
-  cut_since x y z outcome looks (inl failed) = inl
-      (failed.0, subst (λ (k : ℕ). HasRisen k (site.out_faults z)) looks.out_faults failed.1)
+  cut_since x y z outcome looks (inl gone) = inl
+      (gone.0, subst (λ (k : ℕ). HasRisen k (site.out_faults z)) looks.out_faults gone.1)
   cut_since x y z outcome looks (inr memory) = inr memory
 
   ended_since : (x y z : S) (text : List ℕ) (next outcome : Outcome) → OnlyLooks site x y
