@@ -128,6 +128,7 @@ fn reply_to_input<I: Source>(alloc: Global, source: &mut I) -> Result<Reply, Out
     ensures source_failed { IsErrOf result Outcome.SourceFailed → HasRisen (I.faults source.old)
         (I.faults source.new) }
     ensures only { IfErr result (λ outcome. IsStopped outcome) }
+    ensures status { IfErr result (λ outcome. may_end Change (status_of outcome) ≡ true) }
 {
     match read_whole(alloc, source, MAX_INPUT_BYTES) {
         Ok(Some(input)) => Ok(reply_to(alloc, &input)?),
