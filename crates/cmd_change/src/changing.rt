@@ -1,6 +1,7 @@
 //! Change records as frames for `serve`.
 
-ghost use Rattle.std.specs.Prelude.{◌≡◌, true, ◌++◌, ◌<◌, ◌≤◌, ℕ, List, length, if◌then◌else◌, IfOk, IfErr, IsErrOf, OnOk};
+ghost use Rattle.std.specs.Prelude.{◌≡◌, ◌++◌, ◌<◌, ◌≤◌, ℕ, List, length, if◌then◌else◌, IfOk, IfErr, IsErrOf, OnOk};
+ghost use Rattle.std.specs.Prelude.{true};
 ghost use Rattle.site_io.specs.Counts.{HasRisen};
 ghost use Rattle.ad_ldif.specs.Change.{change_seen};
 ghost use Rattle.ad_ldif.specs.Ranges.{HasItemOps};
