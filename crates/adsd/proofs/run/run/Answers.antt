@@ -39,14 +39,14 @@ returns-in-Serve g c =
 pub returns-in-Settle : goal.returns-in-Settle
 returns-in-Settle g c =
     deaf g.I.Source g.S.Site g.T.Site c.args.command.now _ c.args.source.now c.args.site.now c.settle.new.site
-    c.args.other.now c.args.other.now c.settle.result c.in-Settle.is (c.settle.ensures.does, (refl, refl)) refl
+    c.args.other.now c.args.other.now c.settle.result c.in-Settle.is (c.settle.ensures.does, refl, refl) refl
     (of_store c.settle.result c.settle.ensures.does.only) refl (λ failed. inl (c.settle.ensures.site_failed
     failed))
 
 pub returns-in-Check : goal.returns-in-Check
 returns-in-Check g c =
     deaf g.I.Source g.S.Site g.T.Site c.args.command.now _ c.args.source.now c.args.site.now c.check.new.site
-    c.args.other.now c.args.other.now c.check.result c.in-Check.is (c.check.ensures.does, (refl, refl)) refl
+    c.args.other.now c.args.other.now c.check.result c.in-Check.is (c.check.ensures.does, refl, refl) refl
     (of_store c.check.result c.check.ensures.does.only) refl (λ failed. inl (c.check.ensures.site_failed failed))
 
 pub returns-in-Audit : goal.returns-in-Audit
@@ -67,7 +67,7 @@ returns-in-Grants g c =
 pub returns-in-List : goal.returns-in-List
 returns-in-List g c =
     deaf g.I.Source g.S.Site g.T.Site c.args.command.now _ c.args.source.now c.args.site.now c.list.new.site
-    c.args.other.now c.args.other.now c.list.result c.in-List.is (c.list.ensures.does, (refl, refl)) refl (of_list
+    c.args.other.now c.args.other.now c.list.result c.in-List.is (c.list.ensures.does, refl, refl) refl (of_list
     c.list.result c.list.ensures.does.only) refl (λ failed. inl (c.list.ensures.site_failed failed))
 
 pub returns-in-Effective : goal.returns-in-Effective
@@ -80,19 +80,19 @@ returns-in-Effective g c =
 pub returns-in-Token : goal.returns-in-Token
 returns-in-Token g c =
     deaf g.I.Source g.S.Site g.T.Site c.args.command.now _ c.args.source.now c.args.site.now c.token.new.site
-    c.args.other.now c.args.other.now c.token.result c.in-Token.is (c.token.ensures.does, (refl, refl)) refl
+    c.args.other.now c.args.other.now c.token.result c.in-Token.is (c.token.ensures.does, refl, refl) refl
     (of_list c.token.result c.token.ensures.does.only) refl (λ failed. inl (c.token.ensures.site_failed failed))
 
 pub returns-in-Who : goal.returns-in-Who
 returns-in-Who g c =
     deaf g.I.Source g.S.Site g.T.Site c.args.command.now _ c.args.source.now c.args.site.now c.who.new.site
-    c.args.other.now c.args.other.now c.who.result c.in-Who.is (c.who.ensures.does, (refl, refl)) refl (of_list
+    c.args.other.now c.args.other.now c.who.result c.in-Who.is (c.who.ensures.does, refl, refl) refl (of_list
     c.who.result c.who.ensures.does.only) refl (λ failed. inl (c.who.ensures.site_failed failed))
 
 pub returns-in-Can : goal.returns-in-Can
 returns-in-Can g c =
     deaf g.I.Source g.S.Site g.T.Site c.args.command.now _ c.args.source.now c.args.site.now c.can.new.site
-    c.args.other.now c.args.other.now c.can.result c.in-Can.is (c.can.ensures.does, (refl, refl)) refl (of_list
+    c.args.other.now c.args.other.now c.can.result c.in-Can.is (c.can.ensures.does, refl, refl) refl (of_list
     c.can.result c.can.ensures.does.only) refl (λ failed. inl (c.can.ensures.site_failed failed))
 
 pub returns-in-Diff : goal.returns-in-Diff
@@ -104,6 +104,6 @@ returns-in-Diff g c =
 pub returns-in-Sample : goal.returns-in-Sample
 returns-in-Sample g c =
     deaf g.I.Source g.S.Site g.T.Site c.args.command.now _ c.args.source.now c.args.site.now c.sample.new.site
-    c.args.other.now c.args.other.now c.sample.result c.in-Sample.is (c.sample.ensures.does, (refl, refl)) refl
+    c.args.other.now c.args.other.now c.sample.result c.in-Sample.is (c.sample.ensures.does, refl, refl) refl
     (of_sample c.sample.result c.sample.ensures.does.only) refl (λ failed. inl (c.sample.ensures.site_failed
     failed))
