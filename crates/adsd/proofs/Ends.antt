@@ -1,5 +1,6 @@
 -- How a command ends that the words ask for, and what its status says then.
-use Rattle.std.proofs.Common.{◌≡◌, ◌∙◌, ℕ, true, false, List, [], ◌∷◌, Option, Some, None, inl, inr, refl, sym, ap, arith}
+use Rattle.std.proofs.Common.{◌≡◌, ◌∙◌, ℕ, true, false, List, [], ◌∷◌, Option, Some, None, inl, inr, refl, sym, ap}
+use Rattle.std.proofs.Common.{subst, arith}
 use Rattle.std.specs.Prelude.{◌↔◌, ◌⊎◌}
 use Rattle.site_io.specs.Counts.{HasRisen}
 use Rattle.site_io.specs.declared.source.Source.{Ghosts as SourceGhosts}
@@ -10,9 +11,10 @@ use Rattle.cmd_call.specs.declared.outcome.Outcome.TheVariants.{TooMany, SourceF
 use Rattle.cmd_call.specs.Outcome.{status_of, IsOfStore, IsOfList, IsOfLoad, IsOfServe, IsOfEffective}
 use Rattle.cmd_call.specs.Store.{HasFailed}
 use Rattle.cmd_store_serve.specs.Outcome.{IsOfSample}
-use Rattle.cmd_words.specs.Command.{CommandValue}
-use Rattle.cmd_words.specs.Command.CommandValue.{Access, Sddl, Change, Load, Serve, Settle, Check, Audit, Grants, Listing}
-use Rattle.cmd_words.specs.Command.CommandValue.{Effective, Token, Who, Can, Diff, Sample}
+use Rattle.cmd_words.specs.declared.command.Command.{Command}
+use Rattle.cmd_words.specs.Command.{CommandValue, value_of}
+use Rattle.cmd_words.specs.Command.CommandValue.{Access, Sddl, Change, Load, Serve, Settle, Check, Audit, Grants}
+use Rattle.cmd_words.specs.Command.CommandValue.{Listing, Effective, Token, Who, Can, Diff, Sample}
 use Rattle.cmd_words.specs.Table.{has_store, may_end, is_among}
 use Rattle.adsd.specs.Commands.{Rules, CommandDoes, Does}
 
@@ -99,7 +101,8 @@ of_load SourceFailed only = refl
 of_load SiteFailed only = refl
 of_load NoMemory only = refl
 
-pub of_serve : (outcome : Outcome) → IsOfServe outcome → is_among (0 ∷ 1 ∷ 3 ∷ 4 ∷ 5 ∷ 6 ∷ 7 ∷ []) (status_of outcome) ≡ true
+pub of_serve : (outcome : Outcome) → IsOfServe outcome
+    → is_among (0 ∷ 1 ∷ 3 ∷ 4 ∷ 5 ∷ 6 ∷ 7 ∷ []) (status_of outcome) ≡ true
 of_serve Done only = refl
 of_serve NotOfForm only = refl
 of_serve NoCommand only = absurd only
@@ -110,7 +113,8 @@ of_serve SourceFailed only = refl
 of_serve SiteFailed only = refl
 of_serve NoMemory only = refl
 
-pub of_effective : (outcome : Outcome) → IsOfEffective outcome → is_among (0 ∷ 1 ∷ 3 ∷ 4 ∷ 5 ∷ 6 ∷ []) (status_of outcome) ≡ true
+pub of_effective : (outcome : Outcome) → IsOfEffective outcome
+    → is_among (0 ∷ 1 ∷ 3 ∷ 4 ∷ 5 ∷ 6 ∷ []) (status_of outcome) ≡ true
 of_effective Done only = refl
 of_effective NotOfForm only = refl
 of_effective NoCommand only = absurd only
@@ -133,55 +137,66 @@ of_sample SiteFailed only = refl
 of_sample NoMemory only = refl
 
 module _ {I S T : Type 0} (source : SourceGhosts I) (site : SiteGhosts S) (other : SiteGhosts T) where
-  -- ---- what a command did, by what its own call says
+  -- ---- what a command did, by what its own call says: the code's, which is at one of its variants
+
+  at : (code command : Command) (from to : I) (old new : S) (before after : T) (outcome : Outcome) → code ≡ command
+      → CommandDoes source site other (value_of command) from to old new before after outcome
+      → CommandDoes source site other (value_of code) from to old new before after outcome
+  at code command from to old new before after outcome is did =
+      subst (λ (c : Command). CommandDoes source site other (value_of c) from to old new before after outcome) (sym is)
+      did
 
   -- without a store
-  pub apart : (command : CommandValue) (from to : I) (old new : S) (before : T) (outcome : Outcome)
-      → Rules source site other command from to old new before before outcome
-      → may_end command (status_of outcome) ≡ true
+  pub apart : (code command : Command) (from to : I) (old new : S) (before : T) (outcome : Outcome) → code ≡ command
+      → Rules source site other (value_of command) from to old new before before outcome
+      → may_end (value_of command) (status_of outcome) ≡ true
       → (outcome ≡ SourceFailed → HasRisen (source.faults from) (source.faults to))
       → (outcome ≡ SiteFailed → HasRisen (site.out_faults old) (site.out_faults new))
       → site.slot_faults new ≡ site.slot_faults old
-      → CommandDoes source site other command from to old new before before outcome
-  apart command from to old new before outcome rules status source_failed site_failed slots = record {
-    rules = rules;
-    status = status;
-    source_failed = source_failed;
-    site_failed = λ is. inl (inr (site_failed is));
-    slots = λ lacks. (slots, site_failed);
-  }
+      → CommandDoes source site other (value_of code) from to old new before before outcome
+  apart code command from to old new before outcome is rules status source_failed site_failed slots =
+      at code command from to old new before before outcome is (record {
+        rules = rules;
+        status = status;
+        source_failed = source_failed;
+        site_failed = λ failed. inl (inr (site_failed failed));
+        slots = λ lacks. (slots, site_failed);
+      })
 
   -- over a store, where the input is read
-  pub reading : (command : CommandValue) (from to : I) (old new : S) (before : T) (outcome : Outcome)
-      → Rules source site other command from to old new before before outcome
-      → has_store (Some command) ≡ true
-      → may_end command (status_of outcome) ≡ true
+  pub reading : (code command : Command) (from to : I) (old new : S) (before : T) (outcome : Outcome) → code ≡ command
+      → Rules source site other (value_of command) from to old new before before outcome
+      → has_store (Some (value_of command)) ≡ true
+      → may_end (value_of command) (status_of outcome) ≡ true
       → (outcome ≡ SourceFailed → HasRisen (source.faults from) (source.faults to))
       → (outcome ≡ SiteFailed → HasFailed site old new)
-      → CommandDoes source site other command from to old new before before outcome
-  reading command from to old new before outcome rules has status source_failed site_failed = record {
-    rules = rules;
-    status = status;
-    source_failed = source_failed;
-    site_failed = λ is. inl (site_failed is);
-    slots = λ lacks. let clash : true ≡ false = sym has ∙ lacks in cc;
-  }
+      → CommandDoes source site other (value_of code) from to old new before before outcome
+  reading code command from to old new before outcome is rules has status source_failed site_failed =
+      at code command from to old new before before outcome is (record {
+        rules = rules;
+        status = status;
+        source_failed = source_failed;
+        site_failed = λ failed. inl (site_failed failed);
+        slots = λ lacks. let clash : true ≡ false = sym has ∙ lacks in cc;
+      })
 
   -- over a store, or two, where it isn't
-  pub deaf : (command : CommandValue) (from : I) (old new : S) (before after : T) (outcome : Outcome)
-      → Rules source site other command from from old new before after outcome
-      → has_store (Some command) ≡ true
-      → may_end command (status_of outcome) ≡ true
-      → may_end command 4 ≡ false
+  pub deaf : (code command : Command) (from : I) (old new : S) (before after : T) (outcome : Outcome) → code ≡ command
+      → Rules source site other (value_of command) from from old new before after outcome
+      → has_store (Some (value_of command)) ≡ true
+      → may_end (value_of command) (status_of outcome) ≡ true
+      → may_end (value_of command) 4 ≡ false
       → (outcome ≡ SiteFailed → HasFailed site old new ⊎ HasRisen (other.slot_faults before) (other.slot_faults after))
-      → CommandDoes source site other command from from old new before after outcome
-  deaf command from old new before after outcome rules has status never site_failed = record {
-    rules = rules;
-    status = status;
-    source_failed = λ is. let clash : true ≡ false = sym status ∙ (ap (λ (o : Outcome). may_end command (status_of o)) is ∙ never) in cc;
-    site_failed = site_failed;
-    slots = λ lacks. let clash : true ≡ false = sym has ∙ lacks in cc;
-  }
+      → CommandDoes source site other (value_of code) from from old new before after outcome
+  deaf code command from old new before after outcome is rules has status never site_failed =
+      at code command from from old new before after outcome is (record {
+        rules = rules;
+        status = status;
+        source_failed = λ failed. let clash : true ≡ false = sym status
+            ∙ (ap (λ (o : Outcome). may_end (value_of command) (status_of o)) failed ∙ never) in cc;
+        site_failed = site_failed;
+        slots = λ lacks. let clash : true ≡ false = sym has ∙ lacks in cc;
+      })
 
   -- ---- what the status says
 

@@ -23,8 +23,8 @@ use Rattle.cmd_store_serve.specs.Sample.{SampleDoes}
 use Rattle.cmd_store.specs.Settle.{SettleDoes}
 use Rattle.cmd_store_serve.specs.serving.Does.{ServeDoes}
 use Rattle.cmd_words.specs.Command.{CommandValue}
-use Rattle.cmd_words.specs.Command.CommandValue.{Access, Sddl, Change, Load, Serve, Settle, Check, Audit, Grants, Listing}
-use Rattle.cmd_words.specs.Command.CommandValue.{Effective, Token, Who, Can, Diff, Sample}
+use Rattle.cmd_words.specs.Command.CommandValue.{Access, Sddl, Change, Load, Serve, Settle, Check, Audit, Grants}
+use Rattle.cmd_words.specs.Command.CommandValue.{Listing, Effective, Token, Who, Can, Diff, Sample}
 use Rattle.cmd_words.specs.Table.{has_store, may_end}
 
 module _ {I S T : Type 0} (source : SourceGhosts I) (site : SiteGhosts S) (other : SiteGhosts T) where

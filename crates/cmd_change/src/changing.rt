@@ -1,6 +1,7 @@
 //! Change records as frames for `serve`.
 
-ghost use Rattle.std.specs.Prelude.{◌≡◌, true, ◌++◌, ◌<◌, ◌≤◌, ℕ, List, length, if◌then◌else◌, IfOk, IfErr, IsErrOf, OnOk};
+ghost use Rattle.std.specs.Prelude.{◌≡◌, ◌++◌, ◌<◌, ◌≤◌, ℕ, List, length, if◌then◌else◌, IfOk, IfErr, IsErrOf, OnOk};
+ghost use Rattle.std.specs.Prelude.{true};
 ghost use Rattle.site_io.specs.Counts.{HasRisen};
 ghost use Rattle.ad_ldif.specs.Change.{change_seen};
 ghost use Rattle.ad_ldif.specs.Ranges.{HasItemOps};
@@ -128,6 +129,7 @@ fn reply_to_input<I: Source>(alloc: Global, source: &mut I) -> Result<Reply, Out
     ensures source_failed { IsErrOf result Outcome.SourceFailed → HasRisen (I.faults source.old)
         (I.faults source.new) }
     ensures only { IfErr result (λ outcome. IsStopped outcome) }
+    ensures status { IfErr result (λ outcome. may_end Change (status_of outcome) ≡ true) }
 {
     match read_whole(alloc, source, MAX_INPUT_BYTES) {
         Ok(Some(input)) => Ok(reply_to(alloc, &input)?),

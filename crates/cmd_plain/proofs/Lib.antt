@@ -1,4 +1,3 @@
 pub mod RequestCodec
 pub mod Refusals
 pub mod SddlReplies
-pub mod Ends

@@ -75,6 +75,7 @@ fn answer_whole<I: Source>(alloc: Global, source: &mut I) -> Result<[u8; 9], Out
     ensures source_failed { IsErrOf result Outcome.SourceFailed → HasRisen (I.faults source.old)
         (I.faults source.new) }
     ensures only { IfErr result (λ outcome. IsEarly outcome) }
+    ensures status { IfErr result (λ outcome. may_end Access (status_of outcome) ≡ true) }
 {
     let bytes = match read_whole(alloc, source, MAX_REQUEST_BYTES) {
         Ok(Some(bytes)) => bytes,

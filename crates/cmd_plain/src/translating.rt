@@ -113,6 +113,7 @@ fn reply_to_input<I: Source>(alloc: Global, source: &mut I) -> Result<Reply, Out
     ensures source_failed { IsErrOf result Outcome.SourceFailed → HasRisen (I.faults source.old)
         (I.faults source.new) }
     ensures only { IfErr result (λ outcome. IsStopped outcome) }
+    ensures status { IfErr result (λ outcome. may_end Sddl (status_of outcome) ≡ true) }
 {
     // One line end may stand after the longest text.
     match read_whole(alloc, source, MAX_TEXT_BYTES + 1) {

@@ -1,8 +1,8 @@
 -- What stands of each command: how it opens its stores, which these are, and with which statuses it may end.
 use Rattle.std.specs.Prelude.{ℕ, ◌==◌, Bool, false, ◌||◌, List, [], ◌∷◌, Option, Some, None, is_some}
 use Rattle.cmd_words.specs.Command.{CommandValue}
-use Rattle.cmd_words.specs.Command.CommandValue.{Access, Sddl, Change, Load, Serve, Settle, Check, Audit, Grants, Listing}
-use Rattle.cmd_words.specs.Command.CommandValue.{Effective, Token, Who, Can, Diff, Sample}
+use Rattle.cmd_words.specs.Command.CommandValue.{Access, Sddl, Change, Load, Serve, Settle, Check, Audit, Grants}
+use Rattle.cmd_words.specs.Command.CommandValue.{Listing, Effective, Token, Who, Can, Diff, Sample}
 use Rattle.cmd_words.specs.declared.command.Opening.{Opening}
 use Rattle.cmd_words.specs.declared.command.Opening.TheVariants.{NoStore, Makes, Writes, Reads}
 

@@ -10,14 +10,15 @@ use Rattle.adsd.proofs.beside.run_beside.Goals as goal
 
 pub returns-in-Some : goal.returns-in-Some
 returns-in-Some g c =
-    let is : Some (value_of c.in-Some.command) ≡ command_of (map string_bytes c.args.words.now) =
+    let words = map string_bytes c.args.words.now in
+    let is : Some (value_of c.in-Some.command) ≡ command_of words =
     sym (ap (option_map value_of) c.in-Some.is) ∙ c.command_of.ensures.command in
     let did = of_command g.I.Source g.S.Site g.T.Site (value_of c.in-Some.command) c.args.source.now c.run.new.source
     c.args.site.now c.run.new.site c.args.other.now c.run.new.other c.run.result c.run.ensures in
     let asked = subst (λ (asked : Option CommandValue). Promises g.I.Source g.S.Site g.T.Site asked c.args.source.now
     c.run.new.source c.args.site.now c.run.new.site c.args.other.now c.run.new.other (status_of c.run.result))
     is did in
-    let p = subst (λ (status : ℕ). Promises g.I.Source g.S.Site g.T.Site (command_of (map string_bytes c.args.words.now))
+    let p = subst (λ (status : ℕ). Promises g.I.Source g.S.Site g.T.Site (command_of words)
     c.args.source.now c.run.new.source c.args.site.now c.run.new.site c.args.other.now c.run.new.other status)
     (sym c.status.ensures) asked in
     record {
@@ -31,12 +32,13 @@ returns-in-Some g c =
 
 pub returns-in-None : goal.returns-in-None
 returns-in-None g c =
-    let is : None ≡ command_of (map string_bytes c.args.words.now) =
+    let words = map string_bytes c.args.words.now in
+    let is : None ≡ command_of words =
     sym (ap (option_map value_of) c.in-None.is) ∙ c.command_of.ensures.command in
     let asked = subst (λ (asked : Option CommandValue). Promises g.I.Source g.S.Site g.T.Site asked c.args.source.now
     c.args.source.now c.args.site.now c.args.site.now c.args.other.now c.args.other.now (status_of NoCommand))
     is (of_none g.I.Source g.S.Site g.T.Site c.args.source.now c.args.site.now c.args.other.now) in
-    let p = subst (λ (status : ℕ). Promises g.I.Source g.S.Site g.T.Site (command_of (map string_bytes c.args.words.now))
+    let p = subst (λ (status : ℕ). Promises g.I.Source g.S.Site g.T.Site (command_of words)
     c.args.source.now c.args.source.now c.args.site.now c.args.site.now c.args.other.now c.args.other.now status)
     (sym c.status-in-None.ensures) asked in
     record {
