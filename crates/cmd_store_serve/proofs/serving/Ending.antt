@@ -34,7 +34,7 @@ use Rattle.cmd_store_serve.proofs.serving.Reaching.{each_reached}
 use Rattle.cmd_store_serve.proofs.serving.Crashing.{longer, crash_at}
 use Rattle.cmd_store_open.proofs.Parts.{part_whole}
 use Rattle.cmd_store_serve.proofs.serving.Running.{AtMoment, AllMoments, Serving, output_is, moments_more}
-use Rattle.cmd_store_open.proofs.Parts.{part_more}
+use Rattle.cmd_store_open.proofs.Parts.{part_more, part_longer}
 use Rattle.cmd_store_open.proofs.Fronts.{Fronts, AreAll}
 use Rattle.cmd_store_open.proofs.Readying.{stands_for}
 
