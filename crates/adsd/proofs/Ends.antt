@@ -15,8 +15,9 @@ use Rattle.cmd_words.specs.declared.command.Command.{Command}
 use Rattle.cmd_words.specs.Command.{CommandValue, value_of}
 use Rattle.cmd_words.specs.Command.CommandValue.{Access, Sddl, Change, Load, Serve, Settle, Check, Audit, Grants}
 use Rattle.cmd_words.specs.Command.CommandValue.{Listing, Effective, Token, Who, Can, Diff, Sample}
-use Rattle.cmd_words.specs.Table.{has_store, may_end, is_among}
+use Rattle.cmd_words.specs.Table.{has_store, may_end, is_among, other_store_of}
 use Rattle.adsd.specs.Commands.{Rules, CommandDoes, Does}
+use Rattle.adsd.specs.NoSite.{no_site, over_one}
 
 -- ---- one status comes of one outcome
 
@@ -234,3 +235,62 @@ module _ {I S T : Type 0} (source : SourceGhosts I) (site : SiteGhosts S) (other
     site_failed = λ five. absurd (omega (arith, five));
     slots = λ lacks. (refl, λ five. absurd (omega (arith, five)));
   }
+
+  -- ---- one store at most
+
+  -- A command with one store at most does nothing to the second site, and so the same where there is none.
+  alone : (command : CommandValue) (from to : I) (old new : S) (before after : T) (outcome : Outcome)
+      → other_store_of command ≡ None → Rules source site other command from to old new before after outcome
+      → Rules source site no_site command from to old new tt tt outcome × (after ≡ before)
+  alone Access from to old new before after outcome one r = ((r.0, refl), r.1)
+  alone Sddl from to old new before after outcome one r = ((r.0, refl), r.1)
+  alone Change from to old new before after outcome one r = ((r.0, refl), r.1)
+  alone (Load store) from to old new before after outcome one r = ((r.0, refl), r.1)
+  alone (Serve store) from to old new before after outcome one r = ((r.0, refl), r.1)
+  alone (Settle store) from to old new before after outcome one r = ((r.0, r.1, refl), r.2)
+  alone (Check store) from to old new before after outcome one r = ((r.0, r.1, refl), r.2)
+  alone (Audit store) from to old new before after outcome one r = ((r.0, refl), r.1)
+  alone (Grants store) from to old new before after outcome one r = ((r.0, refl), r.1)
+  alone (Listing store name) from to old new before after outcome one r = ((r.0, r.1, refl), r.2)
+  alone (Effective store name) from to old new before after outcome one r = ((r.0, refl), r.1)
+  alone (Token store name sids) from to old new before after outcome one r = ((r.0, r.1, refl), r.2)
+  alone (Who store right name) from to old new before after outcome one r = ((r.0, r.1, refl), r.2)
+  alone (Can store name right base) from to old new before after outcome one r = ((r.0, r.1, refl), r.2)
+  alone (Diff store second) from to old new before after outcome one r = absurd (cc)
+  alone (Sample store size) from to old new before after outcome one r = ((r.0, r.1, refl), r.2)
+
+  -- a count that stands at 0 and stays as it is hasn't risen
+  never_risen : (before after : T) → after ≡ before → other.slot_faults before ≡ 0
+      → HasRisen (other.slot_faults before) (other.slot_faults after) → ⊥
+  never_risen before after same none (inl less) =
+      let still : other.slot_faults after ≡ other.slot_faults before = ap other.slot_faults same in omega (arith, less, still)
+  never_risen before after same none (inr end) =
+      let still : other.slot_faults after ≡ other.slot_faults before = ap other.slot_faults same in
+      let zero : 0 ≡ 2 ^ 64 - 1 = sym (still ∙ none) ∙ end in omega (arith, zero)
+
+  own_fault : (old new : S) (before after : T) → after ≡ before → other.slot_faults before ≡ 0
+      → HasFailed site old new ⊎ HasRisen (other.slot_faults before) (other.slot_faults after) → HasFailed site old new
+  own_fault old new before after same none (inl own) = own
+  own_fault old new before after same none (inr risen) = absurd (never_risen before after same none risen)
+
+  -- what it did, as there is no second site
+  by_itself : (command : CommandValue) (from to : I) (old new : S) (before after : T) (outcome : Outcome)
+      → other_store_of command ≡ None → other.slot_faults before ≡ 0
+      → CommandDoes source site other command from to old new before after outcome
+      → CommandDoes source site no_site command from to old new tt tt outcome
+  by_itself command from to old new before after outcome one none did =
+      let own = alone command from to old new before after outcome one did.rules in
+      record {
+        rules = own.0;
+        status = did.status;
+        source_failed = did.source_failed;
+        site_failed = λ failed. inl (own_fault old new before after own.1 none (did.site_failed failed));
+        slots = did.slots;
+      }
+
+-- no count rises where there is no site
+pub own_alone : {S : Type 0} (site : SiteGhosts S) (old new : S) → HasFailed site old new ⊎ HasRisen 0 0
+    → HasFailed site old new
+own_alone site old new (inl own) = own
+own_alone site old new (inr (inl less)) = absurd (omega (arith, less))
+own_alone site old new (inr (inr end)) = absurd (omega (arith, end))

@@ -1,7 +1,7 @@
 use Rattle.std.proofs.Common.{refl, subst, inl}
 use Rattle.cmd_words.specs.Command.{HasSize}
 use Rattle.adsd.proofs.Ends.{of_store, of_list, of_load, of_serve, of_effective, of_sample, apart, reading, deaf}
-use Rattle.adsd.proofs.run.run.Goals as goal
+use Rattle.adsd.proofs.command.run_command.Goals as goal
 
 pub sample-requires : goal.sample-requires
 sample-requires g c = subst HasSize c.in-Sample.is c.requires
