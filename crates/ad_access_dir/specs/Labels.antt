@@ -1,7 +1,6 @@
 -- What a line of rights is about: something of a kind, as an attribute or a class, that has a name.
-use Rattle.std.specs.Prelude.{ℕ, nat_lt, Bool, false, not, ◌&&◌, if◌then◌else◌, List, [], ◌∷◌, ◌++◌, codes}
+use Rattle.std.specs.Prelude.{ℕ, nat_lt, ◌==◌, Bool, false, not, ◌&&◌, if◌then◌else◌, List, [], ◌∷◌, ◌++◌}
 use Rattle.std.specs.List.{list_all}
-use Rattle.std.specs.Str.{bytes_eq}
 use Rattle.ad_bytes.specs.Puts.{spaced}
 use Rattle.ad_ids.specs.GuidText.{guid_text}
 use Rattle.ad_schema.specs.declared.info.RightInfo.{RightInfo}
@@ -15,9 +14,11 @@ label_of kind name = kind ++ spaced name
 abbrev pub is_graphic : ℕ → Bool
 is_graphic b = nat_lt 32 b && nat_lt b 127
 
--- One or more of these, and not a hyphen alone, which stands for nothing.
+-- one or more of these, and not a hyphen (45) alone, which stands for nothing
 abbrev pub is_title : List ℕ → Bool
-is_title name = not (bytes_eq name []) && (not (bytes_eq name (codes "-")) && list_all is_graphic name)
+is_title [] = false
+is_title (b ∷ []) = is_graphic b && not (b == 45)
+is_title (b ∷ c ∷ bytes) = list_all is_graphic (b ∷ c ∷ bytes)
 
 -- The cn of a right may be any bytes. A line names the right by its cn where that is a word, else by its GUID.
 abbrev pub right_title : RightInfo → List ℕ

@@ -22,5 +22,9 @@ fn are_graphic(bytes: &[u8]) -> bool
 pub fn is_title(name: &[u8]) -> bool
     ensures { result ≡ is_title name.now }
 {
-    name != b"" && name != b"-" && are_graphic(name)
+    match name {
+        [] => false,
+        [one] => is_graphic(*one) && *one != b'-',
+        [_, _, ..] => are_graphic(name),
+    }
 }

@@ -1,7 +1,7 @@
 -- How a command ends that the words ask for, and what its status says then.
 use Rattle.std.proofs.Common.{◌≡◌, ◌∙◌, ℕ, true, false, List, [], ◌∷◌, Option, Some, None, inl, inr, refl, sym, ap}
 use Rattle.std.proofs.Common.{subst, arith}
-use Rattle.std.specs.Prelude.{◌↔◌, ◌⊎◌}
+use Rattle.std.specs.Prelude.{◌↔◌, ◌⊎◌, ◌^◌, ◌-◌, is_some, if◌then◌else◌}
 use Rattle.site_io.specs.Counts.{HasRisen}
 use Rattle.site_io.specs.declared.source.Source.{Ghosts as SourceGhosts}
 use Rattle.site_io.specs.declared.site.Site.{Ghosts as SiteGhosts}
@@ -225,6 +225,14 @@ module _ {I S T : Type 0} (source : SourceGhosts I) (site : SiteGhosts S) (other
     slots = λ lacks. let kept = did.slots lacks in (kept.0, λ five. kept.1 (five_is outcome five));
   }
 
+  pub asked_so : (asked other_asked : Option CommandValue) (from to : I) (old new : S) (before after : T)
+      (status other_status : ℕ) → asked ≡ other_asked → other_status ≡ status
+      → Promises asked from to old new before after status
+      → Promises other_asked from to old new before after other_status
+  asked_so asked other_asked from to old new before after status other_status is same promises =
+      subst (λ (n : ℕ). Promises other_asked from to old new before after n) (sym same)
+      (subst (λ (a : Option CommandValue). Promises a from to old new before after status) is promises)
+
   pub of_none : (from : I) (old : S) (before : T)
       → Promises None from from old old before before (status_of NoCommand)
   of_none from old before = record {
@@ -274,7 +282,7 @@ module _ {I S T : Type 0} (source : SourceGhosts I) (site : SiteGhosts S) (other
   own_fault old new before after same none (inr risen) = absurd (never_risen before after same none risen)
 
   -- what it did, as there is no second site
-  by_itself : (command : CommandValue) (from to : I) (old new : S) (before after : T) (outcome : Outcome)
+  pub by_itself : (command : CommandValue) (from to : I) (old new : S) (before after : T) (outcome : Outcome)
       → other_store_of command ≡ None → other.slot_faults before ≡ 0
       → CommandDoes source site other command from to old new before after outcome
       → CommandDoes source site no_site command from to old new tt tt outcome
@@ -287,6 +295,20 @@ module _ {I S T : Type 0} (source : SourceGhosts I) (site : SiteGhosts S) (other
         site_failed = λ failed. inl (own_fault old new before after own.1 none (did.site_failed failed));
         slots = did.slots;
       }
+
+-- words that name one store at most ask for the same without a second site
+pub one_is : (asked : Option CommandValue) (command : CommandValue) → Some command ≡ asked
+    → None ≡ other_store_of command → Some command ≡ over_one asked
+one_is asked command is one =
+    subst (λ (a : Option CommandValue). Some command ≡ over_one a) is
+    (subst (λ (other : Option (List ℕ)). Some command ≡ (if is_some other then None else Some command)) one refl)
+
+-- those that name two ask for nothing
+pub two_are : (asked : Option CommandValue) (command : CommandValue) (second : List ℕ) → Some command ≡ asked
+    → Some second ≡ other_store_of command → None ≡ over_one asked
+two_are asked command second is two =
+    subst (λ (a : Option CommandValue). None ≡ over_one a) is
+    (subst (λ (other : Option (List ℕ)). None ≡ (if is_some other then None else Some command)) two refl)
 
 -- no count rises where there is no site
 pub own_alone : {S : Type 0} (site : SiteGhosts S) (old new : S) → HasFailed site old new ⊎ HasRisen 0 0

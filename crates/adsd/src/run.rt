@@ -24,12 +24,7 @@ use std::alloc::Global;
 /// The words are those after the program's name, and are one of the forms ([`command_of`]) but `diff`, whose two stores
 /// want a site each: that is [`run_beside`](crate::beside::run_beside). STORE is any text that isn't empty, and its
 /// slots are those of the site. What each command does says [`run_command`]. The statuses are those of `run_beside`.
-pub fn run<I: Source, S: Site>(
-    alloc: Global,
-    words: &[String],
-    source: &mut I,
-    site: &mut S,
-) -> u8
+pub fn run<I: Source, S: Site>(alloc: Global, words: &[String], source: &mut I, site: &mut S) -> u8
     // Exactly where the words are no form with at most one store, and then nothing is done.
     ensures words { (result ≡ status_of NoCommand)
         ↔ (over_one (command_of (map string_bytes words.now)) ≡ None) }
