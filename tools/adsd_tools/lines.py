@@ -8,7 +8,7 @@ matters. Not proved."""
 import re
 from typing import Dict, List, NamedTuple, Optional, Tuple
 
-from adsd_tools.importing.sids import guid_of_text, sid_of_text, text_of_guid, text_of_sid
+from adsd_tools.forms.sids import guid_of_text, sid_of_text, text_of_guid, text_of_sid
 from adsd_tools.shown import line_of, text_of
 
 NUMBER = re.compile("0|[1-9][0-9]{0,18}")

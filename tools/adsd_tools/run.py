@@ -1,11 +1,16 @@
 """Runs another program for a companion. What it says on standard error is handed on line by line, each as it is shown
 (shown.py), so that no name in it reaches a terminal as it is. Not proved."""
 
+import os
 import subprocess
 import sys
 import threading
 
 from adsd_tools.shown import shown, text_of
+
+# The repository, or the folder into which tools/install puts the program; and the program, as companions call it.
+TOP = os.path.dirname(os.path.dirname(os.path.dirname(os.path.abspath(__file__))))
+ADSD = os.environ.get("ADSD") or os.path.join(TOP, "adsd")
 
 
 def say(data):

@@ -40,6 +40,12 @@ def shown(text):
     return SPELLED.sub(spelled, text)
 
 
+def brief(value, most=60):
+    """A text or bytes as they are shown, cut off where they are long."""
+    text = shown(text_of(value) if isinstance(value, bytes) else value)
+    return text if len(text) <= most else text[:most] + ".."
+
+
 def shown_bytes(data):
     """The same of bytes."""
     return shown(text_of(data)).encode()

@@ -2,10 +2,10 @@
 
 import random
 
-from adsd_tools.importing.descriptor import ALLOW, DENY, INHERIT_ONLY, INHERITED, Acl, Descriptor, Entry
+from adsd_tools.forms.descriptor import ALLOW, DENY, INHERITED, INHERIT_ONLY, Acl, Descriptor, Entry
 from adsd_tools.importing.report import Report
 from adsd_tools.importing.rights import Rights, mapped, whole
-from adsd_tools.importing.sids import OWNER_RIGHTS, sid_of_text
+from adsd_tools.forms.sids import OWNER_RIGHTS, sid_of_text
 from adsd_tools.importing.text import Line
 
 HOLDERS = [sid_of_text(f"S-1-5-{number}") for number in ("11", "32-544", "10", "21-1-2-3-1000", "21-1-2-3-1001")]

@@ -22,7 +22,8 @@ import chosen  # noqa: E402
 
 PROGRAM = os.environ["ADSD"] = chosen.program()
 
-from adsd_tools.ask import answers, ber, requests  # noqa: E402
+from adsd_tools.ask import answers, requests  # noqa: E402
+from adsd_tools.forms import ber  # noqa: E402
 from adsd_tools.ask.requests import Line  # noqa: E402
 
 REFUSED = "# bind: 49, 80090308: LdapErr: DSID-0C090400, comment: AcceptSecurityContext error, data 52e, v1db1"

@@ -7,7 +7,7 @@ import subprocess
 
 from ldap_client import PROGRAM, TOP
 from adsd_tools.ask import words
-from adsd_tools.importing.sids import sid_of_text
+from adsd_tools.forms.sids import sid_of_text
 
 ROOT = "DC=corp,DC=example"
 UNIT, GROUPS = f"OU=people,{ROOT}", f"OU=groups,{ROOT}"

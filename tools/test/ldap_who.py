@@ -14,7 +14,7 @@ from ldap_client import REFUSED, SECONDS, Bridge, Client, Closed, ber
 from ldap_face import asked
 from ldap_peers import BOUND, same
 from ldap_store import DOMAIN, GROUPS, ROOT, UNIT, sid
-from adsd_tools.importing.sids import sid_of_text, text_of_sid
+from adsd_tools.forms.sids import sid_of_text, text_of_sid
 from adsd_tools.ldap import accounts
 from adsd_tools.ldap.accounts import token_of
 from adsd_tools.ldap.extended import PASSWORD

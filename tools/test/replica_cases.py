@@ -10,7 +10,7 @@ import time
 
 import ldap_store
 from ldap_client import PROGRAM, TOP
-from adsd_tools.ask import ber
+from adsd_tools.forms import ber
 from adsd_tools.ldap.program import STEPS
 from replica_checks import all_entries, differences
 from replica_faults import begun, ended

@@ -13,7 +13,7 @@ from ldap_client import PROGRAM, TOP, Closed
 from replica_cases import DONE, READ, WRITE, has, in_world, resting, same, shown
 from replica_checks import differences
 from adsd_tools.ask.words import Wrong
-from adsd_tools.report import store as rows
+from adsd_tools.rows import store as rows
 from adsd_tools.replica import entries
 from adsd_tools.replica.etcd import decoded, encoded, whole
 from adsd_tools.replica.ordered import put_of

@@ -6,8 +6,8 @@ import struct
 
 import plain_why
 
-from adsd_tools.importing.descriptor import ALLOW, AUDIT, DENY, INHERIT_ONLY, Entry
-from adsd_tools.importing.sids import sid_of_text
+from adsd_tools.forms.descriptor import ALLOW, AUDIT, DENY, INHERIT_ONLY, Entry
+from adsd_tools.forms.sids import sid_of_text
 from adsd_tools.report import deciding, normals
 from adsd_tools.report.differences import Dangers, phrases, short
 from adsd_tools.report.harms import RANK, RESET, SELF_MEMBERSHIP, VALIDATED_SPN, dangerous

@@ -3,12 +3,11 @@
 import base64
 import struct
 
-from adsd_tools.importing import descriptor as descriptors
-from adsd_tools.importing.sids import text_of_guid, text_of_sid
+from adsd_tools.forms import ber
+from adsd_tools.forms import descriptor as descriptors
+from adsd_tools.forms.rights import codes
+from adsd_tools.forms.sids import text_of_guid, text_of_sid
 from adsd_tools.shown import shown, text_of
-
-from . import ber
-from .words import codes
 
 CODES = {
     0: "success", 2: "protocol error", 4: "size limit exceeded", 5: "compare false", 6: "compare true", 7: "authentication method not supported",

@@ -4,10 +4,12 @@ import argparse
 import struct
 import sys
 
-from adsd_tools.importing.sids import text_of_sid
+from adsd_tools.forms import ber
+from adsd_tools.forms.rights import codes
+from adsd_tools.forms.sids import text_of_sid
 from adsd_tools.shown import Words, shown
 
-from . import answers, ber, requests, words
+from . import answers, requests, words
 
 ABOUT = """
     adsd-ask access --sddl SDDL --user SID [--group SID].. --want RIGHTS   which of the rights are granted, which not
@@ -60,8 +62,8 @@ def accounts_of(asked):
     if asked.store is None:
         return None
     from adsd_tools import incomplete
-    from adsd_tools.names.accounts import Accounts
-    from adsd_tools.report.store import Broken
+    from adsd_tools.rows.accounts import Accounts
+    from adsd_tools.rows.store import Broken
 
     try:
         made = Accounts(asked.store)
@@ -91,8 +93,8 @@ def access(asked):
                         restricting=",".join(asked.restricting), privileges_of=",".join(asked.privilege))
     want = words.mask(asked.want)
     mask = int(words.adsd("access", struct.pack(">I", len(token)) + token + owner + dacl + struct.pack(">I", want)), 16)
-    print(f"granted {mask:08x}: {' '.join(words.codes(mask)) or 'nothing'}")
-    left = [code for code in words.codes(want) if code not in words.codes(mask)]
+    print(f"granted {mask:08x}: {' '.join(codes(mask)) or 'nothing'}")
+    left = [code for code in codes(want) if code not in codes(mask)]
     if left and not want & 0xF0000000:
         print(f"not granted: {' '.join(left)}")
 

@@ -4,11 +4,11 @@ import base64
 import re
 import struct
 
-from adsd_tools.run import run
+from adsd_tools.forms import ber
+from adsd_tools.run import ADSD, run
 from adsd_tools.shown import text_of
 
-from . import ber
-from .words import ADSD, Wrong
+from .words import Wrong
 
 TREE_DELETE = b"1.2.840.113556.1.4.805"
 HEADER = struct.Struct(">BHI")

@@ -4,7 +4,9 @@ import base64
 import shlex
 import struct
 
-from . import ber, filters, records, words
+from adsd_tools.forms import ber, filters
+
+from . import records, words
 from .words import Wrong
 
 SCOPES = {"base": 0, "one": 1, "sub": 2}

@@ -1,15 +1,12 @@
 """The words of a question: identifiers, rights, privileges and descriptors."""
 
-import os
 import struct
 
-from adsd_tools.importing.sddl import RIGHTS
-from adsd_tools.importing.sids import sid_of_alias, sid_of_text
-from adsd_tools.run import run
+from adsd_tools.forms.rights import RIGHTS
+from adsd_tools.forms.sids import sid_of_alias, sid_of_text
+from adsd_tools.run import ADSD, run
 from adsd_tools.shown import line_of
 
-HERE = os.path.dirname(os.path.abspath(__file__))
-ADSD = os.environ.get("ADSD") or os.path.normpath(os.path.join(HERE, "../../..", "adsd"))
 PRIVILEGES = {"security": 1, "take-ownership": 2, "restore": 4}
 PARTS = {"owner": 1, "group": 2, "dacl": 4, "sacl": 8}
 
@@ -57,13 +54,6 @@ def mask(text):
     if unknown:
         raise Wrong(f"{unknown[0]} is no right")
     return sum({RIGHTS[code] for code in codes})
-
-
-def codes(value):
-    """The names of the rights of a mask."""
-    named = [code for code, bit in RIGHTS.items() if value & bit]
-    left = value & ~sum(RIGHTS[code] for code in named)
-    return named + ([f"0x{left:x}"] if left else [])
 
 
 def privileges(text):

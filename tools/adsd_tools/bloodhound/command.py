@@ -10,11 +10,11 @@ import zipfile
 
 from adsd_tools import incomplete
 from adsd_tools.files import write
-from adsd_tools.report import store
+from adsd_tools.rows import store
 from adsd_tools.shown import Words, shown
 
 from .library import Library, Missing
-from .nodes import NoDomain, Nodes
+from .nodes import Nodes, NoDomain
 from .written import Writer
 
 ABOUT = """Writes a store's users, groups, computers, units, containers and domain as BloodHound CE reads them (version 6), with

@@ -3,9 +3,9 @@
 from dataclasses import dataclass
 from typing import List, Tuple
 
-from adsd_tools.importing.descriptor import ALLOW, INHERIT_ONLY, INHERITED
-from adsd_tools.importing.sids import NOBODY, guid_of_text, sid_of_text, text_of_sid
-from adsd_tools.report import store
+from adsd_tools.forms.descriptor import ALLOW, INHERIT_ONLY, INHERITED
+from adsd_tools.forms.sids import NOBODY, guid_of_text, sid_of_text, text_of_sid
+from adsd_tools.rows import store
 
 from .library import token_of
 

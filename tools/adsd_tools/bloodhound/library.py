@@ -6,10 +6,11 @@ import subprocess
 import tempfile
 from ctypes import POINTER, byref, c_char_p, c_size_t, c_uint32
 
-HERE = os.path.dirname(os.path.abspath(__file__))
+from adsd_tools.run import TOP
+
 # Where `make install` puts the program and the shared library, seen from the installed scripts.
-PROGRAM, INSTALLED = (os.path.normpath(os.path.join(HERE, path)) for path in ("../../../program", "../../../../libadsd.so.1"))
-MAKES = os.path.join(os.path.dirname(os.path.dirname(HERE)), "library")
+PROGRAM, INSTALLED = os.path.join(TOP, "program"), os.path.join(os.path.dirname(TOP), "libadsd.so.1")
+MAKES = os.path.join(TOP, "tools", "library")
 
 
 class Missing(Exception):

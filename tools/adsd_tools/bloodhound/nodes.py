@@ -4,10 +4,10 @@ import calendar
 import time
 import uuid
 
-from adsd_tools.importing.sids import text_of_guid, text_of_sid
-from adsd_tools.names.accounts import Accounts
-from adsd_tools.report import store
-from adsd_tools.report.names import WELL_KNOWN
+from adsd_tools.forms.known import WELL_KNOWN
+from adsd_tools.forms.sids import text_of_guid, text_of_sid
+from adsd_tools.rows import store
+from adsd_tools.rows.accounts import Accounts
 
 from .edges import LAPS
 

@@ -6,7 +6,7 @@ one of them: the test asks it for each, and compares."""
 
 from dataclasses import dataclass
 
-from adsd_tools.importing.sids import sid_of_text
+from adsd_tools.forms.sids import sid_of_text
 from adsd_tools.report import deciding
 from adsd_tools.report.harms import HARMS, RANK
 

@@ -2,9 +2,9 @@
 
 from dataclasses import dataclass
 
-from adsd_tools.importing.sids import sid_of_text, text_of_sid
+from adsd_tools.forms.known import WELL_KNOWN
+from adsd_tools.forms.sids import sid_of_text, text_of_sid
 from adsd_tools.report.differences import phrases, several
-from adsd_tools.report.names import WELL_KNOWN
 
 from . import asked
 from .differences import Differences, order

@@ -3,7 +3,7 @@ looks at a number, a name or an identifier that somebody sends."""
 
 import re
 
-from adsd_tools.importing.sids import sid_of_text
+from adsd_tools.forms.sids import sid_of_text
 
 from .trying import Wrong
 

@@ -6,7 +6,8 @@ import sys
 import tempfile
 import threading
 
-from adsd_tools.report import library, program, store
+from adsd_tools.report import library, program
+from adsd_tools.rows import store
 
 from . import private
 from .texts import told

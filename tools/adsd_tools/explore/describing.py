@@ -1,8 +1,8 @@
 """A descriptor in words: who, what, on what, for whom below, and where an inherited entry comes from."""
 
-from adsd_tools.importing.descriptor import INHERITED
-from adsd_tools.importing.sddl import RIGHTS
-from adsd_tools.importing.sids import CREATOR_GROUP, CREATOR_OWNER, OWNER_RIGHTS, text_of_guid
+from adsd_tools.forms.descriptor import INHERITED
+from adsd_tools.forms.rights import RIGHTS
+from adsd_tools.forms.sids import CREATOR_GROUP, CREATOR_OWNER, OWNER_RIGHTS, text_of_guid
 from adsd_tools.report.names import CODES
 
 from .answers import SELF

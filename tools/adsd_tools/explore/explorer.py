@@ -9,11 +9,12 @@ import threading
 
 from adsd_tools import incomplete
 from adsd_tools.ask import requests
-from adsd_tools.ask.words import ADSD
-from adsd_tools.importing.sids import sid_of_text
-from adsd_tools.report import program, store
+from adsd_tools.forms.sids import sid_of_text
+from adsd_tools.report import program
 from adsd_tools.report.library import Calls
 from adsd_tools.report.protection import HOLDER, frozen
+from adsd_tools.rows import store
+from adsd_tools.run import ADSD
 
 from . import private, tokens, walks
 from .answers import Answers

@@ -8,7 +8,7 @@ import stat
 import tempfile
 
 from adsd_tools.files import PIECE, write
-from adsd_tools.report import store
+from adsd_tools.rows import store
 
 SHARED = "/dev/shm"
 

@@ -4,8 +4,8 @@ which the library is asked for each; and those of them that are dangerous."""
 from dataclasses import dataclass, field
 from typing import List, Tuple
 
-from adsd_tools.importing.sddl import RIGHTS
-from adsd_tools.importing.sids import guid_of_text
+from adsd_tools.forms.rights import RIGHTS
+from adsd_tools.forms.sids import guid_of_text
 from adsd_tools.report import harms
 from adsd_tools.report.effective import KINDS, ON_OBJECT
 

@@ -1,12 +1,11 @@
 """Texts of a store as the page and the terminal have them: nothing stands in one that isn't seen."""
 
-from adsd_tools.importing.report import seen
-from adsd_tools.shown import shown
+from adsd_tools.shown import shown, text_of
 
 
 def told(text, most=None):
     """A text, or bytes of one, with an escape for each character that isn't seen, cut off behind `most` of them."""
-    made = seen(shown(text.decode("utf-8", "surrogateescape") if isinstance(text, bytes) else text))
+    made = shown(text_of(text) if isinstance(text, bytes) else text)
     return made if most is None or len(made) <= most else made[:most] + ".."
 
 

@@ -2,7 +2,7 @@
 
 from functools import cached_property
 
-from adsd_tools.importing.sids import sid_of_text
+from adsd_tools.forms.sids import sid_of_text
 from adsd_tools.ldap import accounts as bridge
 
 # What isn't an account though it has an identifier.

@@ -5,10 +5,11 @@ import shlex
 import struct
 from functools import cached_property
 
-from adsd_tools.ask import ber, requests
+from adsd_tools.ask import requests
 from adsd_tools.ask.answers import CODES
-from adsd_tools.importing.descriptor import INHERITED
-from adsd_tools.importing.sids import sid_of_text, text_of_sid
+from adsd_tools.forms import ber
+from adsd_tools.forms.descriptor import INHERITED
+from adsd_tools.forms.sids import sid_of_text, text_of_sid
 from adsd_tools.shown import shown
 
 from .texts import told

@@ -1,7 +1,7 @@
 """What the page is told of objects and principals, as JSON."""
 
-from adsd_tools.importing.sddl import RIGHTS
-from adsd_tools.importing.sids import text_of_guid
+from adsd_tools.forms.rights import RIGHTS
+from adsd_tools.forms.sids import text_of_guid
 from adsd_tools.report.harms import HARMS, RANK, harm_of
 from adsd_tools.report.names import CODES
 

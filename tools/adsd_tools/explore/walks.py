@@ -8,8 +8,8 @@ import threading
 import uuid
 
 from adsd_tools.ask import requests
-from adsd_tools.report import store
 from adsd_tools.report.program import Serving
+from adsd_tools.rows import store
 
 from .private import SHARED, unname
 

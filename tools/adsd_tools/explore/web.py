@@ -9,8 +9,9 @@ import secrets
 import socket
 import urllib.parse
 
-from adsd_tools.ask import ber
-from adsd_tools.report import program, store
+from adsd_tools.forms import ber
+from adsd_tools.report import program
+from adsd_tools.rows import store
 
 from .api import Raw
 from .explorer import Changed

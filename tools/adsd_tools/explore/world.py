@@ -2,12 +2,12 @@
 
 from functools import cached_property
 
-from adsd_tools.importing.names import value_text
-from adsd_tools.importing.sids import text_of_sid
-from adsd_tools.report import store
+from adsd_tools.forms.names import value_text
+from adsd_tools.forms.sids import text_of_sid
 from adsd_tools.report.names import Principals
 from adsd_tools.report.normals import Known
 from adsd_tools.report.state import State
+from adsd_tools.rows import store
 
 from . import tokens
 from .texts import told

@@ -6,9 +6,11 @@ import sys
 
 from adsd_tools import incomplete
 from adsd_tools.files import makes_file, write
+from adsd_tools.forms import names
+from adsd_tools.shown import shown
 
-from . import complete, names, objects, output, rights, schema, text
-from .report import ENDS, Refused, Report, seen
+from . import complete, objects, output, rights, schema, text
+from .report import ENDS, Refused, Report
 
 ABOUT = """Makes LDIF that `adsd load` takes of an export of Active Directory or Samba, as ldifde, ldbsearch or
 ldapsearch write it. An export has the schema and the rights with it (CN=Schema and CN=Extended-Rights below
@@ -112,7 +114,7 @@ def imported(options, report):
 
 
 def say(line):
-    sys.stderr.write(f"adsd-import: {seen(line)}\n")
+    sys.stderr.write(f"adsd-import: {shown(line)}\n")
 
 
 def stopped(options, report, lacked):
@@ -137,7 +139,7 @@ def put_beside(file, report, lacked):
     if not makes_file(file):
         return
     if lacked:
-        told = [incomplete.sentence(seen(lacked)), *report.missing_lines()]
+        told = [incomplete.sentence(shown(lacked)), *report.missing_lines()]
         write(beside, "".join(f"{line}\n" for line in told).encode("utf-8", "backslashreplace"))
     elif incomplete.beside(file) is not None and os.path.isfile(beside):
         os.unlink(beside)

@@ -8,11 +8,12 @@ descriptors in `rights`.
 import re
 
 from adsd_tools import incomplete
-from adsd_tools.shown import text_of
+from adsd_tools.forms import names
+from adsd_tools.forms.sids import below, guid_of_text, sid_of_text, text_of_sid
+from adsd_tools.shown import brief, shown, text_of
 
-from . import names, values
-from .report import ACCOUNTS, GROUPS, HEAD, MEMBERS, RIGHTS, SCHEMA, TEXTS, seen, shown
-from .sids import below, guid_of_text, sid_of_text, text_of_sid
+from . import values
+from .report import ACCOUNTS, GROUPS, HEAD, MEMBERS, RIGHTS, SCHEMA, TEXTS
 from .text import Line
 
 # What each schema of Active Directory and Samba has, and tokens and access go by.
@@ -49,7 +50,7 @@ def told_before(records):
     for record in records:
         for line in record.lines:
             if line.name.lower() == MARK:
-                found += seen(text_of(line.value)).split("; ")
+                found += shown(text_of(line.value)).split("; ")
         record.lines = [line for line in record.lines if line.name.lower() != MARK]
     return found
 
@@ -96,7 +97,7 @@ def texts(made, report):
         for line in one.record.lines:
             low = line.name.lower()
             if low in made.attributes and values.is_foreign(made.syntax(low), line.value):
-                what = f"{line.name} {shown(line.value, 40)} of {one.kind} {shown(one.record.dn)}"
+                what = f"{line.name} {brief(line.value, 40)} of {one.kind} {brief(one.record.dn)}"
                 report.missing(line.where, TEXTS, what, "it isn't UTF-8")
 
 
@@ -176,7 +177,7 @@ class Accounts:
                 self.targets[line.value] = False
         if not self.targets[line.value]:
             what = f"{line.name} of {one.words()}"
-            self.report.missing(line.where, MEMBERS, what, f"{shown(line.value, 120)} is no object here")
+            self.report.missing(line.where, MEMBERS, what, f"{brief(line.value, 120)} is no object here")
 
 
 def judge(made, kept, report):

@@ -2,10 +2,13 @@
 
 import re
 from dataclasses import dataclass, field
-from typing import Dict, List, Optional, Tuple
+from typing import List, Optional, Tuple
 
-from . import names, values
-from .report import ACCOUNTS, MEMBERS, PARENTS, SCHEMA, TEXTS, Refused, shown
+from adsd_tools.forms import names
+from adsd_tools.shown import brief
+
+from . import values
+from .report import ACCOUNTS, MEMBERS, PARENTS, SCHEMA, TEXTS, Refused
 from .schema import lower
 from .text import Line, Record
 
@@ -32,7 +35,7 @@ class Object:
     is_head: bool = False
 
     def words(self):
-        return shown(self.record.dn, 200)
+        return brief(self.record.dn, 200)
 
 
 def named(records, report):
@@ -42,16 +45,16 @@ def named(records, report):
         try:
             name = names.read(record.dn)
         except names.NoText as why:
-            report.missing(record.where, TEXTS, f"object {shown(record.dn)}", f"its name can't be read: {why}")
+            report.missing(record.where, TEXTS, f"object {brief(record.dn)}", f"its name can't be read: {why}")
             continue
         except names.NoName as why:
-            report.loss(record.where, f"object {shown(record.dn)}", f"its name can't be read: {why}")
+            report.loss(record.where, f"object {brief(record.dn)}", f"its name can't be read: {why}")
             continue
         if not name.parts:
             report.left_out(record.where, "record", "its dn is empty: the server's own, and no object")
             continue
         if name.mended:
-            report.mended(record.where, f"name {shown(record.dn)}", "its spelling")
+            report.mended(record.where, f"name {brief(record.dn)}", "its spelling")
             record.dn = name.text()
         made.append(Object(record, name, name.key()))
     return sorted(made, key=lambda one: len(one.key))
@@ -79,7 +82,7 @@ def class_of(one, schema):
     told = [lower(line.value) for line in lines]
     for name in told:
         if name not in schema.classes:
-            return None, [], f"{NO_CLASS} {shown(name)}"
+            return None, [], f"{NO_CLASS} {brief(name)}"
     category = {name: schema.classes[name].value("objectClassCategory", b"1") for name in told}
     for name in told:
         chain = schema.chain(name)
@@ -150,7 +153,7 @@ class Values:
                 self.report.missing(line.where, SCHEMA, f"{name} of {one.words()}", "no attribute of the schema")
             elif low in ("objectclass", "distinguishedname", "name", naming) or self.schema.is_back_link(low):
                 if values.is_foreign(self.schema.syntax(low), line.value):
-                    what = f"{line.name} {shown(line.value, 40)} of {one.words()}"
+                    what = f"{line.name} {brief(line.value, 40)} of {one.words()}"
                     self.report.missing(line.where, TEXTS, what, "it isn't UTF-8")
                 else:
                     kept.append(line)
@@ -160,7 +163,7 @@ class Values:
 
     def take(self, one, line, low, seen):
         """Whether a line with a value of its own is kept."""
-        what = f"{line.name} {shown(line.value, 40)} of {one.words()}"
+        what = f"{line.name} {brief(line.value, 40)} of {one.words()}"
         try:
             value, key, mend = values.read(low, self.schema.syntax(low), line.value)
         except values.NoText as why:
@@ -229,7 +232,7 @@ def take_objects(found, root, schema, report):
         why, rest = why_not(one, kept, taken, schema, root, given)
         if not why:
             for line in rest:
-                what = f"objectClass {shown(line.value)} of {one.words()}"
+                what = f"objectClass {brief(line.value)} of {one.words()}"
                 report.loss(line.where, what, "an auxiliary class of one object")
                 one.record.lines.remove(line)
             keep.keep(one)
@@ -260,7 +263,7 @@ def drop_links(kept, report):
     for one in kept.values():
         outside = [(line, target) for line, target in one.links if target not in kept]
         for line, target in outside:
-            what, why = f"{line.name} of {one.words()}", f"{shown(line.value, 120)} is no object here"
+            what, why = f"{line.name} of {one.words()}", f"{brief(line.value, 120)} is no object here"
             if line.name.lower() != "member" or is_of_elsewhere(target):
                 report.loss(line.where, what, why)
             else:

@@ -3,8 +3,9 @@
 import base64
 
 from adsd_tools import incomplete
+from adsd_tools.shown import shown
 
-from .report import Refused, seen
+from .report import Refused
 from .schema import LISTS, REQUIRED, SINGLE
 
 LIMIT = 67108864
@@ -35,7 +36,7 @@ def record_text(record):
 
 def comment(lacked):
     """The first line of the text where the export lacks something."""
-    return f"# {incomplete.sentence(seen(lacked))}\n".encode("utf-8", "backslashreplace") if lacked else b""
+    return f"# {incomplete.sentence(shown(lacked))}\n".encode("utf-8", "backslashreplace") if lacked else b""
 
 
 def table_of(kind):

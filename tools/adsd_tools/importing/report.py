@@ -2,7 +2,7 @@
 
 import re
 
-from adsd_tools import shown as adsd_shown
+from adsd_tools.shown import brief, shown
 
 MENDED, LEFT_OUT, LOSS, MISSING, DENIES = "mended", "left out", "loss", "missing", "denies"
 # What is worst stands first.
@@ -73,7 +73,7 @@ class Report:
             made += [f"  {count} {reason}" for reason, count in often[:MOST_REASONS]]
             left = sum(count for _, count in often[MOST_REASONS:])
             made += [f"  {left} by {len(often) - MOST_REASONS} further reasons"] if left else []
-        return [seen(f"# {line}") for line in made + self.files]
+        return [shown(f"# {line}") for line in made + self.files]
 
     def lines(self, kinds=KINDS):
         """The report as lines of text, by file and line. Whatever an export says in one of them ends no line."""
@@ -82,7 +82,7 @@ class Report:
             return file, int(line)
 
         told = sorted((thing for thing in self.things if thing[1] in kinds), key=place)
-        return [seen(f"{where}: {kind}: {what}: {why}") for where, kind, what, why in told]
+        return [shown(f"{where}: {kind}: {what}: {why}") for where, kind, what, why in told]
 
     def missing_lines(self):
         return self.lines((MISSING,))
@@ -93,7 +93,7 @@ class Report:
         for sort in SORTS:
             if sort in self.misses:
                 _, first, _, count, lines = self.misses[sort]
-                told = shown(first.replace("; ", ", "), 100)
+                told = brief(first.replace("; ", ", "), 100)
                 made.append(f"{sort}: {count} ({told}{', ..' if lines > 1 else ''})")
         return made
 
@@ -108,13 +108,3 @@ class Report:
         """How many things there are of each kind, in words."""
         kinds = [thing[1] for thing in self.things]
         return ", ".join(f"{kind} {kinds.count(kind)}" for kind in KINDS)
-
-
-# Whatever an export says ends no line, and reaches a terminal spelled.
-seen = adsd_shown.shown
-
-
-def shown(value, most=60):
-    """Bytes of an export as a short text for the report: no control bytes, and cut off where they are long."""
-    text = seen(adsd_shown.text_of(value) if isinstance(value, bytes) else value)
-    return text if len(text) <= most else text[:most] + ".."

@@ -6,38 +6,22 @@ the export, the list is kept entry by entry, as one of the object's own, and pro
 
 from dataclasses import replace
 
+from adsd_tools.forms.descriptor import ALLOW, DENY, INHERIT_ONLY, INHERITED, Acl, Descriptor, Unreadable, written
+from adsd_tools.forms.descriptor import read as read_bytes
+from adsd_tools.forms.inheriting import copies
+from adsd_tools.forms.sids import NOBODY, OWNER_RIGHTS, sid_of_text
+
 from . import sddl
-from .descriptor import ALLOW, DENY, INHERIT_ONLY, INHERITED, Acl, Descriptor, Unreadable, written
-from .descriptor import read as read_bytes
 from .report import DESCRIPTORS
 from .schema import lost_entries
-from .sids import CREATOR_GROUP, CREATOR_OWNER, NOBODY, OWNER_RIGHTS, sid_of_text
 from .text import Line
 
-CONTAINER_INHERIT, NO_PROPAGATE, AUDIT_BITS = 0x02, 0x04, 0xC0
 GENERIC = {0x10000000: 0xF01FF, 0x20000000: 0x20004, 0x40000000: 0x20028, 0x80000000: 0x20094}
 
 
 def closed():
     """A descriptor that grants nothing to anybody."""
     return Descriptor(NOBODY, NOBODY, Acl([], True), None)
-
-
-def copies(entry, of_class, owner, group):
-    """What a child of a class inherits of one entry of its parent's list."""
-    if not entry.flags & CONTAINER_INHERIT:
-        return []
-    fits = entry.inherited is None or entry.inherited == of_class
-    for_creator = entry.sid in (CREATOR_OWNER, CREATOR_GROUP)
-    sid = {CREATOR_OWNER: owner, CREATOR_GROUP: group}.get(entry.sid, entry.sid)
-    audits = entry.flags & AUDIT_BITS
-    effective = replace(entry, flags=audits | INHERITED, sid=sid)
-    down = replace(entry, flags=audits | CONTAINER_INHERIT | INHERIT_ONLY | INHERITED)
-    if entry.flags & NO_PROPAGATE:
-        return [effective] if fits else []
-    if not fits:
-        return [down]
-    return [effective, down] if for_creator else [replace(entry, flags=audits | CONTAINER_INHERIT | INHERITED)]
 
 
 def whole(own, parent, of_class, owner, group):

@@ -2,12 +2,15 @@
 
 import re
 from dataclasses import dataclass, field
-from typing import Dict, List, Optional
+from typing import Dict, List
 
-from . import names, sddl
-from .descriptor import Unreadable
-from .report import RIGHTS, SCHEMA, Refused, shown
-from .sids import GUID, guid_of_text
+from adsd_tools.forms import names
+from adsd_tools.forms.descriptor import Unreadable
+from adsd_tools.forms.sids import GUID, guid_of_text
+from adsd_tools.shown import brief
+
+from . import sddl
+from .report import RIGHTS, SCHEMA, Refused
 from .text import MOST, Line, Record
 
 KINDS = {"attributeschema": "attribute", "classschema": "class", "controlaccessright": "right"}
@@ -144,7 +147,7 @@ def read_record(kind, record, report):
     """The record with its lines mended; None, and reported, where it can't be taken."""
     made = SchemaRecord(kind, record)
     once = [name.lower() for name in REQUIRED[kind] + SINGLE[kind]]
-    what = f"{kind} {shown(record.dn)}"
+    what = f"{kind} {brief(record.dn)}"
     for line in list(record.lines):
         name = line.name.lower()
         if name not in once and name not in LISTS[kind]:
@@ -213,10 +216,10 @@ def told_once(found, report):
         other = first[key(one)]
         if other is not one:
             same = "rightsGuid" if one.kind == "right" else "lDAPDisplayName"
-            why = f"{shown(other.name())} ({other.record.where}) has its {same}"
+            why = f"{brief(other.name())} ({other.record.where}) has its {same}"
             if other.is_validated_write() and not one.is_validated_write():
                 why += ", and a validated write is kept"
-            report.left_out(one.record.where, f"{one.kind} {shown(one.name())}", why)
+            report.left_out(one.record.where, f"{one.kind} {brief(one.name())}", why)
     return [one for one in found if first[key(one)] is one]
 
 
@@ -228,7 +231,7 @@ def without_broken_chains(classes, report):
         for name, one in list(good.items()):
             above = lower(one.value("subClassOf"))
             if above not in good:
-                why = f"the class above it, {shown(above)}, isn't there"
+                why = f"the class above it, {brief(above)}, isn't there"
                 report.missing(one.record.where, SCHEMA, f"class {one.name()}", why)
                 del good[name]
                 again = True
@@ -252,7 +255,7 @@ def drop_unknown(schema, report):
             for line in list(one.told.get(name, ())):
                 if lower(line.value) not in known:
                     what = f"{line.name} of class {one.name()}"
-                    report.missing(line.where, SCHEMA, what, f"{shown(line.value)} isn't there")
+                    report.missing(line.where, SCHEMA, what, f"{brief(line.value)} isn't there")
                     one.drop(line)
 
 
@@ -264,7 +267,7 @@ def read(records, report):
         try:
             name = names.read(record.dn)
         except names.NoName as why:
-            what = f"{kind} {shown(record.dn)}"
+            what = f"{kind} {brief(record.dn)}"
             report.missing(record.where, sort_of(kind), what, f"its name can't be read: {why}")
             continue
         record.dn = name.text() if name.mended else record.dn
@@ -288,7 +291,7 @@ def read(records, report):
 def lost_entries(lost, where, what, report):
     """Reports what a descriptor lost."""
     for one in lost:
-        (report.denies if one.denies else report.loss)(where, f"entry {shown(one.text, 200)} of {what}", one.why)
+        (report.denies if one.denies else report.loss)(where, f"entry {brief(one.text, 200)} of {what}", one.why)
 
 
 def mend_defaults(schema, domain, report):

@@ -2,17 +2,14 @@
 
 import re
 
-from .descriptor import ALLOW, AUDIT, DENY, Acl, Descriptor, Entry, Lost, Unreadable
-from .sids import OWNER_RIGHTS, guid_of_text, sid_of_alias, sid_of_text, text_of_guid, text_of_sid
+from adsd_tools.forms.descriptor import ALLOW, AUDIT, DENY, Acl, Descriptor, Entry, Lost, Unreadable
+from adsd_tools.forms.rights import FLAGS, RIGHTS
+from adsd_tools.forms.sids import OWNER_RIGHTS, guid_of_text, sid_of_alias, sid_of_text, text_of_guid, text_of_sid
 
 KINDS = {"A": ALLOW, "D": DENY, "AU": AUDIT, "OA": ALLOW, "OD": DENY, "OU": AUDIT}
 # The other types, and whether an entry of that type takes rights away.
 NOT_CARRIED = {"XA": False, "ZA": False, "XU": False, "AL": False, "OL": False, "RA": False, "XD": True, "ML": True,
                "SP": True, "TL": True, "FL": True}
-FLAGS = {"OI": 1, "CI": 2, "NP": 4, "IO": 8, "ID": 16, "SA": 64, "FA": 128}
-RIGHTS = {"CC": 0x1, "DC": 0x2, "LC": 0x4, "SW": 0x8, "RP": 0x10, "WP": 0x20, "DT": 0x40, "LO": 0x80, "CR": 0x100,
-          "SD": 0x10000, "RC": 0x20000, "WD": 0x40000, "WO": 0x80000, "GA": 0x10000000, "GX": 0x20000000,
-          "GW": 0x40000000, "GR": 0x80000000}
 # Codes for files, registry keys and labels, which `adsd` doesn't read.
 OTHER_RIGHTS = {"FA": 0x1F01FF, "FR": 0x120089, "FW": 0x120116, "FX": 0x1200A0, "KA": 0xF003F, "KR": 0x20019,
                 "KW": 0x20006, "KX": 0x20019, "NW": 1, "NR": 2, "NX": 4}

@@ -6,7 +6,9 @@ import re
 from dataclasses import dataclass, field
 from typing import List, Set
 
-from .report import ENDS, LINES, TEXTS, shown
+from adsd_tools.shown import brief
+
+from .report import ENDS, LINES, TEXTS
 
 MOST = 1048576
 # Ranges of values (`member;range=0-1499`) stand in names too.
@@ -90,7 +92,7 @@ def joined(made, where, line, report):
             report.mended(where, "continuation", "it begins with a tab")
         made[-1][1].append(line[1:])
     elif line.strip(b" \t"):
-        report.denies(where, f"line `{shown(line)}`", "it continues no line, so one before it may be cut off")
+        report.denies(where, f"line `{brief(line)}`", "it continues no line, so one before it may be cut off")
     else:
         report.mended(where, "line of blanks", "taken as an empty one")
         made.append((where, None))
@@ -111,9 +113,9 @@ def decoded(where, name, text, report):
 def line_of(where, text, report):
     """The line of an attribute that a logical line is; None where it can't be read, which is reported."""
     name, colon, rest = text.partition(b":")
-    word = shown(name)
+    word = brief(name)
     if not colon or not NAME.fullmatch(name) or b"\0" in text:
-        report.missing(where, LINES, f"line `{shown(text)}`", "it has no colon, a NUL, or a name that is none")
+        report.missing(where, LINES, f"line `{brief(text)}`", "it has no colon, a NUL, or a name that is none")
         return None
     if rest[:1] == b"<":
         report.missing(where, LINES, word, "its value would be fetched from a URL")
@@ -134,11 +136,11 @@ def trailer(lines, report):
     for at, text in lines:
         found = re.match(rb"result:\s*([0-9]+)", text)
         if found and int(found[1]):
-            report.missing(at, ENDS, f"`{shown(text)}`", "the search ended early, so the export isn't whole")
+            report.missing(at, ENDS, f"`{brief(text)}`", "the search ended early, so the export isn't whole")
     if name in TRAILERS:
-        report.left_out(where, f"`{shown(first)}`", "a referral or the end of a search, and no object")
+        report.left_out(where, f"`{brief(first)}`", "a referral or the end of a search, and no object")
     else:
-        report.missing(where, LINES, f"block of `{shown(first)}`", "it has no dn")
+        report.missing(where, LINES, f"block of `{brief(first)}`", "it has no dn")
 
 
 def record_of(lines, report):
@@ -146,7 +148,7 @@ def record_of(lines, report):
     if VERSION.match(lines[0][1]):
         where, text = lines[0]
         if text.partition(b":")[2].strip() != b"1":
-            report.mended(where, f"`{shown(text)}`", "taken as version 1")
+            report.mended(where, f"`{brief(text)}`", "taken as version 1")
         elif len(lines) == 1:
             report.mended(where, "`version: 1`", "an empty line stands behind it")
         lines = lines[1:]
@@ -163,7 +165,7 @@ def record_of(lines, report):
     for place, (where, text) in enumerate(lines[1:]):
         if place == 0 and re.match(rb"changetype\s*:", text, re.I):
             if text.partition(b":")[2].strip() != b"add":
-                report.left_out(record.where, f"record {shown(record.dn)}", f"`{shown(text)}` changes an object")
+                report.left_out(record.where, f"record {brief(record.dn)}", f"`{brief(text)}` changes an object")
                 return None
             continue
         line = line_of(where, text, report)
@@ -171,7 +173,7 @@ def record_of(lines, report):
             record.lines.append(line)
             continue
         if record.lines and record.lines[-1].name.lower() == "ntsecuritydescriptor":
-            report.loss(where, f"descriptor of {shown(record.dn)}", "a line behind it can't be read, so it may be cut")
+            report.loss(where, f"descriptor of {brief(record.dn)}", "a line behind it can't be read, so it may be cut")
             record.lines[-1].value = b""
         name = re.match(rb"[A-Za-z0-9-]*", text)[0].decode().lower()
         record.broken.add(name)
@@ -188,7 +190,7 @@ def records(data, file, report):
     for where, text in lines + [("", None)]:
         starts = text is not None and DN.match(text) and any(not VERSION.match(line) for _, line in block)
         if starts:
-            report.mended(where, f"`{shown(text)}`", "no empty line stands before it")
+            report.mended(where, f"`{brief(text)}`", "no empty line stands before it")
         if block and (starts or text is None):
             record, last = record_of(block, report), block
             block = []
@@ -209,10 +211,10 @@ def ended(lines, last, report):
         return
     where, text = last[-1]
     how = "behind it, without an empty line" if lines[-1][1] is None else "within it"
-    report.missing(where, ENDS, f"last line `{shown(text)}`", f"the export ends {how}, so it may be cut off")
+    report.missing(where, ENDS, f"last line `{brief(text)}`", f"the export ends {how}, so it may be cut off")
     if re.match(rb"nTSecurityDescriptor\s*:", text, re.I):
         name = next(line for _, line in last if DN.match(line))
-        report.denies(where, f"the descriptor of `{shown(name)}`", "the export ends in it, so it may be cut")
+        report.denies(where, f"the descriptor of `{brief(name)}`", "the export ends in it, so it may be cut")
 
 
 def counted(data, file, report):

@@ -2,8 +2,8 @@
 
 import re
 
-from . import names
-from .sids import guid_of_text, sid_at, sid_of_text, text_of_sid
+from adsd_tools.forms import names
+from adsd_tools.forms.sids import guid_of_text, sid_at, sid_of_text, text_of_sid
 
 MOST = 1048576
 # How ldbsearch shows two numbers of 32 bits in one of 64, the lower one first.

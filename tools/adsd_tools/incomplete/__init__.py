@@ -11,7 +11,7 @@ import stat
 import struct
 import sys
 
-from adsd_tools.report import store as rows
+from adsd_tools.rows import store as rows
 from adsd_tools.shown import shown, text_of
 
 # The line of a schema record, and how the line begins that is shown.

@@ -5,8 +5,8 @@ All is asked of the program on connection 0, by the token of --reader. What that
 import struct
 from dataclasses import dataclass
 
-from adsd_tools.importing import names as dns
-from adsd_tools.importing.sids import below, sid_at, sid_of_text
+from adsd_tools.forms import names as dns
+from adsd_tools.forms.sids import below, sid_at, sid_of_text
 
 from . import items, numerals, searches
 from .messages import MOST

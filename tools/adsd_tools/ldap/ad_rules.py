@@ -7,7 +7,7 @@ that the caller may not see, that a principal's name is taken, only where the pr
 import re
 from dataclasses import replace
 
-from adsd_tools.importing import names as dns
+from adsd_tools.forms import names as dns
 
 from . import filling, items, searches
 from .accounts import number_of as first_number

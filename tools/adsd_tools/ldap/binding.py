@@ -3,7 +3,7 @@
 import asyncio
 import time
 
-from adsd_tools.ask import ber
+from adsd_tools.forms import ber
 
 from . import messages, names
 from .accounts import Ambiguous, TooMany, Unidentified

@@ -8,10 +8,11 @@ import shlex
 import sys
 
 from adsd_tools import incomplete
-from adsd_tools.ask.words import ADSD, Wrong, groups_of, sid
-from adsd_tools.importing.sids import text_of_sid
-from adsd_tools.names.accounts import Accounts
-from adsd_tools.report.store import Broken
+from adsd_tools.ask.words import Wrong, groups_of, sid
+from adsd_tools.forms.sids import text_of_sid
+from adsd_tools.rows.accounts import Accounts
+from adsd_tools.rows.store import Broken
+from adsd_tools.run import ADSD
 from adsd_tools.shown import shown
 
 from . import names, passwords, tls

@@ -6,8 +6,8 @@ import asyncio
 from dataclasses import dataclass, replace
 from typing import Callable, Tuple
 
-from adsd_tools.importing import names as dns
-from adsd_tools.importing.sids import below, text_of_sid
+from adsd_tools.forms import names as dns
+from adsd_tools.forms.sids import below, text_of_sid
 
 from . import items, searches, subschema
 from .accounts import number_of, sid_of

@@ -3,7 +3,7 @@ password (RFC 3062), which becomes a change of unicodePwd that the program judge
 
 import secrets
 
-from adsd_tools.ask import ber
+from adsd_tools.forms import ber
 
 from . import messages, tls
 from .accounts import Ambiguous, Unidentified

@@ -3,8 +3,7 @@ client's own token, and so shows no more (docs/clients.md)."""
 
 from dataclasses import replace
 
-from . import (computed, items, lists, messages, paging, ranges, root_dse, schema_entries, searches, sorting,
-               subschema)
+from . import computed, items, lists, messages, paging, ranges, root_dse, schema_entries, searches, sorting, subschema
 from .heavy import beside
 from .program import MESSAGE
 from .rewriting import Rewriter

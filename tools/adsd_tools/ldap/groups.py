@@ -6,7 +6,7 @@ isn't known, unless --unknown-groups is given (docs/clients.md#groups-that-arent
 import asyncio
 import struct
 
-from adsd_tools.report import store
+from adsd_tools.rows import store
 from adsd_tools.shown import shown
 
 from . import items, searches

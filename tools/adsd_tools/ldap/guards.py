@@ -6,8 +6,8 @@ the program's where that refuses the change anyway (writable.py)."""
 
 import struct
 
-from adsd_tools.importing import names as dns
-from adsd_tools.importing.sids import below, sid_at
+from adsd_tools.forms import names as dns
+from adsd_tools.forms.sids import below, sid_at
 
 from . import filling, items, messages, operations, searches
 from .accounts import ADMINISTRATORS, SECURITY, sid_of

@@ -3,7 +3,7 @@
 from dataclasses import dataclass
 from typing import Optional
 
-from adsd_tools.ask import ber
+from adsd_tools.forms import ber
 
 AND, OR, NOT, EQUAL, PIECES, AT_LEAST, AT_MOST = 0xA0, 0xA1, 0xA2, 0xA3, 0xA4, 0xA5, 0xA6
 PRESENT, LIKE, EXTENSIBLE = 0x87, 0xA8, 0xA9

@@ -5,7 +5,7 @@ import struct
 from dataclasses import dataclass
 from typing import Optional
 
-from adsd_tools.ask import ber
+from adsd_tools.forms import ber
 
 from . import messages, searches, sorting
 from .searches import Found, Refused

@@ -3,7 +3,7 @@ schema's own objects. They are told to whoever may have them as a whole, so no a
 
 from dataclasses import replace
 
-from adsd_tools.ask import ber
+from adsd_tools.forms import ber
 
 from . import items, searches
 from .searches import BASE, ONE, Found

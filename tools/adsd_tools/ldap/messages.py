@@ -4,7 +4,7 @@ All else is the program's to read and to answer."""
 
 from dataclasses import dataclass
 
-from adsd_tools.ask import ber
+from adsd_tools.forms import ber
 
 BIND, UNBIND, SEARCH, EXTENDED, COMPARE = 0x60, 0x42, 0x63, 0x77, 0x6E
 CHANGES = {0x66: "modify", 0x68: "add", 0x4A: "delete", 0x6C: "rename"}

@@ -5,8 +5,8 @@ has an order, again and again, and few of them are tried at each object."""
 
 import unicodedata
 
-from adsd_tools.ask import ber
-from adsd_tools.importing import names as dns
+from adsd_tools.forms import ber
+from adsd_tools.forms import names as dns
 
 from . import items
 

@@ -10,7 +10,7 @@ from typing import Callable, Optional
 from adsd_tools.ask import words
 from adsd_tools.ask.requests import TOKEN_WORDS, Line
 from adsd_tools.ask.words import Wrong
-from adsd_tools.importing import names as dns
+from adsd_tools.forms import names as dns
 
 from . import passwords
 

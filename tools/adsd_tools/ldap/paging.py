@@ -6,7 +6,7 @@ given, the client binds anew, or the answer had to make room."""
 import struct
 from dataclasses import dataclass, replace
 
-from adsd_tools.ask import ber
+from adsd_tools.forms import ber
 
 from . import messages, searches
 from .searches import Found, Refused

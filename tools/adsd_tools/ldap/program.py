@@ -6,8 +6,8 @@ import os
 import signal
 
 from adsd_tools import run
-from adsd_tools.ask import ber
 from adsd_tools.ask.requests import frame
+from adsd_tools.forms import ber
 from adsd_tools.shown import shown
 
 TOKEN, MESSAGE, STEPS, RUN = 1, 2, 3, 4

@@ -3,7 +3,7 @@
 import re
 from dataclasses import replace
 
-from adsd_tools.report.schema import UNREAD
+from adsd_tools.rows.schema import UNREAD
 
 from . import searches
 

@@ -5,8 +5,8 @@ is undefined where the attribute isn't read, as each item is."""
 
 import re
 
-from adsd_tools.ask import ber
-from adsd_tools.importing import names as dns
+from adsd_tools.forms import ber
+from adsd_tools.forms import names as dns
 
 from . import items, messages, named, sorting, times
 from .heavy import beside

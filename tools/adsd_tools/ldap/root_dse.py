@@ -5,10 +5,10 @@ and leaves all others to the program."""
 
 from dataclasses import replace
 
-from adsd_tools.ask import ber, filters
 from adsd_tools.ask.records import TREE_DELETE
 from adsd_tools.ask.requests import SD_FLAGS
-from adsd_tools.importing import names as dns
+from adsd_tools.forms import ber, filters
+from adsd_tools.forms import names as dns
 
 from . import (extended, filling, lists, local, messages, paging, permissive, schema_entries, searches, sorting,
                subschema, tls)

@@ -3,9 +3,9 @@ there at all. No client is told of it: it decides what the bridge refuses, and w
 
 from dataclasses import dataclass
 
-from adsd_tools.importing import names as dns
-from adsd_tools.importing.names import value_text
-from adsd_tools.report import store
+from adsd_tools.forms import names as dns
+from adsd_tools.forms.names import value_text
+from adsd_tools.rows import store
 
 from .view import key_of
 

@@ -3,9 +3,9 @@
 import re
 import struct
 
-from adsd_tools.importing.names import value_text
-from adsd_tools.report import schema as schemas
-from adsd_tools.report import store
+from adsd_tools.forms.names import value_text
+from adsd_tools.rows import store
+from adsd_tools.rows import schema as schemas
 
 from . import schema_entries, subschema
 

@@ -4,10 +4,10 @@ store has no such objects, and no request changes them. They are told to whom th
 
 from dataclasses import replace
 
-from adsd_tools.ask import filters
-from adsd_tools.importing.names import value_text
-from adsd_tools.importing.sids import guid_of_text
-from adsd_tools.report.schema import ATTRIBUTE, CLASS, RIGHT, UNREAD
+from adsd_tools.forms import filters
+from adsd_tools.forms.names import value_text
+from adsd_tools.forms.sids import guid_of_text
+from adsd_tools.rows.schema import ATTRIBUTE, CLASS, RIGHT, UNREAD
 
 from . import local, searches
 from .heavy import HEAVY, beside

@@ -4,7 +4,7 @@ import hashlib
 from dataclasses import dataclass, replace
 from typing import Optional, Tuple
 
-from adsd_tools.ask import ber
+from adsd_tools.forms import ber
 
 from . import messages
 

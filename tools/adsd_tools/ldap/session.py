@@ -4,8 +4,8 @@ import asyncio
 import socket
 import struct
 
-from adsd_tools.ask import ber
 from adsd_tools.ask.answers import CODES
+from adsd_tools.forms import ber
 
 from . import extended, messages, peers, root_dse, searches, tls
 from .binding import Binder

@@ -2,8 +2,8 @@
 
 from dataclasses import dataclass, replace
 
-from adsd_tools.ask import ber
-from adsd_tools.importing import names as dns
+from adsd_tools.forms import ber
+from adsd_tools.forms import names as dns
 
 from . import messages, searches
 from .searches import Refused

@@ -5,8 +5,8 @@ reads them."""
 import re
 from dataclasses import replace
 
-from adsd_tools.ask import ber
-from adsd_tools.importing.sids import guid_of_text, sid_at, sid_of_text
+from adsd_tools.forms import ber
+from adsd_tools.forms.sids import guid_of_text, sid_at, sid_of_text
 
 from . import items, messages, searches
 from .heavy import beside

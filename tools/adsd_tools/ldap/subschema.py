@@ -7,7 +7,7 @@ import re
 import uuid
 from dataclasses import replace
 
-from adsd_tools.ask import ber, filters
+from adsd_tools.forms import ber, filters
 
 from . import searches
 from .names import key_of

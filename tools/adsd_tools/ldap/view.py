@@ -2,7 +2,7 @@
 
 from dataclasses import replace
 
-from adsd_tools.importing import names as dns
+from adsd_tools.forms import names as dns
 
 from . import items, searches
 from .heavy import beside

@@ -6,7 +6,7 @@ given, so that a refusal tells nothing to who couldn't make the change."""
 from dataclasses import dataclass
 from typing import Optional
 
-from adsd_tools.importing import names as dns
+from adsd_tools.forms import names as dns
 
 from . import operations, searches
 from .operations import ADD

@@ -6,11 +6,10 @@ import re
 import sys
 
 from adsd_tools import incomplete
-from adsd_tools.importing.sids import sid_of_text
-from adsd_tools.report import store
+from adsd_tools.forms.sids import sid_of_text
+from adsd_tools.rows import store
+from adsd_tools.rows.accounts import Accounts
 from adsd_tools.shown import SPELLED, Words, shown, text_of
-
-from .accounts import Accounts
 
 ABOUT = """Puts the name of an account behind each identifier of a text, as S-1-5-11 <authenticated users>:
 

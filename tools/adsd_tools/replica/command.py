@@ -6,9 +6,10 @@ import sys
 import time
 
 from adsd_tools import incomplete
-from adsd_tools.ask.words import ADSD, Wrong
+from adsd_tools.ask.words import Wrong
 from adsd_tools.ldap import command as ldap
-from adsd_tools.report import store as rows
+from adsd_tools.rows import store as rows
+from adsd_tools.run import ADSD
 from adsd_tools.shown import shown, text_of
 
 from . import etcd

@@ -7,7 +7,7 @@ at its position is copied, the program takes the entry there, and both have to h
 import os
 
 from adsd_tools.ask.requests import frame
-from adsd_tools.report import store as rows
+from adsd_tools.rows import store as rows
 from adsd_tools.run import run
 
 from .copying import cut_to, removed

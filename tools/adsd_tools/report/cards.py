@@ -4,10 +4,9 @@ from dataclasses import dataclass, field
 from typing import List, Optional, Tuple
 
 from adsd_tools import lines
-from adsd_tools.ask.words import codes
-from adsd_tools.importing.descriptor import INHERITED, KIND_WORDS
-from adsd_tools.importing.sddl import FLAGS, RIGHTS
-from adsd_tools.importing.sids import text_of_sid
+from adsd_tools.forms.descriptor import INHERITED, KIND_WORDS
+from adsd_tools.forms.rights import FLAGS, RIGHTS, codes
+from adsd_tools.forms.sids import text_of_sid
 from adsd_tools.shown import shown, text_of
 
 from .deciding import Checked, Deciding

@@ -6,12 +6,13 @@ import sys
 import tempfile
 
 from adsd_tools import incomplete
-from adsd_tools import shown as adsd_shown
-from adsd_tools.ask import ber, filters, words
-from adsd_tools.importing.report import shown
-from adsd_tools.names.accounts import Accounts
+from adsd_tools.ask import words
+from adsd_tools.forms import ber, filters
+from adsd_tools.rows import store
+from adsd_tools.rows.accounts import Accounts
+from adsd_tools.shown import brief, shown
 
-from . import cards, library, program, store, tokens
+from . import cards, library, program, tokens
 from .deciding import Deciding
 from .front import BadFrames, Front, frames_of
 from .names import Principals
@@ -45,7 +46,7 @@ class Words(argparse.ArgumentParser):
 
 
 def say(line):
-    sys.stderr.write(f"adsd-report: {adsd_shown.shown(str(line))}\n")
+    sys.stderr.write(f"adsd-report: {shown(str(line))}\n")
 
 
 def positive(text):
@@ -87,7 +88,7 @@ def chosen(state, base):
     """The objects that are shown, in the order of the tree, with their depths."""
     number = 1 if base is None else state.found(base)
     if number is None:
-        raise words.Wrong(f"--base {shown(base)}: no object has this name")
+        raise words.Wrong(f"--base {brief(base)}: no object has this name")
     return list(state.in_tree_order(number))
 
 
@@ -99,7 +100,7 @@ def seen_of(path, copy, state, token, made):
     by_name = {name: number for number, name in state.names.items()}
     unknown = [name for name in names if name not in by_name]
     if unknown:
-        raise store.Broken(f"the program shows {shown(unknown[0])}, which wasn't found in the rows")
+        raise store.Broken(f"the program shows {brief(unknown[0])}, which wasn't found in the rows")
     return {by_name[name] for name in names}
 
 

@@ -5,8 +5,8 @@ from dataclasses import dataclass
 from typing import Tuple
 
 from adsd_tools.ask import words
-from adsd_tools.importing.sddl import RIGHTS
-from adsd_tools.importing.sids import OWNER_RIGHTS, sid_of_text, text_of_sid
+from adsd_tools.forms.rights import RIGHTS
+from adsd_tools.forms.sids import OWNER_RIGHTS, sid_of_text, text_of_sid
 
 from . import normals
 

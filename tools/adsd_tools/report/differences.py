@@ -1,6 +1,6 @@
 """Which rights came to a token and which went: between two moments, and from the first moment to the last."""
 
-from adsd_tools.importing.sddl import RIGHTS
+from adsd_tools.forms.rights import RIGHTS
 
 from .harms import HARMS, RANK, dangerous
 

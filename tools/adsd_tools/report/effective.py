@@ -1,7 +1,7 @@
 """What the program's `effective` says of a token at an object (docs/profile/listings.md)."""
 
 from adsd_tools import lines
-from adsd_tools.importing.sddl import RIGHTS
+from adsd_tools.forms.rights import RIGHTS
 
 # The rights on the object as a whole that `effective` speaks of.
 ON_OBJECT = [code for code, bit in RIGHTS.items() if bit & 0xF01FF]

@@ -6,12 +6,12 @@ from dataclasses import dataclass, field
 from typing import Dict, FrozenSet, List, Set, Tuple
 
 from adsd_tools.ask import requests
+from adsd_tools.rows.store import SLOTS
 
 from .effective import rights_of
 from .html import plural
 from .program import Serving, answered, asked, copy_slots
 from .state import State
-from .store import SLOTS
 
 TOKEN, MESSAGE, STEPS, RUN = 1, 2, 3, 4
 WORDS = {0x66: "modify", 0x68: "add", 0x4A: "delete", 0x6C: "rename"}

@@ -4,7 +4,7 @@ what is granted is said by `effective`, who owns an object by `list`, who is pro
 from dataclasses import dataclass
 from typing import Dict, List, Tuple
 
-from adsd_tools.importing.sids import guid_of_text, text_of_sid
+from adsd_tools.forms.sids import guid_of_text, text_of_sid
 
 from .effective import KINDS, ON_OBJECT
 

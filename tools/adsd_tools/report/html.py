@@ -2,12 +2,12 @@
 
 from html import escape
 
-from adsd_tools.importing.report import shown
+from adsd_tools.shown import brief
 
 
 def text(value, most=400):
     """A text or bytes as they are shown: what isn't printed stands as its code, and nothing is markup."""
-    return escape(shown(value, most), quote=True)
+    return escape(brief(value, most), quote=True)
 
 
 def tag(name, body="", **marks):

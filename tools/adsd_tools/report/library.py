@@ -9,9 +9,8 @@ import subprocess
 import sys
 from ctypes import byref, c_uint32
 
-HERE = os.path.dirname(os.path.abspath(__file__))
-# The repository, or the folder into which tools/install puts the program.
-TOP = os.path.dirname(os.path.dirname(os.path.dirname(HERE)))
+from adsd_tools.run import TOP
+
 NAME = "libadsd.so.1"
 ALL_PARTS = 15
 ALLOW_ALL = 0x10000000

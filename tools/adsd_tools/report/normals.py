@@ -4,7 +4,7 @@ import struct
 from dataclasses import dataclass, replace
 from typing import List
 
-from adsd_tools.importing.descriptor import ALLOW, DENY, INHERIT_ONLY
+from adsd_tools.forms.descriptor import ALLOW, DENY, INHERIT_ONLY
 
 MARK_DACL, MARK_SACL = 1, 2
 OBJECT_KINDS = (5, 6, 7)

@@ -3,7 +3,7 @@
 import base64
 import hashlib
 
-from adsd_tools.importing.sids import text_of_sid
+from adsd_tools.forms.sids import text_of_sid
 
 from . import events
 from .html import facts, plural, table, tag, text

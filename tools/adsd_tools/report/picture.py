@@ -4,7 +4,7 @@ import unicodedata
 from dataclasses import dataclass
 from typing import FrozenSet, List, NamedTuple
 
-from adsd_tools.importing.report import shown
+from adsd_tools.shown import brief
 
 from .differences import changed, phrases, short
 from .front import touched
@@ -114,7 +114,7 @@ def width(letters, size):
 
 def fitting(value, pixels, size):
     """A text that has room in so many pixels."""
-    made = shown(value, 400)
+    made = brief(value, 400)
     if width(made, size) <= pixels:
         return made
     while made and width(made + "..", size) > pixels:

@@ -8,17 +8,14 @@ import sys
 import time
 from concurrent.futures import ThreadPoolExecutor
 
-from adsd_tools.ask import ber, requests
-from adsd_tools.ask.words import ADSD
+from adsd_tools import lines
+from adsd_tools.ask import requests
 from adsd_tools.files import copy
-from adsd_tools.run import hand_on, run
+from adsd_tools.forms import ber
+from adsd_tools.rows.store import SLOTS
+from adsd_tools.run import ADSD, TOP, hand_on, run
 from adsd_tools.shown import line_of, shown, shown_bytes
 
-from adsd_tools import lines
-
-from .store import SLOTS
-
-TOP = os.path.normpath(os.path.join(os.path.dirname(os.path.abspath(__file__)), "../../.."))
 # Where the program is installed, and what names it in the repository.
 INSTALLED, WHICH = os.path.join(TOP, "program"), os.path.join(TOP, "tools", "which-program")
 SEARCH, ENTRY, DONE, ALL_OF = 0x63, 0x64, 0x65, 0xA0

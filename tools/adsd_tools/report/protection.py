@@ -3,10 +3,10 @@
 import struct
 
 from adsd_tools.ask import requests
-from adsd_tools.importing.descriptor import INHERITED
-from adsd_tools.importing.sids import sid_at
+from adsd_tools.forms.descriptor import INHERITED
+from adsd_tools.forms.sids import sid_at
+from adsd_tools.rows import store
 
-from . import store
 from .program import Failed, Serving, copy_slots
 
 RUN, BOTH_PROTECTED = 4, 3

@@ -1,13 +1,12 @@
 """A directory at one moment: names, the tree, which descriptors are stale, and what is pending
 (docs/profile/propagation.md)."""
 
-from adsd_tools.importing.descriptor import INHERITED, Acl
-from adsd_tools.importing.rights import copies
-from adsd_tools.importing.sids import sid_at
+from adsd_tools.forms.descriptor import INHERITED, Acl
+from adsd_tools.forms.inheriting import copies
+from adsd_tools.forms.sids import sid_at
+from adsd_tools.rows import store
+from adsd_tools.rows.schema import Schema
 from adsd_tools.shown import shown
-
-from . import store
-from .schema import Schema
 
 SETTINGS = ("configuration", "services", "windows nt", "directory service")
 

@@ -4,7 +4,7 @@ from dataclasses import dataclass, field
 from typing import FrozenSet, List, Optional, Tuple
 
 from adsd_tools.ask import tokens, words
-from adsd_tools.importing.sids import sid_of_alias, sid_of_text, text_of_sid
+from adsd_tools.forms.sids import sid_of_alias, sid_of_text, text_of_sid
 
 from .html import text
 

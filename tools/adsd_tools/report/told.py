@@ -1,14 +1,14 @@
 """The cards in words: the list of an object entry by entry, what is granted by which, and who else has it."""
 
-from adsd_tools.ask.words import codes
-from adsd_tools.importing.descriptor import AUDIT, DENY, INHERIT_ONLY, INHERITED
-from adsd_tools.importing.sids import OWNER_RIGHTS, text_of_sid
+from adsd_tools.forms.descriptor import AUDIT, DENY, INHERIT_ONLY, INHERITED
+from adsd_tools.forms.rights import codes
+from adsd_tools.forms.sids import OWNER_RIGHTS, text_of_sid
+from adsd_tools.rows.schema import UNREAD
 
 from .cards import FLAGS_SHOWN
 from .html import code, facts, plural, table, tag, text, yes_no
 from .html import row as markup_row
 from .names import CODES, SELF
-from .schema import UNREAD
 from .style import ENTRIES, MAY
 
 KINDS = {"object": "the object as a whole", "attribute": "attribute", "set": "property set", "right": "extended right",

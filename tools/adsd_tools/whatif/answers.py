@@ -6,9 +6,9 @@ from dataclasses import dataclass
 from typing import Dict, Optional
 
 from adsd_tools import lines
-from adsd_tools.importing.sids import text_of_sid
-from adsd_tools.names.accounts import Accounts
+from adsd_tools.forms.sids import text_of_sid
 from adsd_tools.report.program import Failed, answered
+from adsd_tools.rows.accounts import Accounts
 from adsd_tools.run import run
 from adsd_tools.shown import line_of, shown
 

@@ -6,11 +6,13 @@ import sys
 import tempfile
 
 from adsd_tools import incomplete
-from adsd_tools.ask import ber, filters, words
+from adsd_tools.ask import words
 from adsd_tools.ask import answers as replies
-from adsd_tools.names.accounts import Accounts
-from adsd_tools.report import program, store
+from adsd_tools.forms import ber, filters
+from adsd_tools.report import program
 from adsd_tools.report.front import BadFrames
+from adsd_tools.rows import store
+from adsd_tools.rows.accounts import Accounts
 from adsd_tools.shown import shown
 
 from . import answers, differing, questions, told

@@ -6,7 +6,7 @@ from typing import Dict, List, Tuple
 
 from adsd_tools import lines as adsd_lines
 from adsd_tools.ask import answers, requests, tokens
-from adsd_tools.importing.sids import text_of_sid
+from adsd_tools.forms.sids import text_of_sid
 from adsd_tools.report import program
 from adsd_tools.report.front import frames_of
 from adsd_tools.report.tokens import user_of

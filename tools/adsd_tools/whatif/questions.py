@@ -4,7 +4,7 @@ Which rights are dangerous is a list (report/harms.py); who has them is the prog
 from dataclasses import dataclass, field
 from typing import Dict, List, Optional
 
-from adsd_tools.importing.sids import guid_of_text, text_of_guid
+from adsd_tools.forms.sids import guid_of_text, text_of_guid
 from adsd_tools.report.effective import KINDS
 from adsd_tools.report.harms import RESET, SCRIPTS, SECRETS, SELF_MEMBERSHIP, VALIDATED_SPN
 from adsd_tools.report.protection import protected

@@ -3,14 +3,12 @@
 import argparse
 import sys
 
-from adsd_tools import incomplete
-from adsd_tools import lines
-from adsd_tools.ask.words import ADSD
-from adsd_tools.importing.sids import sid_of_text, text_of_sid
-from adsd_tools.names.accounts import Accounts
-from adsd_tools.report import store
-from adsd_tools.report.names import WELL_KNOWN
-from adsd_tools.run import run
+from adsd_tools import incomplete, lines
+from adsd_tools.forms.known import WELL_KNOWN
+from adsd_tools.forms.sids import sid_of_text, text_of_sid
+from adsd_tools.rows import store
+from adsd_tools.rows.accounts import Accounts
+from adsd_tools.run import ADSD, run
 from adsd_tools.shown import Words, line_of, shown, text_of
 
 from . import differences, written

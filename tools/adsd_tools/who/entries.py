@@ -1,9 +1,9 @@
 """What decides, spelled out: the owner, a privilege, or the entry of a place of a list, as the text of it."""
 
 from adsd_tools import lines
-from adsd_tools.importing.descriptor import KIND_WORDS
-from adsd_tools.importing.sids import text_of_guid, text_of_sid
-from adsd_tools.report import store
+from adsd_tools.forms.descriptor import KIND_WORDS
+from adsd_tools.forms.sids import text_of_guid, text_of_sid
+from adsd_tools.rows import store
 from adsd_tools.shown import shown
 
 

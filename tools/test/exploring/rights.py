@@ -6,7 +6,7 @@ import os
 import random
 import subprocess
 
-from adsd_tools.importing.sids import sid_of_text, text_of_sid
+from adsd_tools.forms.sids import sid_of_text, text_of_sid
 from adsd_tools.report import program
 from adsd_tools.report.harms import RANK, dangerous
 

@@ -6,7 +6,8 @@ import struct
 import subprocess
 
 from adsd_tools.ask import requests
-from adsd_tools.report import program, store
+from adsd_tools.report import program
+from adsd_tools.rows import store
 from adsd_tools.report.harms import HARMS
 from adsd_tools.report.state import State
 

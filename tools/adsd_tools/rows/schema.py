@@ -3,7 +3,7 @@
 from dataclasses import dataclass
 from typing import Dict, List, Optional
 
-from adsd_tools.importing.sids import guid_of_text, text_of_guid
+from adsd_tools.forms.sids import guid_of_text, text_of_guid
 from adsd_tools.shown import text_of
 
 ATTRIBUTE, CLASS, RIGHT = 0, 1, 2

@@ -3,11 +3,12 @@
 import os
 import struct
 
-from adsd_tools.importing.sids import below, sid_at, sid_of_text, text_of_sid
-from adsd_tools.report import store
-from adsd_tools.report.names import OF_DOMAIN, WELL_KNOWN
-from adsd_tools.report.schema import Schema
+from adsd_tools.forms.known import OF_DOMAIN, WELL_KNOWN
+from adsd_tools.forms.sids import below, sid_at, sid_of_text, text_of_sid
 from adsd_tools.shown import shown, text_of
+
+from . import store
+from .schema import Schema
 
 SID_SYNTAX, ROOT = "2.5.5.17", 1
 # The groups that everybody is in who has proved an identity: authenticated users, and everyone.

@@ -8,9 +8,9 @@ from dataclasses import dataclass, field
 from typing import Dict, List, Tuple
 
 from adsd_tools.files import pieces_of, write
-from adsd_tools.importing.descriptor import Acl, Descriptor, Entry, Lost, Unreadable, entry_at
-from adsd_tools.importing.names import value_text
-from adsd_tools.importing.sids import sid_at
+from adsd_tools.forms.descriptor import Acl, Descriptor, Entry, Lost, Unreadable, entry_at
+from adsd_tools.forms.names import value_text
+from adsd_tools.forms.sids import sid_at
 from adsd_tools.shown import shown_bytes
 
 SLOTS = ("", ".b")
