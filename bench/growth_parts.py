@@ -9,9 +9,10 @@ TOP = os.path.dirname(os.path.dirname(os.path.abspath(__file__)))
 sys.path[:0] = [os.path.join(TOP, "tools"), os.path.join(TOP, "bench/load")]
 
 import make  # noqa: E402
-from adsd_ask import ber, words  # noqa: E402
-from adsd_ask.ber import attribute  # noqa: E402
-from adsd_ask.requests import frame  # noqa: E402
+from adsd_tools.ask import words  # noqa: E402
+from adsd_tools.forms import ber  # noqa: E402
+from adsd_tools.forms.ber import attribute  # noqa: E402
+from adsd_tools.ask.requests import frame  # noqa: E402
 
 ROOT = "DC=corp,DC=example"
 STAFF = "OU=staff," + ROOT

@@ -28,7 +28,7 @@ def shared_library(folder):
 
 def files_of_tools():
     """What the package takes of the tree's scripts."""
-    folder = os.path.join(HERE, "../tools/adsd_ask")
+    folder = os.path.join(HERE, "../tools/adsd_tools/forms")
     for name in ("ber.py", "filters.py"):
         with open(os.path.join(folder, name), "rb") as file:
             yield f"adsd/_ask/{name}", file.read()

@@ -22,22 +22,27 @@ _adsd() {
     fi
 }
 
-# The words of a companion and its options, which its --help tells; elsewhere files.
+# The words of a companion and its options, which its --help tells; elsewhere files. `adsd-tools ask` is completed as `adsd-ask`.
 _adsd_companion() {
-    local word=${COMP_WORDS[COMP_CWORD]} name=${COMP_WORDS[0]} of=${COMP_WORDS[1]-} words=
+    local word=${COMP_WORDS[COMP_CWORD]} command=("${COMP_WORDS[0]}") at=1 name=${COMP_WORDS[0]##*/} of words=
     COMPREPLY=()
-    case ${name##*/} in
+    if [ "$name" = adsd-tools ] && [ "$COMP_CWORD" -gt 1 ]; then
+        command+=("${COMP_WORDS[1]}") at=2 name=adsd-${COMP_WORDS[1]}
+    fi
+    of=${COMP_WORDS[at]-}
+    case $name in
+        adsd-tools) words="ask bloodhound explore import ldap names replica report whatif who" ;;
         adsd-ask) words="access frames replies" ;;
         adsd-ldap) words="serve name" ;;
         adsd-replica) words="begin copy serve status forget upgrade compare" ;;
         adsd-who) words="token who can diff" ;;
     esac
-    if [ "$COMP_CWORD" -eq 1 ] && [ -n "$words" ] && [[ $word != -* ]]; then
+    if [ "$COMP_CWORD" -eq "$at" ] && [ -n "$words" ] && [[ $word != -* ]]; then
         mapfile -t COMPREPLY < <(compgen -W "$words" -- "$word")
     elif [[ $word == -* ]]; then
         # (an option is told where its line begins, so that the options of an example don't count)
         [[ " $words " == *" $of "* ]] || of=
-        words=$("$name" $of --help 2>/dev/null | grep -oE '^  (-., |-. [A-Z]+, )?--[a-z-]+' | grep -oE -- '--[a-z-]+')
+        words=$("${command[@]}" $of --help 2>/dev/null | grep -oE '^  (-., |-. [A-Z]+, )?--[a-z-]+' | grep -oE -- '--[a-z-]+')
         mapfile -t COMPREPLY < <(compgen -W "$words" -- "$word")
     else
         mapfile -t COMPREPLY < <(compgen -f -- "$word")
@@ -46,4 +51,4 @@ _adsd_companion() {
 }
 
 complete -F _adsd adsd
-complete -F _adsd_companion adsd-ask adsd-bloodhound adsd-explore adsd-import adsd-ldap adsd-names adsd-replica adsd-report adsd-whatif adsd-who
+complete -F _adsd_companion adsd-tools adsd-ask adsd-bloodhound adsd-explore adsd-import adsd-ldap adsd-names adsd-replica adsd-report adsd-whatif adsd-who

@@ -65,7 +65,7 @@ def options():
                 scripts[path] = file.read()
     for part in text_of(os.path.join(TOP, "tools/README.md")).split("\n## "):
         told = [name for name in re.findall(r"(?:tools/)?\b([a-z][\w/-]+)", part) if "tools/" + name in scripts]
-        folders = tuple(f"tools/{name.replace('-', '_')}/" for name in told)
+        folders = tuple(f"tools/adsd_tools/{name[5:]}" for name in told if name.startswith("adsd-"))
         own = [text for path, text in scripts.items() if path[6:] in told or path.startswith(folders)]
         for option in sorted(set(re.findall(r"(?<![\w-])--[a-z][\w-]+", part)) - OPTIONS):
             if not any(option in text for text in own):

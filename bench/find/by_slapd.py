@@ -13,7 +13,8 @@ import threading
 import time
 
 import slapd
-from adsd_ask import ber, requests
+from adsd_tools.ask import requests
+from adsd_tools.forms import ber
 
 PATH = os.environ.get("PATH", "") + ":/usr/sbin"
 SLAPD = os.environ.get("SLAPD") or shutil.which("slapd", path=PATH)

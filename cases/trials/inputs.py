@@ -43,7 +43,7 @@ class Judge:
 
 def question():
     """The bytes of a question of `access`, and what is granted."""
-    from adsd_ask import words
+    from adsd_tools.ask import words
 
     token = words.token("S-1-5-21-1-2-3-1104", groups="S-1-5-11", deny="S-1-5-32-546", restricting="S-1-1-0")
     entry = bytes.fromhex("00002400ff010f00") + words.sid("S-1-5-21-1-2-3-1104")
@@ -84,7 +84,7 @@ def whole_prefix(answers, count):
 
 def cut_questions(judge):
     """A question of `access`, and a token for `effective`, cut at each byte: refused, and nothing is said."""
-    from adsd_ask import words
+    from adsd_tools.ask import words
 
     whole = access_input(*question())
     judge.want("the whole question", judge.run("access", given=whole)[0], 0)

@@ -82,7 +82,7 @@ def loaded(program, folder, ldif=BASE):
 
 def frames_of(stream):
     """The frames that a file of lines for tools/adsd-ask, or a list of such lines, stands for."""
-    from adsd_ask import requests
+    from adsd_tools.ask import requests
 
     if isinstance(stream, (list, tuple)):
         return list(requests.frames(stream))

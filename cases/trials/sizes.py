@@ -59,7 +59,7 @@ def frames(judge):
 
 def messages(judge):
     """Messages with lengths that aren't there, filters that are too deep: the connection goes on behind a notice."""
-    from adsd_ask import ber
+    from adsd_tools.forms import ber
 
     def search(depth):
         item = ber.octets(b"cn", 0x87)

@@ -2,11 +2,11 @@
 
 import random
 
-from adsd_import.descriptor import ALLOW, DENY, INHERIT_ONLY, INHERITED, Acl, Descriptor, Entry
-from adsd_import.report import Report
-from adsd_import.rights import Rights, mapped, whole
-from adsd_import.sids import OWNER_RIGHTS, sid_of_text
-from adsd_import.text import Line
+from adsd_tools.forms.descriptor import ALLOW, DENY, INHERITED, INHERIT_ONLY, Acl, Descriptor, Entry
+from adsd_tools.importing.report import Report
+from adsd_tools.importing.rights import Rights, mapped, whole
+from adsd_tools.forms.sids import OWNER_RIGHTS, sid_of_text
+from adsd_tools.importing.text import Line
 
 HOLDERS = [sid_of_text(f"S-1-5-{number}") for number in ("11", "32-544", "10", "21-1-2-3-1000", "21-1-2-3-1001")]
 OTHERS = [sid_of_text(text) for text in ("S-1-3-0", "S-1-3-1", "S-1-3-4")]

@@ -22,8 +22,9 @@ import chosen  # noqa: E402
 
 PROGRAM = os.environ["ADSD"] = chosen.program()
 
-from adsd_ask import answers, ber, requests  # noqa: E402
-from adsd_ask.requests import Line  # noqa: E402
+from adsd_tools.ask import answers, requests  # noqa: E402
+from adsd_tools.forms import ber  # noqa: E402
+from adsd_tools.ask.requests import Line  # noqa: E402
 
 REFUSED = "# bind: 49, 80090308: LdapErr: DSID-0C090400, comment: AcceptSecurityContext error, data 52e, v1db1"
 STAFF = "OU=staff,DC=corp,DC=example"

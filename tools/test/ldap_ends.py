@@ -17,8 +17,8 @@ OPENED = """
 import asyncio, os, signal, sys
 sys.dont_write_bytecode = True
 sys.path.insert(0, sys.argv[1])
-from adsd_ldap.command import main
-from adsd_ldap.program import Program
+from adsd_tools.ldap.command import main
+from adsd_tools.ldap.program import Program
 exchange, give_up = Program.exchange, Program.give_up
 async def and_signal(*words):
     answer = await exchange(*words)

@@ -1,9 +1,9 @@
 """What tools/test/ldap tries of searches beyond what the program answers: pages, and orders."""
 
 from ldap_client import ANN, BOB, NAMES, STAFF, Bridge, ber, requests
-from adsd_ldap.paging import MOST_ANSWERS, PAGED, Kept, Pages, Shelf
-from adsd_ldap.searches import Found
-from adsd_ldap.sorting import SORT, SORTED
+from adsd_tools.ldap.paging import MOST_ANSWERS, PAGED, Kept, Pages, Shelf
+from adsd_tools.ldap.searches import Found
+from adsd_tools.ldap.sorting import SORT, SORTED
 from ldap_peers import same
 
 ROOT = "DC=corp,DC=example"

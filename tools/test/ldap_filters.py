@@ -12,9 +12,9 @@ import time
 from ldap_client import BOB, NAMES, PROGRAM, STAFF, TOP, Bridge, ber, requests
 from ldap_face import ROOT, asked, order, page
 from ldap_peers import same
-from adsd_ask import words
-from adsd_import.sids import text_of_guid
-from adsd_ldap.rewriting import MOST_ITEMS
+from adsd_tools.ask import words
+from adsd_tools.forms.sids import text_of_guid
+from adsd_tools.ldap.rewriting import MOST_ITEMS
 
 OBJECTS, FILTERS = 40, int(os.environ.get("LDAP_FILTERS", "150"))
 SEED = int(os.environ.get("LDAP_SEED", "5"))

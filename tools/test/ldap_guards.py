@@ -10,11 +10,11 @@ from ldap_face import asked, control
 from ldap_peers import BOUND, same
 from ldap_store import DOMAIN, GROUPS, ROOT
 from ldap_who import ANN, NAMES, Made
-from adsd_import.sids import sid_of_text
-from adsd_ldap import guards
-from adsd_ldap.operations import RENAME, Operation
-from adsd_ldap.searches import Refused
-from adsd_report.schema import Lines
+from adsd_tools.forms.sids import sid_of_text
+from adsd_tools.ldap import guards
+from adsd_tools.ldap.operations import RENAME, Operation
+from adsd_tools.ldap.searches import Refused
+from adsd_tools.rows.schema import Lines
 
 WORK, SECRET = f"OU=work,{ROOT}", f"OU=secret,{ROOT}"
 VIC, SRV, ADMINS = f"CN=vic,{WORK}", f"CN=srv,{WORK}", f"CN=Domain Admins,{GROUPS}"

@@ -12,7 +12,7 @@ from ldap_filters import search_of
 from ldap_peers import BOUND, same
 from ldap_store import GROUPS, ROOT, UNIT, WELL_KNOWN
 from ldap_who import Made
-from adsd_ldap.extended import PASSWORD
+from adsd_tools.ldap.extended import PASSWORD
 
 MANY, LOOK = 1000, f"search base='{BOB}' attrs=cn"
 SEES = f"dn: {BOB}\ncn: bob\n\n# search: 0 success"

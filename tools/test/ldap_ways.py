@@ -11,7 +11,7 @@ from ldap_filters import search_of, searched
 from ldap_peers import same
 from ldap_store import ACCOUNTS, ATTRIBUTES, GROUPS, ROOT, SCHEMA, UNIT, WELL_KNOWN, sid
 from ldap_who import ANN, EVE, NAMES, Made
-from adsd_ldap.lists import VIEW, VIEWED
+from adsd_tools.ldap.lists import VIEW, VIEWED
 
 BOB = f"CN=Bob,{UNIT}"
 DONE, REFUSED = 0, 53

@@ -14,11 +14,11 @@ from ldap_client import REFUSED, SECONDS, Bridge, Client, Closed, ber
 from ldap_face import asked
 from ldap_peers import BOUND, same
 from ldap_store import DOMAIN, GROUPS, ROOT, UNIT, sid
-from adsd_import.sids import sid_of_text, text_of_sid
-from adsd_ldap import accounts
-from adsd_ldap.accounts import token_of
-from adsd_ldap.extended import PASSWORD
-from adsd_ldap.tls import START
+from adsd_tools.forms.sids import sid_of_text, text_of_sid
+from adsd_tools.ldap import accounts
+from adsd_tools.ldap.accounts import token_of
+from adsd_tools.ldap.extended import PASSWORD
+from adsd_tools.ldap.tls import START
 
 NAMES = "admin password=adm1n user=BA privileges=security\n"
 ANN, EVE = f"CN=Ann Lee,{UNIT}", f"CN=Eve,{UNIT}"

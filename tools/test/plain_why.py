@@ -4,10 +4,10 @@ compared with in the tests of adsd-report and adsd-explore."""
 from dataclasses import dataclass, field
 from typing import List, Optional, Tuple
 
-from adsd_import.descriptor import ALLOW, DENY, INHERIT_ONLY
-from adsd_import.rights import mapped
-from adsd_import.sddl import RIGHTS
-from adsd_import.sids import OWNER_RIGHTS, sid_of_text
+from adsd_tools.forms.descriptor import ALLOW, DENY, INHERIT_ONLY
+from adsd_tools.importing.rights import mapped
+from adsd_tools.forms.rights import RIGHTS
+from adsd_tools.forms.sids import OWNER_RIGHTS, sid_of_text
 
 SELF = sid_of_text("S-1-5-10")
 OF_OWNER = RIGHTS["RC"] | RIGHTS["WD"]

@@ -4,8 +4,8 @@ way a try came to nothing, was made without an answer, or is made only when the 
 import asyncio
 import random
 
-from adsd_replica import appending, entries
-from adsd_replica.etcd import Away
+from adsd_tools.replica import appending, entries
+from adsd_tools.replica.etcd import Away
 
 CHANGES, CLIENTS = 400, 8
 START = entries.beginning(b"a log")

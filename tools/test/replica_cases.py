@@ -10,8 +10,8 @@ import time
 
 import ldap_store
 from ldap_client import PROGRAM, TOP
-from adsd_ask import ber
-from adsd_ldap.program import STEPS
+from adsd_tools.forms import ber
+from adsd_tools.ldap.program import STEPS
 from replica_checks import all_entries, differences
 from replica_faults import begun, ended
 from replica_world import MANY, ROOT, World, is_apart

@@ -7,11 +7,11 @@ import shutil
 import subprocess
 
 from ldap_client import PROGRAM
-from adsd_ask.requests import frame
-from adsd_ldap import messages
-from adsd_ldap.program import DROP, MESSAGE, TOKEN
-from adsd_replica import entries
-from adsd_report import store
+from adsd_tools.ask.requests import frame
+from adsd_tools.ldap import messages
+from adsd_tools.ldap.program import DROP, MESSAGE, TOKEN
+from adsd_tools.replica import entries
+from adsd_tools.rows import store
 
 MARK = re.compile(rb"w\d+-\d+\.")
 MOST = 900_000

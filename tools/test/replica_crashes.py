@@ -7,10 +7,10 @@ import subprocess
 from ldap_client import PROGRAM
 from replica_checks import all_entries, frames_of, same_rows
 from replica_world import MANY, World
-from adsd_replica.entries import beginning, chained, of_run
-from adsd_replica.ordered import line_of, put_of
-from adsd_replica.position import BLOCK, Position, Positions
-from adsd_replica.slots import SLOTS, Slots
+from adsd_tools.replica.entries import beginning, chained, of_run
+from adsd_tools.replica.ordered import line_of, put_of
+from adsd_tools.replica.position import BLOCK, Position, Positions
+from adsd_tools.replica.slots import SLOTS, Slots
 
 SECONDS = 120
 OPEN = "D:(A;CI;GA;;;SY)(A;CI;GA;;;BA)(A;CI;RPLCLORC;;;WD)"

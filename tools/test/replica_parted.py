@@ -12,14 +12,14 @@ import zlib
 from ldap_client import PROGRAM, TOP, Closed
 from replica_cases import DONE, READ, WRITE, has, in_world, resting, same, shown
 from replica_checks import differences
-from adsd_ask.words import Wrong
-from adsd_report import store as rows
-from adsd_replica import entries
-from adsd_replica.etcd import decoded, encoded, whole
-from adsd_replica.ordered import put_of
-from adsd_replica.position import BLOCK, Positions
-from adsd_replica.release import release_of
-from adsd_replica.slots import SLOTS
+from adsd_tools.ask.words import Wrong
+from adsd_tools.rows import store as rows
+from adsd_tools.replica import entries
+from adsd_tools.replica.etcd import decoded, encoded, whole
+from adsd_tools.replica.ordered import put_of
+from adsd_tools.replica.position import BLOCK, Positions
+from adsd_tools.replica.release import release_of
+from adsd_tools.replica.slots import SLOTS
 
 ETCDCTL = shutil.which("etcdctl")
 FILES = (*SLOTS, ".position")

@@ -227,7 +227,7 @@ class Replica(Host):
 
 
 def positions():
-    from adsd_replica import position
+    from adsd_tools.replica import position
 
     return position
 
@@ -358,8 +358,8 @@ class World:
 
     def log(self):
         """The log, as the replicas see it."""
-        from adsd_replica.etcd import Etcd
-        from adsd_replica.ordered import Ordered
+        from adsd_tools.replica.etcd import Etcd
+        from adsd_tools.replica.ordered import Ordered
 
         made = Ordered(Etcd([one.client for one in self.members]), "adsd")
         made.own = made.find()

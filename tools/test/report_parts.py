@@ -6,14 +6,14 @@ import struct
 
 import plain_why
 
-from adsd_import.descriptor import ALLOW, AUDIT, DENY, INHERIT_ONLY, Entry
-from adsd_import.sids import sid_of_text
-from adsd_report import deciding, normals
-from adsd_report.differences import Dangers, phrases, short
-from adsd_report.harms import RANK, RESET, SELF_MEMBERSHIP, VALIDATED_SPN, dangerous
-from adsd_report.html import tag, text
-from adsd_report.picture import fitting, width
-from adsd_report.tokens import Token, token_of
+from adsd_tools.forms.descriptor import ALLOW, AUDIT, DENY, INHERIT_ONLY, Entry
+from adsd_tools.forms.sids import sid_of_text
+from adsd_tools.report import deciding, normals
+from adsd_tools.report.differences import Dangers, phrases, short
+from adsd_tools.report.harms import RANK, RESET, SELF_MEMBERSHIP, VALIDATED_SPN, dangerous
+from adsd_tools.report.html import tag, text
+from adsd_tools.report.picture import fitting, width
+from adsd_tools.report.tokens import Token, token_of
 
 BA, SY, NO, OW, PS = map(sid_of_text, ("S-1-5-32-544", "S-1-5-18", "S-1-5-7", "S-1-3-4", "S-1-5-10"))
 OWN = sid_of_text("S-1-5-21-1-2-3-1001")

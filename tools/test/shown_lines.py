@@ -1,9 +1,9 @@
 """The readers of the program's lines on texts that are of its grammar and on others: test/shown tries them. What is
 expected stands beside each text: how many things are read, or the line that has to be named."""
 
-import adsd_lines
-from adsd_shown import text_of
-from adsd_who import differences
+from adsd_tools import lines
+from adsd_tools.shown import text_of
+from adsd_tools.who import differences
 
 BOB, ANN = "S-1-5-21-1-2-3-1002", "S-1-5-21-1-2-3-1001"
 GUID = "bf967aba-0de6-11d0-a285-00aa003049e2"
@@ -22,12 +22,12 @@ def diff(said):
 
 
 def listed(said):
-    made = adsd_lines.listed(said)
+    made = lines.listed(said)
     return made.entries() + made.sacl[1:]
 
 
-READERS = {"who": adsd_lines.who, "can": adsd_lines.can, "token": adsd_lines.token, "check": adsd_lines.check,
-           "settle": adsd_lines.settle, "effective": adsd_lines.effective, "audit": adsd_lines.audit, "list": listed,
+READERS = {"who": lines.who, "can": lines.can, "token": lines.token, "check": lines.check,
+           "settle": lines.settle, "effective": lines.effective, "audit": lines.audit, "list": listed,
            "diff": diff}
 TOKEN = f"user {BOB}\nowner {BOB}\nprimary {ANN}\n"
 # A command, what it prints, and how many things are read of it; or what the refusal has to name.
@@ -112,7 +112,7 @@ def difference(word, said, wanted):
     """What is read otherwise than is expected; nothing where it is as expected."""
     try:
         made = READERS[word](said.encode())
-    except adsd_lines.Unread as why:
+    except lines.Unread as why:
         good = isinstance(wanted, str) and wanted in str(why) and "\n" not in str(why)
         return "" if good else f"{word} of {said!r}: {why}, expected {wanted!r}"
     good = wanted is None or (isinstance(wanted, int) and len(made) == wanted)
@@ -122,13 +122,13 @@ def difference(word, said, wanted):
 def differences_of_names():
     """Each odd name comes back as it stands."""
     for name in ODD:
-        read = [adsd_lines.who(f"1 {BOB} {name}\n".encode())[0].name, adsd_lines.can(f"1 {name}\n".encode())[0][1],
-                adsd_lines.listed(LISTED.replace("CN=a,DC=x", name).encode()).name]
+        read = [lines.who(f"1 {BOB} {name}\n".encode())[0].name, lines.can(f"1 {name}\n".encode())[0][1],
+                lines.listed(LISTED.replace("CN=a,DC=x", name).encode()).name]
         if read != [name] * 3:
             yield f"{name!r}: {read!r}"
     for said, wanted in REASONS:
-        if adsd_lines.reason("who", said.encode()) != wanted:
-            yield f"reason of {said!r}: {adsd_lines.reason('who', said.encode())!r}"
+        if lines.reason("who", said.encode()) != wanted:
+            yield f"reason of {said!r}: {lines.reason('who', said.encode())!r}"
 
 
 def differences_of_cases():

@@ -1,4 +1,4 @@
-"""How the tests expect a text to be shown, told otherwise than tools/adsd_shown.py does: character by character."""
+"""How the tests expect a text to be shown, told otherwise than tools/adsd_tools/shown.py does: character by character."""
 
 SPELLED = {*range(0x20), *range(0x7F, 0xA0), 0x61C, 0x200E, 0x200F, *range(0x2028, 0x202F), *range(0x2066, 0x206A),
            0xFEFF}

@@ -14,7 +14,7 @@ NEVER = [*range(0x20), *range(0x7F, 0xA0), 0x61C, 0x200E, 0x200F, *range(0x2028,
 # How the hostile names and rights are told, by hand.
 TOLD = ["\\01\\07\\1B[2J\\0D\\0A\\09", "\\E2\\80\\AEgnp.\\E2\\81\\A6x\\E2\\80\\8F\\E2\\80\\A8\\EF\\BB\\BF",
         "\\7F\\C2\\85\\C2\\9B31m\\D8\\9C\\E2\\80\\8E\\E2\\80\\A9\\E2\\81\\A9", "re\\E2\\80\\AEset\\1B[8m\\C2\\85\\0A"]
-PAGE = os.path.join(corp.TOP, "tools", "adsd_explore", "page")
+PAGE = os.path.join(corp.TOP, "tools", "adsd_tools", "explore", "page")
 # What the page does with a text, asked of its own script.
 SCRIPT = """
 import {shown} from %s;

@@ -6,9 +6,9 @@ import os
 import random
 import subprocess
 
-from adsd_import.sids import sid_of_text, text_of_sid
-from adsd_report import program
-from adsd_report.harms import RANK, dangerous
+from adsd_tools.forms.sids import sid_of_text, text_of_sid
+from adsd_tools.report import program
+from adsd_tools.report.harms import RANK, dangerous
 
 import plain_why
 
@@ -25,8 +25,8 @@ class Opened:
     """An explorer of a store, in this process."""
 
     def __init__(self, tries, store):
-        from adsd_explore.api import Api
-        from adsd_explore.explorer import Explorer
+        from adsd_tools.explore.api import Api
+        from adsd_tools.explore.explorer import Explorer
         self.explorer = Explorer(store, tries.place, False, lambda line: tries.check(False, f"{store}: {line}"))
         self.api, self.world = Api(self.explorer), self.explorer.world
         self.answers, self.now = self.explorer.answers, self.explorer.now
@@ -61,7 +61,7 @@ def as_effective(tries, opened, store, most):
 
 def each_alone(tries, opened):
     """What is asked once for accounts that are alike is the same for each of them, with dangers and reasons."""
-    from adsd_explore.answers import Answers
+    from adsd_tools.explore.answers import Answers
     accounts = opened.world.accounts
     for number in opened.world.objects:
         on = opened.answers.object(number, opened.now)
@@ -110,14 +110,14 @@ class Asking:
         self.turns = self
 
     async def ask(self, kind, number, data):
-        from adsd_ask.requests import frame
+        from adsd_tools.ask.requests import frame
         return self.serving.answer(frame(kind, number, data))[1]
 
 
 def as_the_bridge(tries, opened, store):
     """A token is the one that the bridge makes of the program's searches."""
-    from adsd_ldap.accounts import Accounts
-    from adsd_explore.tokens import operator
+    from adsd_tools.ldap.accounts import Accounts
+    from adsd_tools.explore.tokens import operator
     program.copy_slots(store, store + ".bridge")
     asking = Asking(store + ".bridge", opened.world.names[1])
     bridge = Accounts(asking, operator().data)

@@ -5,10 +5,11 @@ import os
 import struct
 import subprocess
 
-from adsd_ask import requests
-from adsd_report import program, store
-from adsd_report.harms import HARMS
-from adsd_report.state import State
+from adsd_tools.ask import requests
+from adsd_tools.report import program
+from adsd_tools.rows import store
+from adsd_tools.report.harms import HARMS
+from adsd_tools.report.state import State
 
 from . import corp
 from .rights import Opened
@@ -128,8 +129,8 @@ def pictured(tries, opened, plan, key, name):
 
 def refused(tries, opened):
     """What can't be meant is named, and what the program refuses is told."""
-    from adsd_explore.trying import Wrong
-    from adsd_explore.views import NotThere
+    from adsd_tools.explore.trying import Wrong
+    from adsd_tools.explore.views import NotThere
     number = opened.number(corp.STAFF)
     for change, why in FAULTS:
         try:

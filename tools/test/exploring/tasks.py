@@ -4,7 +4,7 @@ import http.client
 import os
 import subprocess
 
-from adsd_report.state import State
+from adsd_tools.report.state import State
 
 from . import corp, seen
 from .driver import Broken, Browser

@@ -10,7 +10,7 @@ import sys
 import unicodedata
 from urllib.parse import urlencode, urlsplit
 
-from adsd_report.state import State
+from adsd_tools.report.state import State
 
 from . import corp
 
@@ -130,7 +130,7 @@ def bodies(tries, served):
 
 def page(tries):
     """The page has no script or style of another place or in the markup, and makes no markup of texts."""
-    folder = os.path.join(corp.TOP, "tools", "adsd_explore", "page")
+    folder = os.path.join(corp.TOP, "tools", "adsd_tools", "explore", "page")
     for name in sorted(os.listdir(folder)):
         with open(os.path.join(folder, name), encoding="utf-8") as opened:
             found = OUTSIDE.findall(opened.read())

@@ -1,0 +1,123 @@
+"""The words of adsd-ask, and what they ask for."""
+
+import argparse
+import struct
+import sys
+
+from adsd_tools.forms import ber
+from adsd_tools.forms.rights import codes
+from adsd_tools.forms.sids import text_of_sid
+from adsd_tools.shown import Words, shown
+
+from . import answers, requests, words
+
+ABOUT = """
+    adsd-ask access --sddl SDDL --user SID [--group SID].. --want RIGHTS   which of the rights are granted, which not
+    adsd-ask frames [--store STORE] [FILE]      lines of text become the frames that `adsd serve STORE` takes
+    adsd-ask replies [FILE]                     its answers become LDIF and words
+
+With --store, a name of an account of that store may stand for its identifier: user=bob, groups=club,AU; and groups=* are
+all groups that the user is in by the store, directly or by others, and AU and WD. Identifiers and aliases go first.
+
+A line of frames has a word, the number of a connection (0 if none is given), and pairs key=value; '#' begins a comment, and values with
+blanks stand in quotes. A value behind base64:, sid: or sddl: is the bytes that the text stands for.
+
+    token 1 user=SID groups=SID,SID privileges=security,restore owner=SID primary=SID deny=SID restricting=SID
+    search 1 base=DN scope=base|one|sub filter='(cn=ann)' attrs=cn,mail size=0 types-only=no sd=owner,group,dacl,sacl
+    compare 1 dn=DN attr=NAME value=VALUE
+    add 1 dn=DN objectClass=user description='of the staff'
+    modify 1 dn=DN add:member=DN delete:description= replace:nTSecurityDescriptor='sddl:D:(A;;GA;;;BA)' sd=dacl
+    delete 1 dn=DN tree=no
+    rename 1 dn=DN rdn=CN=new superior=DN
+    unbind 1
+    steps 100
+    run
+"""
+OWNER_AT, DACL_AT = 4, 16
+
+
+def parsed(arguments):
+    form = Words(prog="adsd-ask", description="Questions and streams as text.", epilog=ABOUT,
+                 formatter_class=argparse.RawDescriptionHelpFormatter)
+    words_of = form.add_subparsers(dest="word", required=True)
+    check = words_of.add_parser("access", help="asks one access check")
+    check.add_argument("--sddl", required=True, help="a descriptor with an owner and a discretionary list, as SDDL")
+    check.add_argument("--user", required=True, help="the token's user, which is its owner and primary group too")
+    check.add_argument("--group", action="append", default=[], help="a group of the token")
+    check.add_argument("--deny-only", action="append", default=[], help="a group that only denies")
+    check.add_argument("--restricting", action="append", default=[], help="a restricting identifier")
+    check.add_argument("--privilege", action="append", default=[], choices=words.PRIVILEGES)
+    check.add_argument("--want", required=True, help="the rights, as codes or 0x and hexadecimal digits")
+    frames = words_of.add_parser("frames", help="lines of text become frames")
+    replies = words_of.add_parser("replies", help="answers become LDIF and words")
+    for one in (check, frames):
+        one.add_argument("--store", metavar="STORE", help="take the names of accounts from this store")
+    for one in (frames, replies):
+        one.add_argument("file", nargs="?", default="-", metavar="FILE", help="- is standard input")
+    return form.parse_args(arguments)
+
+
+def accounts_of(asked):
+    """The accounts that may be named, or None."""
+    if asked.store is None:
+        return None
+    from adsd_tools import incomplete
+    from adsd_tools.rows.accounts import Accounts
+    from adsd_tools.rows.store import Broken
+
+    try:
+        made = Accounts(asked.store)
+    except Broken as why:
+        raise words.Wrong(f"{asked.store}: {why}") from None
+    incomplete.warn(asked.store)
+    return made
+
+
+def part(data, at):
+    return struct.unpack_from("<I", data, at)[0]
+
+
+def access(asked):
+    """Asks the program for the granted rights; a text without an owner has the token's user as one."""
+    accounts = accounts_of(asked)
+    own = text_of_sid(words.sid(asked.user, accounts))
+    given = asked.sddl if asked.sddl.upper().startswith("O:") else f"O:{own}{asked.sddl}"
+    data = words.descriptor(given)
+    if not part(data, DACL_AT):
+        raise words.Wrong("the descriptor has no discretionary list")
+    owner = data[part(data, OWNER_AT) :]
+    owner = owner[: 8 + 4 * owner[1]]
+    dacl = data[part(data, DACL_AT) :]
+    dacl = dacl[: struct.unpack_from("<H", dacl, 2)[0]]
+    token = words.token(asked.user, groups=",".join(asked.group), deny=",".join(asked.deny_only), accounts=accounts,
+                        restricting=",".join(asked.restricting), privileges_of=",".join(asked.privilege))
+    want = words.mask(asked.want)
+    mask = int(words.adsd("access", struct.pack(">I", len(token)) + token + owner + dacl + struct.pack(">I", want)), 16)
+    print(f"granted {mask:08x}: {' '.join(codes(mask)) or 'nothing'}")
+    left = [code for code in codes(want) if code not in codes(mask)]
+    if left and not want & 0xF0000000:
+        print(f"not granted: {' '.join(left)}")
+
+
+def given(name):
+    if name == "-":
+        return sys.stdin.buffer.read()
+    with open(name, "rb") as opened:
+        return opened.read()
+
+
+def main(arguments):
+    asked = parsed(arguments)
+    try:
+        if asked.word == "access":
+            access(asked)
+        elif asked.word == "frames":
+            made = b"".join(requests.frames(requests.lines_of(given(asked.file)), accounts_of(asked)))
+            sys.stdout.buffer.write(made)
+        else:
+            for line in answers.lines(given(asked.file)):
+                print(line)
+    except (words.Wrong, answers.Broken, ber.Broken, OSError) as wrong:
+        print(f"adsd-ask: {shown(str(wrong))}", file=sys.stderr)
+        return 1
+    return 0

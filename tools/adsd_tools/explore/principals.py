@@ -1,0 +1,134 @@
+"""What somebody may do and where: ranked by harm, with the entry that decides and the chain of groups; and what stands
+out in the whole directory."""
+
+from adsd_tools.report.harms import HARMS
+
+from .answers import worst
+from .texts import told
+from .views import MOST_ROWS, count_of, each, on_words
+
+MOST_OBJECTS, MOST_FINDINGS = 8, 40
+PRIVILEGES = ((1, "security"), (2, "take ownership"), (4, "restore"))
+
+
+class Principals:
+    """Answers about one principal over all objects."""
+
+    def __init__(self, views):
+        self.views, self.world, self.answers = views, views.world, views.answers
+        self.kinds = {}
+
+    def kinds_of(self, moment):
+        """The objects by class, descriptor, whether they have an identifier and whether they are protected."""
+        key = (id(moment), moment.step)
+        if key not in self.kinds:
+            made, protected = {}, self.views.protected
+            for number, one in self.world.objects.items():
+                own = bool(self.world.own(number))
+                made.setdefault((one.of_class, moment.normal(number), own, number in protected), []).append(number)
+            self.kinds = {key: made}
+        return self.kinds[key]
+
+    def found(self, token, moment):
+        """Pairs of some objects that are alike for a token and its dangerous rights there, by rank."""
+        held = {self.world.who.of_sid.get(sid) for sid in token.held} - {None}
+        for (_, normal, own, protected), numbers in self.kinds_of(moment).items():
+            apart = held if own and self.answers.named(normal)[1] else ()
+            usual = [number for number in numbers if number not in apart] if apart else numbers
+            for some in [usual, *([number] for number in numbers if apart and number in apart)]:
+                if some:
+                    on = self.answers.object(some[0], moment)
+                    yield some, on, self.answers.ranks(on, token, protected), self.answers.dangers(on, token)
+
+    def ranked(self, sid, moment):
+        """What somebody may do, the worst first."""
+        token, rows = self.views.accounts.token(sid), [[] for _ in HARMS]
+        for numbers, on, ranks, dangers in self.found(token, moment):
+            for place in range(len(HARMS)):
+                if ranks >> place & 1:
+                    rows[place].append((numbers, on, dangers))
+        made = []
+        for place, found in enumerate(rows):
+            if found:
+                found.sort(key=lambda row: (row[0][0] not in self.views.protected, -len(row[0]), row[0][0]))
+                told = [self.row(token, place, *one) for one in found[:MOST_ROWS]]
+                made.append({**self.views.rank(place), "count": sum(len(row[0]) for row in found), "rows": told,
+                             "more": sum(len(row[0]) for row in found[MOST_ROWS:])})
+        return made
+
+    def row(self, token, place, numbers, on, dangers):
+        """Objects that are alike for a token, its rights of one rank there, and what decides."""
+        key = "members" if HARMS[place].key == "groups" else HARMS[place].key
+        rights = dangers[key]
+        by = dict.fromkeys(self.answers.why(on, token, question.path, bit).by for question, bits in rights
+                           for bit in (list(each(bits))[:1] if key == "all" else each(bits)))
+        chains = []
+        entries = self.world.known.list_of(on.normal)
+        for one in by:
+            target = entries[one].sid if isinstance(one, int) else self.world.known.of(on.normal).owner
+            chains.append([] if one == "privilege" else self.views.chain(on, token.sid, target))
+        names = dict.fromkeys(on_words(question) for question, _ in rights)
+        return {"objects": [self.views.brief_name(number) for number in numbers[:MOST_OBJECTS]], "count": len(numbers),
+                "class": self.world.class_name(numbers[0]), "protected": numbers[0] in self.views.protected,
+                "on": [] if key in ("owner", "list", "take", "all") else list(names),
+                "by": [self.views.deciding(on, one) for one in by], "chains": chains}
+
+    def principal(self, sid, moment):
+        """A principal with its groups and what it may do."""
+        token, accounts = self.views.accounts.token(sid), self.views.accounts
+        groups = []
+        for one in sorted(token.held - {sid}, key=lambda one: self.world.who.name(one).casefold()):
+            chain = accounts.chain(sid, one) or []
+            groups.append({**self.world.principal(one), "chain": [{**self.world.principal(up), "how": how}
+                                                                 for up, how in chain]})
+        words = [name for bit, name in PRIVILEGES if token.privileges & bit]
+        number = self.world.who.of_sid.get(sid)
+        ranked = self.ranked(sid, moment)
+        return {**self.world.principal(sid), "groups": groups, "privileges": words, "ranks": ranked,
+                "class": self.world.class_name(number) if number else None, "account": sid in accounts.place,
+                "protected": number in self.views.protected, "objects": len(self.world.objects),
+                "none": [harm.title for place, harm in enumerate(HARMS) if all(row["rank"] != place for row in ranked)]}
+
+    def can(self, sid, number, moment):
+        """All rights of somebody on an object, each with what decides; rights that the same decides stand together."""
+        token, on, found = self.views.accounts.token(sid), self.answers.object(number, moment), {}
+        of = self.answers.questions.of(on.of_class).lines
+        for place, mask in self.answers.rights(on, token):
+            question = of[place]
+            path = self.views.path_of(number, question)
+            for bit in each(mask):
+                by = self.answers.why(on, token, path, bit).by
+                found.setdefault((question.kind, bit, by), []).append(question.name)
+        merged = {}
+        for (kind, bit, by), names in found.items():
+            merged.setdefault((kind, by, tuple(names)), []).append(bit)
+        rows = []
+        for (kind, by, names), bits in merged.items():
+            entries = self.world.known.list_of(on.normal)
+            target = entries[by].sid if isinstance(by, int) else self.world.known.of(on.normal).owner
+            rows.append({"kind": kind, "names": [told(name, 200) for name in names if name],
+                         "by": [self.views.deciding(on, by)], "rights": self.views.describing.rights(sum(bits)),
+                         "chains": [[] if by == "privilege" else self.views.chain(on, sid, target)]})
+        ranks = self.answers.ranks(on, token, number in self.views.protected)
+        return {"who": self.world.principal(sid), "n": number, "name": self.world.label(number), "rows": rows,
+                "ranks": [self.views.rank(place) for place in range(len(HARMS)) if ranks >> place & 1]}
+
+    def exposed(self, moment):
+        """Who besides those who are protected has dangerous rights on what is protected, the worst first."""
+        accounts, made = self.views.accounts, []
+        inside = 0
+        for number in self.views.protected:
+            place = accounts.place.get(self.world.own(number))
+            inside |= 1 << place if place is not None else 0
+        for number in sorted(self.views.protected):
+            on = self.answers.object(number, moment)
+            by_rank = {}
+            for mask, token in self.answers.split(on, accounts):
+                first = worst(self.answers.ranks(on, token, True))
+                if first < len(HARMS) and mask & ~inside:
+                    by_rank[first] = by_rank.get(first, 0) | mask & ~inside
+            made += [(place, number, mask) for place, mask in by_rank.items()]
+        made.sort(key=lambda row: (row[0], -count_of(row[2]), row[1]))
+        return {"count": len(made), "rows": [
+            {**self.views.rank(place), **self.views.brief_name(number), "class": self.world.class_name(number),
+             "accounts": count_of(mask), "first": self.views.few(mask)} for place, number, mask in made[:MOST_FINDINGS]]}

@@ -1,0 +1,116 @@
+"""Distinguished names (RFC 4514), one type and value a part: read with some older forms, written in one."""
+
+import re
+from dataclasses import dataclass
+from typing import Tuple
+
+from adsd_tools.shown import shown_bytes
+
+TYPE = re.compile(rb"[A-Za-z][A-Za-z0-9-]*")
+BLANKS = re.compile(rb" *")
+ESCAPED = b'"+,;<>\\ #='
+HEX = re.compile(rb"[0-9A-Fa-f]{2}")
+
+
+class NoName(Exception):
+    """Bytes that are no name, with why."""
+
+
+class NoText(NoName):
+    """A name with bytes that aren't UTF-8."""
+
+
+@dataclass(frozen=True)
+class Name:
+    """A name: parts from the object up, each a type in upper case and a value's UTF-8; and whether it was mended."""
+
+    parts: Tuple[Tuple[str, bytes], ...]
+    mended: bool = False
+
+    def key(self):
+        """What two texts of one name have in common: types, and values after case folding."""
+        return tuple((kind, value.decode().casefold()) for kind, value in self.parts)
+
+    def text(self):
+        return b",".join(kind.encode() + b"=" + value_text(value) for kind, value in self.parts)
+
+
+def value_text(value):
+    """The written text of a value: what parts a name is escaped by itself, and what isn't to be printed is spelled."""
+    made = bytearray()
+    for at, byte in enumerate(value):
+        edge = (byte == 0x20 and at in (0, len(value) - 1)) or (byte == 0x23 and at == 0)
+        if edge or byte in b'"+,;<>\\':
+            made += b"\\" + bytes([byte])
+        else:
+            made.append(byte)
+    return shown_bytes(bytes(made))
+
+
+def escape_at(text, at):
+    """The byte that an escape at a place stands for, and the place behind it."""
+    found = HEX.match(text, at + 1)
+    if found:
+        return int(found[0], 16), at + 3
+    if at + 1 < len(text) and text[at + 1] in ESCAPED:
+        return text[at + 1], at + 2
+    raise NoName(f"an escape at {at} that is none")
+
+
+def quoted_value(text, at):
+    """A value in quotes, as older texts have it, and the place behind it."""
+    made, at = bytearray(), at + 1
+    while at < len(text) and text[at] != 0x22:
+        byte, at = escape_at(text, at) if text[at] == 0x5C else (text[at], at + 1)
+        made.append(byte)
+    if at == len(text):
+        raise NoName("a quote isn't closed")
+    return bytes(made), BLANKS.match(text, at + 1).end()
+
+
+def value_at(text, at):
+    """The value that begins at a place, without the blanks behind it, and the place behind these."""
+    made, end = bytearray(), 0
+    if text[at : at + 1] == b"#":
+        raise NoName(f"a value by its encoding at {at}")
+    while at < len(text) and text[at] != 0x2C:
+        byte = text[at]
+        if byte == 0x5C:
+            byte, at = escape_at(text, at)
+            made.append(byte)
+            end = len(made)
+            continue
+        if byte in b'"+;<>\0':
+            raise NoName("several values in one part" if byte == 0x2B else f"a byte at {at} that has to be escaped")
+        made.append(byte)
+        end = end if byte == 0x20 else len(made)
+        at += 1
+    return bytes(made[:end]), at
+
+
+def read(text):
+    """The name of a text; the empty text is the name without parts."""
+    parts, mended = [], text != text.strip(b" ") and not text.endswith(b"\\ ")
+    at, text = BLANKS.match(text).end(), text if text.endswith(b"\\ ") else text.rstrip(b" ")
+    while at < len(text) or parts:
+        kind = TYPE.match(text, at)
+        equals = BLANKS.match(text, kind.end()).end() if kind else at
+        if not kind or text[equals : equals + 1] != b"=":
+            raise NoName(f"no type at {at}")
+        at = BLANKS.match(text, equals + 1).end()
+        quoted = text[at : at + 1] == b'"'
+        value, at = (quoted_value if quoted else value_at)(text, at)
+        mended = mended or quoted
+        if not 1 <= len(value) <= 1024:
+            raise NoName("a value of no or of more than 1,024 bytes")
+        try:
+            value.decode()
+        except UnicodeDecodeError:
+            raise NoText("a value that isn't UTF-8") from None
+        parts.append((kind[0].decode().upper(), value))
+        if at == len(text):
+            break
+        if text[at] != 0x2C:
+            raise NoName(f"no comma at {at}")
+        at = BLANKS.match(text, at + 1).end()
+    return Name(tuple(parts), mended)

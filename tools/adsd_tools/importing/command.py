@@ -1,0 +1,213 @@
+"""The command: words, files, statuses."""
+
+import argparse
+import os
+import sys
+
+from adsd_tools import incomplete
+from adsd_tools.files import makes_file, write
+from adsd_tools.forms import names
+from adsd_tools.shown import shown
+
+from . import complete, objects, output, rights, schema, text
+from .report import ENDS, Refused, Report
+
+ABOUT = """Makes LDIF that `adsd load` takes of an export of Active Directory or Samba, as ldifde, ldbsearch or
+ldapsearch write it. An export has the schema and the rights with it (CN=Schema and CN=Extended-Rights below
+CN=Configuration), and the attribute nTSecurityDescriptor; it may come in several files. The report begins with a summary,
+losses first. All that is mended or left out is told, a line each:
+
+    FILE:LINE: mended: ..       stands otherwise in the output, and grants nothing more
+    FILE:LINE: left out: ..     isn't in the output, and says nothing of rights
+    FILE:LINE: loss: ..         isn't in the output, so less may be granted
+    FILE:LINE: missing: ..      the export lacks it, and answers mislead without it: stops, unless --partial is given
+    FILE:LINE: denies: ..       takes rights away and isn't in the output: stops, unless --force is given
+
+What --partial writes says what the export lacks: the LDIF by its first line, OUT.incomplete beside it, and the store
+that is loaded of it to every companion, which shows `INCOMPLETE: ..` first.
+
+This script is not proved."""
+STATUSES = """status: 0 written; 1 the input can't be imported; 2 usage; 3 stopped, since what denies would be lost;
+4 stopped, since the export lacks what matters; 5 the output can't be written; 6 an input can't be read. Where it isn't
+0, no output is written."""
+
+
+# What Active Directory answers to a search without pages, where its limit is as it comes.
+MOST_WITHOUT_PAGES = 1000
+
+
+class Words(argparse.ArgumentParser):
+    """The words of the command. A fault is told in one line."""
+
+    def error(self, message):
+        say(message)
+        sys.exit(2)
+
+
+def words(arguments):
+    parser = Words(prog="adsd-import", description=ABOUT, epilog=STATUSES,
+                   formatter_class=argparse.RawDescriptionHelpFormatter)
+    parser.add_argument("exports", nargs="+", metavar="EXPORT", help="a file of LDIF, or - for standard input")
+    parser.add_argument("-o", "--output", metavar="FILE", help="where the LDIF goes (standard output)")
+    parser.add_argument("-r", "--report", metavar="FILE", help="where the report goes (standard error)")
+    parser.add_argument("--base", metavar="DN", help="take the objects at and below this name alone")
+    parser.add_argument("--partial", action="store_true",
+                        help="write although the export lacks what matters, and with it the line that says so")
+    parser.add_argument("--records", metavar="N", type=int,
+                        help="how many records the files have that don't say it themselves, all together, as ldifde "
+                             "tells it where it writes them: other ones are missing")
+    parser.add_argument("--force", action="store_true", help="write although what denies is lost")
+    parser.add_argument("--defaults", action="store_true",
+                        help="leave objects without a descriptor to their class's default, which may grant more than "
+                             "the source did: goes with --force alone. Without it they get one that grants nothing")
+    parser.add_argument("--limit", metavar="BYTES", type=int, default=output.LIMIT,
+                        help="how long the text may be (%(default)s)")
+    return parser.parse_args(arguments)
+
+
+def read_exports(files, report):
+    """The records of all exports, in order."""
+    made = []
+    for file in files:
+        if file == "-":
+            made += text.records(sys.stdin.buffer.read(), "stdin", report)
+        else:
+            with open(file, "rb") as opened:
+                made += text.records(opened.read(), file, report)
+    return made
+
+
+def counted(options, report):
+    """Reports files that have other records than --records says, or as many as a search without pages gives at most."""
+    there = sum(count for _, count in report.untold)
+    if options.records not in (None, there):
+        why = f"{there} are in the files that don't say how many they have"
+        report.missing(f"{options.exports[-1]}:1", ENDS, f"records, {options.records} of them", why)
+    for file, count in report.untold:
+        if options.records is None and count == MOST_WITHOUT_PAGES:
+            why = f"at {count} records Active Directory ends a search without pages: ask with pages, or give --records"
+            report.missing(f"{file}:1", ENDS, f"end of {file}", why)
+
+
+def imported(options, report):
+    """The text that is written, how many objects it has, and what the export lacks (empty for nothing)."""
+    base = None
+    if options.base is not None:
+        try:
+            base = names.read(options.base.encode("utf-8", "surrogateescape"))
+        except names.NoName as why:
+            raise Refused(f"--base {options.base}: {why}") from None
+    records = read_exports(options.exports, report)
+    counted(options, report)
+    before = complete.told_before(records)
+    of_schema = [one for one in records if schema.kind_of(one) is not None]
+    others = [one for one in records if schema.kind_of(one) is None]
+    made = schema.read(of_schema, report)
+    kept = objects.read(others, base, made, report)
+    root = next(iter(kept.values()))
+    schema.mend_defaults(made, root.sid, report)
+    rights.give_all(kept, made, options.defaults, report)
+    complete.judge(made, kept, report)
+    lacked = complete.mark(made, before, report)
+    output.fit(made, kept.values(), options.limit, lacked, report)
+    return output.text_of(made, kept.values(), lacked), len(kept), lacked
+
+
+def say(line):
+    sys.stderr.write(f"adsd-import: {shown(line)}\n")
+
+
+def stopped(options, report, lacked):
+    """The status of an import that may not be written, after it was said why; None where it may."""
+    if lacked and not options.partial:
+        for line in report.first_misses():
+            say(line)
+        say(f"the export lacks {lacked}; nothing is written without --partial")
+        return 4
+    denying = report.all_denying()
+    if denying and not options.force:
+        where, _, what, why = denying[0]
+        say(f"{where}: {what}: {why}; {len(denying)} such in all, and nothing is written without --force")
+        return 3
+    return None
+
+
+def put_beside(file, report, lacked):
+    """Writes what the export lacks beside the LDIF, or takes away what an earlier import wrote there. A stream and a device
+    have no such file."""
+    beside = file + incomplete.SUFFIX
+    if not makes_file(file):
+        return
+    if lacked:
+        told = [incomplete.sentence(shown(lacked)), *report.missing_lines()]
+        write(beside, "".join(f"{line}\n" for line in told).encode("utf-8", "backslashreplace"))
+    elif incomplete.beside(file) is not None and os.path.isfile(beside):
+        os.unlink(beside)
+
+
+def put(file, data, report, lacked):
+    """Writes the text, and what its export lacks beside it first, so that it never stands without that. Where the text
+    can't be written, what stood beside it stands there as before."""
+    beside, before = file + incomplete.SUFFIX, None
+    if makes_file(file) and os.path.isfile(beside):
+        with open(beside, "rb") as opened:
+            before = opened.read()
+    put_beside(file, report, lacked)
+    try:
+        write(file, data)
+    except OSError:
+        if before is not None:
+            write(beside, before)
+        elif lacked and makes_file(file):
+            os.unlink(beside)
+        raise
+
+
+def finish(options, report, made):
+    """Writes the report and then, where nothing stops it, the text; the status."""
+    if made is None and options.report is None:
+        return 1
+    told = "".join(f"{line}\n" for line in report.summary() + report.lines())
+    if options.report is None:
+        sys.stderr.write(told)
+    else:
+        write(options.report, told.encode("utf-8", "backslashreplace"))
+    if made is None:
+        return 1
+    data, count, lacked = made
+    status = stopped(options, report, lacked)
+    if status is not None:
+        return status
+    if options.output is None:
+        sys.stdout.buffer.write(data)
+        sys.stdout.buffer.flush()
+    else:
+        put(options.output, data, report, lacked)
+    if lacked:
+        say(incomplete.sentence(lacked))
+    if report.untold and options.records is None:
+        count_of = sum(many for _, many in report.untold)
+        say(f"{count_of} records stand in files that don't say how many they have: compare it with what the tool told "
+            "as it wrote them, or give --records")
+    say(f"{count} objects; {report.counts()}")
+    return 0
+
+
+def main(arguments):
+    """Runs the command; the status."""
+    options, report = words(arguments), Report()
+    try:
+        made, why = imported(options, report), None
+    except Refused as refused:
+        made, why = None, str(refused)
+    except OSError as fault:
+        say(f"{fault.filename}: {fault.strerror}")
+        return 6
+    try:
+        status = finish(options, report, made)
+    except OSError as fault:
+        say(f"{fault.filename or 'output'}: {fault.strerror}")
+        return 5
+    if why is not None:
+        say(why if why.startswith(tuple(options.exports)) else f"{' '.join(options.exports)}: {why}")
+    return status

@@ -1,0 +1,192 @@
+"""What becomes of the objects' descriptors, so that nobody gets a right that the export didn't give.
+
+Loading drops what an object inherited and computes it from the root again. Where that would give more than the list of
+the export, the list is kept entry by entry, as one of the object's own, and protected.
+"""
+
+from dataclasses import replace
+
+from adsd_tools.forms.descriptor import ALLOW, DENY, INHERIT_ONLY, INHERITED, Acl, Descriptor, Unreadable, written
+from adsd_tools.forms.descriptor import read as read_bytes
+from adsd_tools.forms.inheriting import copies
+from adsd_tools.forms.sids import NOBODY, OWNER_RIGHTS, sid_of_text
+
+from . import sddl
+from .report import DESCRIPTORS
+from .schema import lost_entries
+from .text import Line
+
+GENERIC = {0x10000000: 0xF01FF, 0x20000000: 0x20004, 0x40000000: 0x20028, 0x80000000: 0x20094}
+
+
+def closed():
+    """A descriptor that grants nothing to anybody."""
+    return Descriptor(NOBODY, NOBODY, Acl([], True), None)
+
+
+def whole(own, parent, of_class, owner, group):
+    """The entries that loading makes of an object's list (an Acl) below its parent's entries."""
+    made = [entry for entry in own.entries if not entry.flags & INHERITED]
+    if not own.protected:
+        for entry in parent:
+            made += copies(entry, of_class, owner, group)
+    return made
+
+
+def mapped(mask):
+    """A mask without generic rights, with what they stand for."""
+    for bit, rights in GENERIC.items():
+        if mask & bit:
+            mask = mask & ~bit | rights
+    return mask
+
+
+def effects(entries):
+    """What the entries do on the object itself, in order: (kind, rights, object type, identifier)."""
+    made = [(one.kind, mapped(one.mask), one.object, one.sid) for one in entries
+            if one.kind in (ALLOW, DENY) and not one.flags & INHERIT_ONLY]
+    return [one for place, one in enumerate(made) if place == 0 or one != made[place - 1]]
+
+
+def takes_away(effect):
+    return effect[0] == DENY or effect[3] == OWNER_RIGHTS
+
+
+def covered(effect, given):
+    """Whether the allowed rights of an effect are all allowed by others to the same identifier."""
+    rights = 0
+    for kind, mask, of_type, sid in given:
+        if kind == ALLOW and sid == effect[3] and of_type in (None, effect[2]):
+            rights |= mask
+    return effect[1] & ~rights == 0
+
+
+def may_differ(exported, loaded):
+    """Whether a list as loading makes it may give other rights than the one of the export. In doubt it may."""
+    before, after = effects(exported), effects(loaded)
+    if before == after:
+        return False
+    # From the first effect on that takes away, the order may tell. Before it all allow, and their order says nothing.
+    allowing = [(one, after) for one in before] + [(one, before) for one in after]
+    same = all(covered(one, given) for one, given in allowing if one[0] == ALLOW)
+    return behind(before) != behind(after) or not same
+
+
+def behind(all_effects):
+    """The effects from the first on that takes away; none where none does."""
+    first = next((place for place, one in enumerate(all_effects) if takes_away(one)), len(all_effects))
+    return all_effects[first:]
+
+
+class Rights:
+    """Goes over the objects, parents first, and gives each the line of its descriptor."""
+
+    def __init__(self, schema, domain, defaults, report):
+        self.schema, self.domain, self.defaults, self.report = schema, domain, defaults, report
+        self.lists = {}
+
+    def closes(self, where, what, why):
+        """Reports a descriptor that grants nothing now."""
+        self.report.missing(where, DESCRIPTORS, what, f"{why}; written as one that grants nothing")
+
+    def told(self, one):
+        """The descriptor of an object's lines with its place; a closed one where it can't be read."""
+        what = f"the descriptor of {one.words()}"
+        for line in one.descriptors[1:]:
+            self.report.loss(line.where, what, "a second one")
+        line = one.descriptors[0]
+        try:
+            if line.value[:1] == b"\x01":
+                made, lost = read_bytes(line.value)
+            else:
+                made, lost, mends = sddl.read(line.value.decode("latin-1"), self.domain)
+                self.report.mended(line.where, what, ", ".join(["a text, written as bytes"] + mends))
+        except Unreadable as why:
+            self.closes(line.where, what, why)
+            return closed(), line
+        lost_entries(lost, line.where, one.words(), self.report)
+        return self.filled(made, line, what), line
+
+    def filled(self, made, line, what):
+        """A descriptor with all parts that it has to have."""
+        if made.dacl is None:
+            why = "its list is null, which grants all to all" if made.null else "it has no discretionary list"
+            self.closes(line.where, what, why)
+            made.dacl = Acl([], True)
+        if made.owner is None:
+            self.report.missing(line.where, DESCRIPTORS, what, "it has no owner; written is S-1-0-0, which is nobody")
+        if made.group is None:
+            self.report.mended(line.where, what, "it has no group; written is S-1-0-0, which is nobody")
+        made.owner, made.group = made.owner or NOBODY, made.group or NOBODY
+        return made
+
+    def fitted(self, one, made, line):
+        """A descriptor whose lists, as loading makes them, give nothing more than those of the export."""
+        parent = self.lists.get(one.key[1:])
+        what = f"the list of {one.words()}"
+        acls = [made.dacl] if made.sacl is None else [made.dacl, made.sacl]
+        inherited = any(entry.flags & INHERITED for acl in acls for entry in acl.entries)
+        why = ""
+        if parent is None:
+            why = "it is the root here; what it inherited is its own now" if inherited else ""
+        elif one.is_head and not made.dacl.protected:
+            why = "it heads a naming context, which inherits nothing; it is protected now"
+        elif may_differ(made.dacl.entries, self.whole(one, made, parent)):
+            why = "what is above gives it other rights; the list is its own now, and protected"
+        if why:
+            self.report.mended(line.where, what, why)
+            frozen(made.dacl, parent is not None)
+            if made.sacl is not None and (parent is None or one.is_head):
+                frozen(made.sacl, parent is not None)
+        return made
+
+    def whole(self, one, made, parent):
+        return whole(made.dacl, parent, self.schema.guid(one.of_class), made.owner, made.group)
+
+    def default(self, one):
+        """The descriptor that loading gives an object of a class that has none."""
+        text = self.schema.classes[one.of_class].value("defaultSecurityDescriptor", b"D:(A;;GA;;;BA)(A;;GA;;;SY)")
+        made, _, _ = sddl.read(text.decode("latin-1"), self.domain)
+        made.owner = made.group = sid_of_text("S-1-5-32-544")
+        return made
+
+    def bytes_of(self, one, made, line):
+        try:
+            return written(made), made
+        except Unreadable as why:
+            what = f"the descriptor of {one.words()}"
+            self.closes(line.where, what, why)
+            return written(closed()), closed()
+
+    def give(self, one):
+        """Gives an object its descriptor, as the last of its lines."""
+        if not one.descriptors:
+            what = f"the descriptor of {one.words()}"
+            if self.defaults:
+                why = "it isn't in the export; loading gives the default of the class"
+                self.report.denies(one.record.where, what, why)
+                self.report.missing(one.record.where, DESCRIPTORS, what, why)
+                self.lists[one.key] = self.whole(one, self.default(one), self.lists.get(one.key[1:], []))
+                return
+            self.closes(one.record.where, what, "it isn't in the export")
+            made, line = closed(), Line(one.record.where, "nTSecurityDescriptor", b"")
+        else:
+            made, line = self.told(one)
+            made = self.fitted(one, made, line)
+        value, made = self.bytes_of(one, made, line)
+        self.lists[one.key] = self.whole(one, made, self.lists.get(one.key[1:], []))
+        one.record.lines.append(Line(line.where, "nTSecurityDescriptor", value))
+
+
+def frozen(acl, protected):
+    """Makes all entries of a list its own."""
+    acl.entries = [replace(entry, flags=entry.flags & ~INHERITED) for entry in acl.entries]
+    acl.protected = acl.protected or protected
+
+
+def give_all(kept, schema, defaults, report):
+    """Gives each object its descriptor; `defaults` leaves those that have none to the defaults of their classes."""
+    root = next(iter(kept.values()))
+    rights = Rights(schema, root.sid, defaults, report)
+    for one in kept.values():
+        rights.give(one)

@@ -1,0 +1,244 @@
+"""Exports as text: LDIF (RFC 2849) with what ldifde, ldbsearch and ldapsearch write besides. Gives records."""
+
+import base64
+import binascii
+import re
+from dataclasses import dataclass, field
+from typing import List, Set
+
+from adsd_tools.shown import brief
+
+from .report import ENDS, LINES, TEXTS
+
+MOST = 1048576
+# Ranges of values (`member;range=0-1499`) stand in names too.
+NAME = re.compile(rb"[A-Za-z0-9.;=*_-]+")
+DN = re.compile(rb"dn\s*:", re.I)
+VERSION = re.compile(rb"version\s*:", re.I)
+# Where a record begins; how many there are, as ldbsearch and ldapsearch tell behind them; and what these write before.
+BEGUN = re.compile(rb"^dn\s*:", re.I | re.M)
+TOLD = re.compile(rb"^# (?:returned|numEntries:) ([0-9]{1,15})(?: records)?\r?$", re.M)
+TELLING = re.compile(rb"^# (?:record [0-9]+|extended LDIF|LDAPv3)\r?$", re.M)
+# What ldapsearch with -LL or -LLL writes behind a page of a search, with nothing behind cookie= behind the last one.
+PAGE = re.compile(rb"^# pagedresults:.*\bcookie=(\S*)\r?$", re.M)
+LF = b"\n"
+TRAILERS = (b"ref", b"search", b"result", b"matcheddn", b"text", b"control")
+
+
+@dataclass
+class Line:
+    """One line of an attribute: where it stands (`FILE:LINE`), its name as written, and its value's bytes."""
+
+    where: str
+    name: str
+    value: bytes
+
+
+@dataclass
+class Record:
+    """One record: where its `dn` stands, that name's bytes, and its lines in order.
+
+    `broken` has the names, in lower case, of the lines that can't be read.
+    """
+
+    where: str
+    dn: bytes
+    lines: List[Line] = field(default_factory=list)
+    broken: Set[str] = field(default_factory=set)
+
+
+def unmarked(data, where, report):
+    """The bytes of an export as UTF-8 without a byte order mark."""
+    if data[:3] == b"\xef\xbb\xbf":
+        report.mended(where, "byte order mark", "taken off")
+        return data[3:]
+    for mark, coding in ((b"\xff\xfe", "utf-16-le"), (b"\xfe\xff", "utf-16-be")):
+        if data[:2] == mark:
+            report.mended(where, "text in UTF-16", "written in UTF-8")
+            try:
+                return data[2:].decode(coding).encode()
+            except UnicodeDecodeError as why:
+                report.missing(where, TEXTS, "text in UTF-16", f"at byte {why.start + 2} it is none, or cut off")
+                return data[2:].decode(coding, "replace").encode()
+    return data
+
+
+def logical(data, file, report):
+    """The logical lines in order, each (where, bytes), and (where, None) for what parts records. Comments go."""
+    made, in_comment, number = [], False, 0
+    for number, line in enumerate(data.split(b"\n"), 1):
+        line = line[:-1] if line.endswith(b"\r") else line
+        where = f"{file}:{number}"
+        begins = line[:1]
+        if not line:
+            made.append((where, None))
+            in_comment = False
+        elif begins == b"#":
+            in_comment = True
+        elif begins in (b" ", b"\t"):
+            if in_comment:
+                continue
+            joined(made, where, line, report)
+        else:
+            made.append((where, [line]))
+            in_comment = False
+    return [(where, b"".join(pieces) if pieces is not None else None) for where, pieces in made]
+
+
+def joined(made, where, line, report):
+    """Joins a continuation to the line before it, where one stands."""
+    if made and made[-1][1] is not None:
+        if line[:1] == b"\t":
+            report.mended(where, "continuation", "it begins with a tab")
+        made[-1][1].append(line[1:])
+    elif line.strip(b" \t"):
+        report.denies(where, f"line `{brief(line)}`", "it continues no line, so one before it may be cut off")
+    else:
+        report.mended(where, "line of blanks", "taken as an empty one")
+        made.append((where, None))
+
+
+def decoded(where, name, text, report):
+    """The bytes of base64, also with blanks in it or without its padding; None where it is none."""
+    tidy = re.sub(rb"\s", b"", text)
+    try:
+        value = base64.b64decode(tidy + b"=" * (-len(tidy) % 4), validate=True)
+    except (binascii.Error, ValueError):
+        return None
+    if base64.b64encode(value) != text:
+        report.mended(where, name, "its base64 isn't strict")
+    return value
+
+
+def line_of(where, text, report):
+    """The line of an attribute that a logical line is; None where it can't be read, which is reported."""
+    name, colon, rest = text.partition(b":")
+    word = brief(name)
+    if not colon or not NAME.fullmatch(name) or b"\0" in text:
+        report.missing(where, LINES, f"line `{brief(text)}`", "it has no colon, a NUL, or a name that is none")
+        return None
+    if rest[:1] == b"<":
+        report.missing(where, LINES, word, "its value would be fetched from a URL")
+        return None
+    if rest[:1] != b":":
+        return Line(where, name.decode(), rest.lstrip(b" \t"))
+    value = decoded(where, word, rest[1:].lstrip(b" \t"), report)
+    if value is None:
+        report.missing(where, LINES, word, "its base64 can't be read")
+        return None
+    return Line(where, name.decode(), value)
+
+
+def trailer(lines, report):
+    """Reports a block of lines that is no record. A result other than 0 says that the export isn't whole."""
+    where, first = lines[0]
+    name = first.partition(b":")[0].lower()
+    for at, text in lines:
+        found = re.match(rb"result:\s*([0-9]+)", text)
+        if found and int(found[1]):
+            report.missing(at, ENDS, f"`{brief(text)}`", "the search ended early, so the export isn't whole")
+    if name in TRAILERS:
+        report.left_out(where, f"`{brief(first)}`", "a referral or the end of a search, and no object")
+    else:
+        report.missing(where, LINES, f"block of `{brief(first)}`", "it has no dn")
+
+
+def record_of(lines, report):
+    """The record of a block of logical lines, or None, which is reported where something stands there."""
+    if VERSION.match(lines[0][1]):
+        where, text = lines[0]
+        if text.partition(b":")[2].strip() != b"1":
+            report.mended(where, f"`{brief(text)}`", "taken as version 1")
+        elif len(lines) == 1:
+            report.mended(where, "`version: 1`", "an empty line stands behind it")
+        lines = lines[1:]
+    if not lines:
+        return None
+    if lines[0][1].partition(b":")[0].lower() != b"dn":
+        trailer(lines, report)
+        return None
+    first = line_of(*lines[0], report)
+    if first is None or len(first.value) > MOST:
+        report.missing(lines[0][0], LINES, "record", "its dn is too long or can't be read")
+        return None
+    record = Record(first.where, first.value)
+    for place, (where, text) in enumerate(lines[1:]):
+        if place == 0 and re.match(rb"changetype\s*:", text, re.I):
+            if text.partition(b":")[2].strip() != b"add":
+                report.left_out(record.where, f"record {brief(record.dn)}", f"`{brief(text)}` changes an object")
+                return None
+            continue
+        line = line_of(where, text, report)
+        if line is not None:
+            record.lines.append(line)
+            continue
+        if record.lines and record.lines[-1].name.lower() == "ntsecuritydescriptor":
+            report.loss(where, f"descriptor of {brief(record.dn)}", "a line behind it can't be read, so it may be cut")
+            record.lines[-1].value = b""
+        name = re.match(rb"[A-Za-z0-9-]*", text)[0].decode().lower()
+        record.broken.add(name)
+        if name == "ntsecuritydescriptor":
+            # A descriptor that can't be read isn't an absent one.
+            record.lines.append(Line(where, "nTSecurityDescriptor", b""))
+    return record
+
+
+def records(data, file, report):
+    """The records of an export, in order. `file` is its name in the report."""
+    made, block, last, data = [], [], None, unmarked(data, f"{file}:1", report)
+    lines = logical(data, file, report)
+    for where, text in lines + [("", None)]:
+        starts = text is not None and DN.match(text) and any(not VERSION.match(line) for _, line in block)
+        if starts:
+            report.mended(where, f"`{brief(text)}`", "no empty line stands before it")
+        if block and (starts or text is None):
+            record, last = record_of(block, report), block
+            block = []
+            if record is not None:
+                made.append(record)
+        if text is not None:
+            block.append((where, text))
+    if last is not None and any(DN.match(text) for _, text in last):
+        ended(lines, last, report)
+    counted(data, file, report)
+    return made
+
+
+def ended(lines, last, report):
+    """Reports a last record that may be cut off: each tool writes an empty line behind it. (The split at the ends of
+    lines gives an empty one behind the last of these.)"""
+    if [text for _, text in lines[-2:]] == [None, None]:
+        return
+    where, text = last[-1]
+    how = "behind it, without an empty line" if lines[-1][1] is None else "within it"
+    report.missing(where, ENDS, f"last line `{brief(text)}`", f"the export ends {how}, so it may be cut off")
+    if re.match(rb"nTSecurityDescriptor\s*:", text, re.I):
+        name = next(line for _, line in last if DN.match(line))
+        report.denies(where, f"the descriptor of `{brief(name)}`", "the export ends in it, so it may be cut")
+
+
+def counted(data, file, report):
+    """Reports an export that has other records than it says, or that doesn't end as the tool ends it that made it."""
+    begun = [found.start() for found in BEGUN.finditer(data)]
+    told, pages = list(TOLD.finditer(data)), list(PAGE.finditer(data))
+    where, what = f"{file}:{data.count(LF)}", f"end of {file}"
+    if told:
+        said = sum(int(found[1]) for found in told)
+        report.file(file, len(begun), f"it says that there are {said}")
+        if said != len(begun):
+            report.missing(where, ENDS, what, f"it says that it has {said} records, and {len(begun)} are there")
+        elif begun and told[-1].start() < begun[-1]:
+            report.missing(where, ENDS, what, "nothing behind its last records says how many they are")
+    elif begun and pages and not TELLING.search(data):
+        report.file(file, len(begun), "it says where its last page ends, or should")
+        if pages[-1][1] or pages[-1].start() < begun[-1]:
+            report.missing(where, ENDS, what, "its last page is missing, or the end of that")
+    elif begun and TELLING.search(data):
+        report.file(file, len(begun), "it should say how many there are, and doesn't")
+        report.missing(where, ENDS, what, "the last lines are missing that its tool writes, so it is cut off")
+    elif begun:
+        report.untold.append((file, len(begun)))
+        report.file(file, len(begun), "it doesn't say how many there should be, so a cut between two isn't seen")
+    else:
+        report.file(file, 0, "it is empty")
+        report.missing(f"{file}:1", ENDS, what, "no record is in it")

@@ -1,0 +1,147 @@
+"""Appends changes to the log, and answers each with what the own program answers to its entry.
+
+What waits is put together, by one transaction that has to find the head which is known. Where no member says what came
+of it, it is asked again with the same head: the head only rises, so one of the tries counts at most, and the id of the
+entry after that head tells whether one did."""
+
+import asyncio
+from collections import deque
+
+from adsd_tools.ldap.turns import Stopped, refuse
+
+from . import entries
+from .etcd import Away, Denied
+from .lane import Lane
+from .ordered import Other, Parted
+
+# So many entries, of so many bytes, are put at once: etcd takes 128 operations, and 1.5 MB.
+MANY, MANY_BYTES = 100, entries.MOST
+PAUSE = 0.3
+
+
+class NotPut(Exception):
+    """A change without an answer: why, and whether it may have been made."""
+
+
+class Overtaken(Exception):
+    """Another entry stands where this one alone would do."""
+
+
+class Waiting:
+    """The content of an entry that waits to be put or to be answered. `behind` is the number of the entry that it has
+    to follow."""
+
+    def __init__(self, data, behind):
+        self.data, self.behind, self.id = data, behind, entries.request_of(data)
+        self.answer, self.is_sent = asyncio.get_running_loop().create_future(), False
+
+
+class Appender:
+    """The changes of one replica."""
+
+    def __init__(self, log, applying, heads, patience):
+        self.lane, self.applying, self.heads, self.patience = Lane(log), applying, heads, patience
+        self.queue, self.sent, self.news, self.closed = deque(), {}, asyncio.Event(), False
+        applying.tells.append(self.applied)
+
+    async def put(self, data, behind=None):
+        """The program's answer to an entry, once the log has it and the program has taken it. NotPut where that takes
+        too long, Overtaken where it has to follow an entry and can't."""
+        if self.closed:
+            raise Stopped
+        if len(data) > entries.MOST:
+            raise NotPut(f"an entry of {len(data)} bytes is more than the log takes; nothing was changed")
+        one = Waiting(data, behind)
+        self.queue.append(one)
+        self.news.set()
+        try:
+            return await asyncio.wait_for(asyncio.shield(one.answer), self.patience)
+        except asyncio.TimeoutError:
+            refuse(one.answer)  # It isn't put, where it hasn't been sent.
+            unknown = "it isn't known whether the change was made, or will be"
+            raise NotPut(f"the log doesn't answer; {unknown if one.is_sent else 'nothing was changed'}") from None
+
+    def applied(self, entry, reply, _):
+        """Answers whoever put an entry. (What the program took before a crash nobody waits for.)"""
+        one = self.sent.pop(entry.request, None)
+        if one and not one.answer.done():
+            one.answer.set_result(reply)
+
+    async def work(self):
+        """Puts what waits, until it is cancelled."""
+        while True:
+            await self.news.wait()
+            self.news.clear()
+            while self.queue:
+                some = self.some()
+                if some:
+                    await self.append(some)
+
+    def some(self):
+        """The next entries that are put at once. One that has to follow a certain one stands first or is overtaken."""
+        found, size = [], 0
+        while self.queue and len(found) < MANY:
+            one = self.queue[0]
+            if one.answer.done():
+                self.queue.popleft()
+                continue
+            if found and (one.behind is not None or size + len(one.data) > MANY_BYTES):
+                break
+            self.queue.popleft()
+            if one.behind is not None and one.behind != self.heads.known.number:
+                one.answer.set_exception(Overtaken())
+                continue
+            found.append(one)
+            size += len(one.data)
+        return found
+
+    async def append(self, some):
+        """Puts entries, after whatever head the log has. Nothing is sent anew that nobody waits for, or that has to
+        follow an entry which isn't the head any more."""
+        while some:
+            for one in some:
+                one.is_sent, self.sent[one.id] = True, one
+            if await self.landed(some):
+                return
+            for one in some:
+                self.sent.pop(one.id, None)
+                one.is_sent = False
+                if one.behind is not None and not one.answer.done():
+                    one.answer.set_exception(Overtaken())
+            some = [one for one in some if not one.answer.done()]
+
+    async def landed(self, some):
+        """Whether entries were put: True, or False where they weren't and never will be by what was asked here."""
+        head = self.heads.known
+        data, then = entries.chained(head, [one.data for one in some])
+        while True:
+            try:
+                done, now, behind = await self.lane.call(lambda log: log.put(head, data, then))
+            except (Away, Denied) as why:
+                self.heads.missed(why)
+                await asyncio.sleep(PAUSE)
+                continue
+            if not done:
+                self.look(head, now, behind)
+            self.heads.seen(now)
+            return done or entries.id_of(behind) == entries.id_of(data[0])
+
+    def look(self, head, now, behind):
+        """Looks whether the log goes on after a head that isn't its own any more, with the entry behind it."""
+        if now.number <= head.number:
+            raise Parted(f"the log ends at {now.told()}, and the replica knows {head.told()}")
+        if behind is None:
+            raise Other(f"entry {head.number + 1} was removed before this replica has taken it")
+        before = entries.before_of(behind)
+        if before != head.id:
+            raise Parted(f"entry {head.number + 1} of the log follows {before.hex()}, and the replica knows "
+                         f"{head.told()}")
+
+    def refuse(self):
+        """Nobody is answered any more."""
+        self.closed = True
+        for one in (*self.queue, *self.sent.values()):
+            refuse(one.answer)
+
+    def close(self):
+        self.lane.close()

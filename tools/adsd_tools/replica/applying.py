@@ -1,0 +1,180 @@
+"""Gives the entries of the log to the program, one after the other, and notes where the replica stands.
+
+It stands in the place of a bridge's upkeep (ldap/upkeep.py): an entry has its turn as soon as the position after
+the one before is on the disk. Meanwhile clients' frames have theirs."""
+
+import asyncio
+from collections import deque
+from concurrent.futures import ThreadPoolExecutor
+
+from adsd_tools.ldap.program import DROP, MESSAGE, TOKEN, Ended
+from adsd_tools.ldap.turns import refuse
+
+from . import replay
+from .position import taken
+from .slots import Unfit
+
+# The connection at the program that entries have; clients have those below.
+CONNECTION = 1023
+# As many entries, and as many bytes, wait here before no more are taken.
+MOST, MOST_BYTES = 1000, 16 << 20
+
+
+class Spoilt(Ended):
+    """The store isn't what the log makes of it, or where it stands can't be noted: nothing more is done with it."""
+
+    def __init__(self, why):
+        super().__init__(0, why)
+
+    def __str__(self):
+        return self.said
+
+
+def size_of(entry):
+    return sum(len(body) for _, body in entry.frames)
+
+
+class Applying:
+    """The entries that wait for the program, and the position."""
+
+    def __init__(self):
+        self.slots, self.positions, self.position, self.place = None, None, None, None
+        # Whether the next entry was taken before a crash, so that it isn't given again.
+        self.skips, self.program = False, None
+        self.queue, self.bytes, self.room, self.news = deque(), 0, None, None
+        self.lane, self.writing, self.fault = ThreadPoolExecutor(1), None, ""
+        # Who waits until an entry is answered, by rising numbers; and who is told of each entry with its answer.
+        self.waiting, self.tells = deque(), []
+
+    def open(self, slots, positions, news, program):
+        """Finds out where the store stands, which the program has opened and synced by now."""
+        self.slots, self.positions, self.news, self.room = slots, positions, news, asyncio.Event()
+        self.program = program
+        self.position, self.place = positions.read(), slots.look()
+        if self.position is None:
+            raise Unfit(f"{slots.store} is no replica's store: {positions.path} isn't there")
+        self.skips = taken(self.position, self.place) == 1
+        self.room.set()
+
+    def number(self):
+        """The number of the last entry that was answered."""
+        return self.position.entry
+
+    def waits_for_taken(self):
+        """Whether the store has taken a change before a crash, and the entry that it is of isn't known yet."""
+        return self.skips and not self.queue
+
+    async def took(self, entry):
+        """Whether the change that was taken before a crash is that of an entry."""
+        loop = asyncio.get_running_loop()
+        return await loop.run_in_executor(self.lane, replay.took, self.program, self.slots.store, self.position, entry)
+
+    # ---- as an upkeep
+
+    def is_due(self):
+        return (bool(self.queue) or bool(self.fault)) and self.writing is None
+
+    presses = is_due
+
+    def seconds_left(self):
+        return None
+
+    def changed(self):
+        """Whatever changes something is an entry."""
+
+    async def turn(self, program):
+        """One entry; whether it changed the directory."""
+        if self.fault:
+            raise Spoilt(self.fault)
+        entry, reply = self.pulled(), None
+        try:
+            if self.skips:
+                self.skips, changed = False, True
+            else:
+                self.look(0)
+                reply = await self.given(program, entry)
+                changed = self.look(1)
+        except (Unfit, OSError) as why:
+            raise Spoilt(f"{self.slots.store}: {why}") from None
+        self.position = self.position.behind(entry, self.place)
+        self.write()
+        self.tell(entry, reply, changed)
+        return changed
+
+    def look(self, most):
+        """Whether the store has taken a change since the last look, of so many that it may have."""
+        before, self.place = self.place, self.slots.look()
+        found = taken(before, self.place)
+        if found > most:
+            raise Unfit("the store was changed by something that isn't in the log")
+        return found > 0
+
+    async def given(self, program, entry):
+        """The program's answer to the last frame of an entry."""
+        held = program.tokens.get(CONNECTION, b"")
+        frames = dict(entry.frames)
+        wanted = frames.pop(TOKEN, b"")
+        if MESSAGE in frames and wanted != held:
+            await program.ask(*((TOKEN, CONNECTION, wanted) if wanted else (MESSAGE, CONNECTION, DROP)))
+        ((kind, body),) = frames.items()
+        return await program.ask(kind, CONNECTION, body)
+
+    # ---- the queue
+
+    def push(self, entry):
+        """Takes an entry, the one after the last that was taken."""
+        self.queue.append(entry)
+        self.bytes += size_of(entry)
+        if len(self.queue) >= MOST or self.bytes >= MOST_BYTES:
+            self.room.clear()
+        self.news.set()
+
+    def pulled(self):
+        entry = self.queue.popleft()
+        self.bytes -= size_of(entry)
+        if len(self.queue) < MOST // 2 and self.bytes < MOST_BYTES // 2:
+            self.room.set()
+        return entry
+
+    # ---- after an answer
+
+    def tell(self, entry, reply, changed):
+        for one in self.tells:
+            one(entry, reply, changed)
+        while self.waiting and self.waiting[0][0] <= entry.number:
+            done = self.waiting.popleft()[1]
+            if not done.done():
+                done.set_result(None)
+
+    def refuse(self):
+        """Nobody waits any more."""
+        while self.waiting:
+            refuse(self.waiting.popleft()[1])
+
+    async def reaches(self, number):
+        """Waits until the entry of a number has been answered. Who comes later may not ask for less."""
+        if self.number() < number:
+            done = asyncio.get_running_loop().create_future()
+            self.waiting.append((number, done))
+            await done
+
+    def write(self):
+        """Writes the position beside; the next entry waits for it."""
+        self.writing = asyncio.get_running_loop().run_in_executor(self.lane, self.positions.write, self.position)
+        self.writing.add_done_callback(self.written)
+
+    def written(self, done):
+        self.writing = None
+        if not done.cancelled() and done.exception():
+            self.fault = f"{self.positions.path} can't be written: {done.exception()}"
+        self.news.set()
+
+    async def close(self):
+        """Waits until the position is written."""
+        if self.writing is not None:
+            await asyncio.wait({self.writing})
+        self.lane.shutdown()
+        if self.positions:
+            self.positions.close()
+        if self.slots:
+            self.slots.close()

@@ -1,0 +1,116 @@
+"""Where a replica stands in the log, in a file beside its store, and what that says after a crash.
+
+The file has two blocks, each a line with a checksum. The next position is written over the older one and synced, so a
+torn write leaves the one before. It is written after the answer to an entry, and before the next entry is given to
+the program. So after a crash the store is that of the position, or has one entry more; and where a write was torn,
+that of the position before it and the one entry."""
+
+import os
+import zlib
+from dataclasses import dataclass, replace
+
+from adsd_tools.files import write
+
+from . import entries
+from .slots import Unfit
+
+SUFFIX, BLOCK = ".position", 4096
+WORD, OLD = b"adsd-replica 2", b"adsd-replica 1 "
+
+
+@dataclass(frozen=True)
+class Position:
+    """The log's name and id, the replica's name; the number and id of the last entry that the program answered; and the
+    generation and the number of records of the live slot after that."""
+
+    log: str
+    own: bytes
+    name: str
+    entry: int
+    id: bytes
+    generation: int
+    records: int
+
+    def line(self):
+        told = f"log={self.log} own={self.own.decode()} name={self.name} entry={self.entry} id={self.id.hex()} "
+        text = WORD + b" " + (told + f"generation={self.generation} records={self.records}").encode()
+        return text + b" sum=%08x\n" % zlib.crc32(text)
+
+    def behind(self, entry, place):
+        """The position after an entry."""
+        return replace(self, entry=entry.number, id=entry.id, generation=place.generation, records=place.records)
+
+    def head(self):
+        return entries.Head(self.entry, self.id)
+
+
+def taken(before, now):
+    """How many changes a store has taken since it stood at a place, or at a position: 0 or 1. A frame is one commit at
+    most, and a snapshot, which begins a new generation with one record, comes before a commit."""
+    by, base = now.generation - before.generation, before.records
+    if by == 1:
+        base = 1
+    if by not in (0, 1) or now.records - base not in (0, 1):
+        raise Unfit(f"the store has generation {now.generation} and {now.records} records, after generation "
+                    f"{before.generation} and {before.records}: something else has written to it")
+    return now.records - base
+
+
+def read_line(block):
+    """The position of a block; None where it holds none."""
+    text, sign, told = block.partition(b"\n")[0].rpartition(b" sum=")
+    if not sign or not text.startswith(WORD) or told != b"%08x" % zlib.crc32(text):
+        return None
+    pairs = dict(piece.partition("=")[::2] for piece in text[len(WORD) + 1 :].decode().split(" "))
+    return Position(pairs["log"], pairs["own"].encode(), pairs["name"], int(pairs["entry"]),
+                    bytes.fromhex(pairs["id"]), int(pairs["generation"]), int(pairs["records"]))
+
+
+class Old(Unfit):
+    """A position in a log of before."""
+
+
+class Positions:
+    """The file of a store's position."""
+
+    def __init__(self, store):
+        self.path, self.file, self.newest = store + SUFFIX, None, 0
+
+    def make(self, first):
+        """Makes the file, whole or not at all."""
+        write(self.path, first.line().ljust(BLOCK, b"\0") + bytes(BLOCK))
+
+    def read(self):
+        """The newest position; None where there is no file."""
+        try:
+            with open(self.path, "rb") as file:
+                held = [file.read(BLOCK) for _ in range(2)]
+        except FileNotFoundError:
+            return None
+        blocks = list(map(read_line, held))
+        if any(one.startswith(OLD) for one in held):
+            raise Old(f"{self.path} is of a log whose entries don't name the ones before them: begin a new one with "
+                      "the store whose position has the greatest entry: docs/replicas.md, Logs of before")
+        known = [(one.entry, at) for at, one in enumerate(blocks) if one]
+        if not known:
+            raise Unfit(f"{self.path} holds no position")
+        self.newest = max(known)[1]
+        return blocks[self.newest]
+
+    def write(self, position):
+        """Writes a position in the place of the older one, and syncs it."""
+        if self.file is None:
+            self.file = os.open(self.path, os.O_WRONLY | os.O_NOFOLLOW | os.O_CLOEXEC)
+        os.pwrite(self.file, position.line().ljust(BLOCK, b"\0"), BLOCK * (1 - self.newest))
+        os.fdatasync(self.file)
+        self.newest = 1 - self.newest
+
+    def close(self):
+        if self.file is not None:
+            os.close(self.file)
+            self.file = None
+
+
+def beginning(log, own, name, place):
+    """The position of a store that a log begins with."""
+    return Position(log, own, name, 0, entries.beginning(own).id, place.generation, place.records)

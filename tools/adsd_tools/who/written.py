@@ -1,0 +1,63 @@
+"""The forms of an answer: JSON, CSV, and a table for people."""
+
+import csv
+import io
+
+from adsd_tools.shown import cell, json_of, shown
+
+from . import differences
+
+HEADS = {"token": ("part", "sid", "account"),
+         "who": ("decides", "place", "entry", "sid", "account", "name"),
+         "can": ("decides", "place", "entry", "name"),
+        "diff": ("change", "of", "of name", "code", "sid", "account", "name", "object")}
+
+
+def decides(told):
+    entry = f"O:{told['owner']}" if "owner" in told else told.get("entry", "")
+    return [told["by"], told.get("place", ""), entry]
+
+
+def rows(made):
+    """The rows of an answer, below its headings."""
+    if made["command"] == "token":
+        found = [[part, made[part]["sid"], made[part]["account"] or ""] for part in ("user", "owner", "primary")]
+        found += [["group", one["sid"], one["account"] or ""] for one in made["groups"]]
+        return found + [["privilege", "", name] for name in made["privileges"]]
+    if made["command"] == "who":
+        return [decides(one["decides"]) + [one["sid"], one["account"], one["name"]] for one in made["principals"]]
+    if made["command"] == "diff":
+        return diff_rows(made)
+    return [decides(one["decides"]) + [one["name"]] for one in made["objects"]]
+
+
+def diff_rows(made):
+    """One of each right of each principal on each object, and one of each object that isn't in both stores."""
+    found = [[differences.SIGNS[sign], right["of"], right["name"] or "", right["code"], who["sid"], who["account"] or "", who["name"], one["name"]]
+             for sign, right, who, one in differences.expanded(made)]
+    return found + [[word, "", "", "", "", "", "", name] for word, key in (("only before", "onlyBefore"), ("only after", "onlyAfter"))
+                    for name in made[key]]
+
+
+def as_json(made, told):
+    """The answer; of a store that was made of an incomplete export it says so first."""
+    return json_of({**({"incomplete": told} if told else {}), **made}, 2) + "\n"
+
+
+def as_csv(made, _):
+    """RFC 4180: a value with a comma or a quote stands in quotes. No value is a formula to a table program."""
+    text = io.StringIO()
+    writer = csv.writer(text)
+    writer.writerow(HEADS[made["command"]])
+    writer.writerows([cell(value) for value in row] for row in rows(made))
+    return text.getvalue()
+
+
+def as_table(made, told):
+    """Columns as wide as what stands in them."""
+    table = [list(HEADS[made["command"]])] + [[shown(str(value)) for value in row] for row in rows(made)]
+    widths = [max(map(len, column)) for column in zip(*table)]
+    return "".join(f"{line}\n" for line in told) + "".join("  ".join(value.ljust(width) for value, width in zip(row, widths)).rstrip() + "\n" for row in table)
+
+
+FORMS = {"json": as_json, "csv": as_csv, None: as_table}
