@@ -18,12 +18,12 @@ ghost use Rattle.ad_change.specs.Modifying as modify;
 ghost use Rattle.ad_change.specs.Judging.{IsWithValues, AreNeeded, modify_edits};
 ghost use Rattle.ad_change.specs.Plans.{IsPlan};
 
-use crate::light::is_light_with;
+use crate::light::fits_weight_limit;
 use crate::outcome::Plan;
 use crate::owner::is_owner_allowed;
 use crate::writing::{put_edits, write_edits};
 use ad_bytes::{List, are_bytes};
-use ad_change_values::{Stop, code_of, judge_attrs, judge_items};
+use ad_change_values::{Refusal, code_of, judge_attrs, judge_items};
 use ad_dir::{ActItem, Dir, Edit, Object, live_object, live_sd};
 use ad_ids::Token;
 use ad_ldap::result_code;
@@ -34,7 +34,12 @@ use std::alloc::{AllocError, Global};
 // ---- checks
 
 // The checks of the items and of the attributes that they name, and the object with the values that it gets.
-fn judge_values(alloc: Global, dir: &Dir, object: Object, items: &[ActItem]) -> Result<Object, Stop>
+fn judge_values(
+    alloc: Global,
+    dir: &Dir,
+    object: Object,
+    items: &[ActItem],
+) -> Result<Object, Refusal>
     requires class { object.class.0 < length (classes_of dir.now.schema) }
     requires attrs { AllByRecursion (λ item. item.attr.0 < length (attrs_of dir.now.schema))
         items.now }
@@ -69,7 +74,7 @@ fn judge_modify(
     target: u32,
     items: &[ActItem],
     sd: &Option<SdParts>,
-) -> Result<Object, Stop>
+) -> Result<Object, Refusal>
     requires sound { IsSound dir.now }
     requires live { is_live dir.now.objects target ≡ true }
     requires attrs { AllByRecursion (λ item. item.attr.0 < length (attrs_of dir.now.schema))
@@ -79,12 +84,12 @@ fn judge_modify(
         ≡ modify.modified_object dir.now target items.now) result }
 {
     if !is_owner_allowed(token, sd) {
-        return Err(Stop::Refused(result_code::CONSTRAINT_VIOLATION));
+        return Err(Refusal::Code(result_code::CONSTRAINT_VIOLATION));
     }
     let before = live_object(dir, target).copy(alloc)?;
     let after = judge_values(alloc, dir, before, items)?;
-    if !is_light_with(dir, &after) {
-        return Err(Stop::Refused(result_code::ADMIN_LIMIT_EXCEEDED));
+    if !fits_weight_limit(dir, &after) {
+        return Err(Refusal::Code(result_code::ADMIN_LIMIT_EXCEEDED));
     }
     Ok(after)
 }

@@ -19,8 +19,8 @@ use Rattle.ad_dir_objects.specs.Seen.{stored_seen}
 use Rattle.ad_dir_model.specs.Object.{Stored, plain, link}
 use Rattle.ad_dir_model.specs.Directory.{Directory}
 use Rattle.ad_needs_rules.specs.Checks.{Refusal, Check, code, or_code, first_failing}
-use Rattle.ad_change_values.specs.declared.stop.Stop.{Stop}
-use Rattle.ad_change_values.specs.declared.stop.Stop.TheVariants as stop
+use Rattle.ad_change_values.specs.declared.refusal.Refusal.{Refusal as RefusalIn}
+use Rattle.ad_change_values.specs.declared.refusal.Refusal.TheVariants as refusal
 use Rattle.ad_change_values.specs.Values.{value_in, reads, is_short, target_of, stored_of, leads, all_stored}
 use Rattle.ad_change_values.specs.Values.{are_repeated}
 use Rattle.ad_change_values.specs.Judging.{StopsAt, values_in, reading_checks}
@@ -45,10 +45,10 @@ all_seen test seen (x ∷ xs) = ap (λ (b : Bool). test (seen x) && b) (all_seen
 -- ---- what is judged
 
 -- checks that stop where some of them stop
-pub stops : (cs ds : List Check) (e : Stop) → ((r : Refusal) → first_failing cs ≡ Some r → first_failing ds ≡ Some r)
-    → StopsAt cs e → StopsAt ds e
-stops cs ds (stop.Refused n) also stopped = also (code n) stopped
-stops cs ds stop.Memory also stopped = tt
+pub stops : (cs ds : List Check) (e : RefusalIn) → ((r : Refusal) → first_failing cs ≡ Some r
+    → first_failing ds ≡ Some r) → StopsAt cs e → StopsAt ds e
+stops cs ds (refusal.Code n) also stopped = also (code n) stopped
+stops cs ds refusal.Memory also stopped = tt
 
 -- one check that holds, or doesn't
 pub one_holds : (b : Bool) (n : ℕ) → b ≡ true → first_failing (or_code b n ∷ []) ≡ None

@@ -15,9 +15,9 @@ ghost use Rattle.ad_ldap.specs.ResultCodes.{constraint_violation, no_such_attrib
 
 use crate::held::Held;
 use crate::pile::Pile;
+use crate::refusal::Refusal;
 use crate::repeated::one_is_repeated;
 use crate::rows::{Rows, held_of, put_pile, rows_of, take_pile};
-use crate::stop::Stop;
 use crate::values::{has_no_empty_password, read_values, stored_values};
 use ad_bytes::OneOrMany;
 use ad_dir::{ActItem, Dir, Stored, is_password};
@@ -147,7 +147,7 @@ fn judge_kept(
     twice: bool,
     new: &[Stored],
     stored: &Pile,
-) -> Result<(), Stop>
+) -> Result<(), Refusal>
     requires { twice ≡ is_given_twice schema.now item.now.attr.0 item.now.values }
     ensures { Judges (kept_checks schema.now item.now (map stored_seen new.now)
         (map stored_seen stored.now))
@@ -155,17 +155,17 @@ fn judge_kept(
 {
     let fresh = adds_new(alloc, item.op, new, stored)?;
     if !fresh {
-        return Err(Stop::Refused(result_code::ATTRIBUTE_OR_VALUE_EXISTS));
+        return Err(Refusal::Code(result_code::ATTRIBUTE_OR_VALUE_EXISTS));
     }
     if !gives_once(item.op, twice) {
-        return Err(Stop::Refused(result_code::ATTRIBUTE_OR_VALUE_EXISTS));
+        return Err(Refusal::Code(result_code::ATTRIBUTE_OR_VALUE_EXISTS));
     }
     let there = deletes_well(alloc, item, twice, new, stored)?;
     if !there {
-        return Err(Stop::Refused(absent(is_password(schema, item.attr))));
+        return Err(Refusal::Code(absent(is_password(schema, item.attr))));
     }
     if !is_filled(schema, item) {
-        return Err(Stop::Refused(result_code::CONSTRAINT_VIOLATION));
+        return Err(Refusal::Code(result_code::CONSTRAINT_VIOLATION));
     }
     Ok(())
 }
@@ -176,7 +176,7 @@ fn judge_item(
     dir: &Dir,
     stored: &Pile,
     item: &ActItem,
-) -> Result<OneOrMany<Stored>, Stop>
+) -> Result<OneOrMany<Stored>, Refusal>
     requires { item.now.attr.0 < length (attrs_of dir.now.schema) }
     ensures { Judges (checks_on dir.now (map stored_seen stored.now) item.now)
         (λ new. map stored_seen new ≡ all_stored dir.now item.now.attr.0 item.now.values) result }
@@ -230,7 +230,7 @@ fn values_after(
 }
 
 // The checks of an item, and what it makes of the attributes.
-fn apply_item(alloc: Global, dir: &Dir, rows: &mut Rows, item: &ActItem) -> Result<(), Stop>
+fn apply_item(alloc: Global, dir: &Dir, rows: &mut Rows, item: &ActItem) -> Result<(), Refusal>
     requires attr { item.now.attr.0 < length (attrs_of dir.now.schema) }
     requires rise { AttrsRiseFrom 0 (by_attr rows.old.entries) }
     ensures { Judges (modify.item_checks dir.now (by_attr rows.old.entries) item.now)
@@ -248,7 +248,7 @@ fn apply_item(alloc: Global, dir: &Dir, rows: &mut Rows, item: &ActItem) -> Resu
 // ---- all items
 
 /// The checks of the items, and the attributes with their values after all of them.
-pub fn judge_items(alloc: Global, dir: &Dir, held: Held, items: &[ActItem]) -> Result<Held, Stop>
+pub fn judge_items(alloc: Global, dir: &Dir, held: Held, items: &[ActItem]) -> Result<Held, Refusal>
     requires attrs { AllByRecursion (λ item. item.attr.0 < length (attrs_of dir.now.schema))
         items.now }
     requires rise { AttrsRiseFrom 0 (map held_seen held.items) }
