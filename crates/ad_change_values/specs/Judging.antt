@@ -3,6 +3,7 @@ use Rattle.std.specs.Prelude.{◌≡◌, ℕ, ◌<◌, Bool, false, ◌==◌, �
 use Rattle.std.specs.Prelude.{length, filter, filter_map, slice_index_or, Result, Ok, Err}
 use Rattle.std.specs.List.{list_all, flat_map, AllByRecursion}
 use Rattle.std.specs.Result.{result_ok}
+use Rattle.ad_bytes.specs.Reading.{IsBytes}
 use Rattle.ad_value.specs.Value.{Value}
 use Rattle.ad_schema.specs.declared.line.SchemaRecord.{SchemaRecord}
 use Rattle.ad_dir_objects.specs.declared.act.ActItem.{ActItem}
@@ -68,6 +69,10 @@ value_checks dir class held items =
     all_item_checks dir held items
     ++ flat_map (final_checks dir.schema class (after_items dir held items))
     (filter (is_item_named items) (all_attrs dir.schema))
+
+-- the values of an item are bytes
+abbrev pub HasByteItem : ActItem → Type 0
+HasByteItem item = AllByRecursion IsBytes item.values
 
 -- ---- attributes that are named
 

@@ -1,10 +1,10 @@
 //! Values that were sent: how they are read and stored, and the checks of them.
 
 ghost use Rattle.std.specs.Prelude.{◌≡◌, ◌<◌, ◌==◌, ◌&&◌, ◌++◌, not, true, [], ◌∷◌, map, length, IfOk};
-ghost use Rattle.std.specs.List.{list_all, list_any};
+ghost use Rattle.std.specs.List.{list_all, list_any, AllByRecursion};
 ghost use Rattle.std.specs.Option.{option_to_list};
 ghost use Rattle.std.specs.Result.{result_ok};
-ghost use Rattle.ad_bytes.specs.Reading.{GivesUnless};
+ghost use Rattle.ad_bytes.specs.Reading.{GivesUnless, IsBytes};
 ghost use Rattle.ad_value.specs.Value.{same_key};
 ghost use Rattle.ad_value.specs.ValueOf.{is_memory};
 ghost use Rattle.ad_schema.specs.Attributes.{attrs_of};
@@ -64,7 +64,7 @@ fn read_more(
     ensures { Judges (or_code (values.reads schema.now attr.0 bytes.now) 21 ∷ [])
         (λ short. (short ≡ values.is_short schema.now attr.0 bytes.now)
         × (read.new ≡ read.old ++ option_to_list
-        (result_ok (values.value_in schema.now attr.0 bytes.now)))) result }
+        (result_ok (values.value_in schema.now attr.0 bytes.now))) × IsBytes bytes.now) result }
 {
     match value_in(alloc, schema, attr, bytes) {
         Ok(value) => {
@@ -83,7 +83,8 @@ fn both(a: bool, b: bool) -> bool
     a && b
 }
 
-/// The values of an attribute, read: 21 where one isn't of the syntax, and else 19 where one is too long.
+/// The values of an attribute, read: 21 where one isn't of the syntax, and else 19 where one is too long. What was
+/// read were bytes.
 pub fn read_values(
     alloc: Global,
     schema: &Schema,
@@ -92,7 +93,7 @@ pub fn read_values(
 ) -> Result<List<Value>, Refusal>
     requires { attr.0 < length (attrs_of schema.now) }
     ensures { Judges (reading_checks schema.now attr.0 sent.now)
-        (λ read. read ≡ values_in schema.now attr.0 sent.now) result }
+        (λ read. (read ≡ values_in schema.now attr.0 sent.now) × AllByRecursion IsBytes sent.now) result }
 {
     let mut read = List::new(alloc);
     let mut short = true;

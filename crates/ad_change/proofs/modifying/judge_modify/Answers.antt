@@ -58,7 +58,7 @@ returns-then-not-fits_weight_limit c =
     let seen : object_seen before own ≡ object_at dir.objects c.args.target =
     ap (λ (o : ObjectIn). object_seen o own) c.in_ok-before.ensures ∙ c.live_object.ensures in
     let made : object_seen c.in_ok-after.after own ≡ modified_object dir c.args.target c.args.items.now =
-    c.in_ok-after.ensures.1 own ∙ ap (λ (x : Object). record x { values = after_items dir x.values c.args.items.now })
+    c.in_ok-after.ensures.1.0 own ∙ ap (λ (x : Object). record x { values = after_items dir x.values c.args.items.now })
     seen in
     weight_stops dir c.args.token.now c.args.target c.args.items.now c.args.sd.now
     (sym c.is_owner_allowed.ensures ∙ c.if-not-is_owner_allowed.false)
@@ -74,12 +74,13 @@ returns c =
     let seen : object_seen before own ≡ object_at dir.objects c.args.target =
     ap (λ (o : ObjectIn). object_seen o own) c.in_ok-before.ensures ∙ c.live_object.ensures in
     let made : object_seen c.in_ok-after.after own ≡ modified_object dir c.args.target c.args.items.now =
-    c.in_ok-after.ensures.1 own ∙ ap (λ (x : Object). record x { values = after_items dir x.values c.args.items.now })
+    c.in_ok-after.ensures.1.0 own ∙ ap (λ (x : Object). record x { values = after_items dir x.values c.args.items.now })
     seen in (
       all_hold dir c.args.token.now c.args.target c.args.items.now c.args.sd.now
           (sym c.is_owner_allowed.ensures ∙ c.if-not-is_owner_allowed.false)
           (ap (λ (x : Object). first_failing (value_checks dir x.class x.values c.args.items.now)) (sym seen)
           ∙ c.in_ok-after.ensures.0)
-          (sym (ap (fits_weight_limit dir) made) ∙ sym (c.fits_weight_limit.ensures own) ∙ c.if-not-fits_weight_limit.false),
-      made,
+          (sym (ap (fits_weight_limit dir) made) ∙ sym (c.fits_weight_limit.ensures own)
+          ∙ c.if-not-fits_weight_limit.false),
+      (made, c.in_ok-after.ensures.1.1),
     )
