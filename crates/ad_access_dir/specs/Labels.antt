@@ -14,7 +14,7 @@ label_of kind name = kind ++ spaced name
 abbrev pub is_graphic : ℕ → Bool
 is_graphic b = nat_lt 32 b && nat_lt b 127
 
--- one or more of these, and not a hyphen (45) alone, which stands for nothing
+-- one or more of these, and not a hyphen (45) alone, which represents nothing
 abbrev pub is_title : List ℕ → Bool
 is_title [] = false
 is_title (b ∷ []) = is_graphic b && not (b == 45)

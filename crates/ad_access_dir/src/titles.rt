@@ -17,7 +17,7 @@ fn are_graphic(bytes: &[u8]) -> bool
     bytes.iter().all(|byte| is_graphic(*byte))
 }
 
-/// Whether the cn of a right can stand for the right in a line: one or more printable characters of ASCII without a
+/// Whether a line can name a right by its cn: where this is one or more printable characters of ASCII without a
 /// blank, and not a hyphen alone. A line names any other right by its GUID.
 pub fn is_title(name: &[u8]) -> bool
     ensures { result ≡ is_title name.now }
