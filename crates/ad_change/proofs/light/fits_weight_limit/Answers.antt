@@ -4,7 +4,7 @@ use Rattle.ad_dir_objects.specs.Seen.{object_seen}
 use Rattle.ad_dir_model.specs.Weight.{object_weight}
 use Rattle.ad_dir_objects.specs.Left.{left_of}
 use Rattle.ad_change.proofs.OtherLaws.{light_by, heavy_by}
-use Rattle.ad_change.proofs.light.is_light_with.Goals as goal
+use Rattle.ad_change.proofs.light.fits_weight_limit.Goals as goal
 
 pub returns-in-Some : goal.returns-in-Some
 returns-in-Some c = λ sd.
