@@ -1,6 +1,6 @@
 -- What is found at the leaves of the tree of attributes of a class.
 use Rattle.std.proofs.Common.{◌≡◌, ℕ, ◌+◌, ◌-◌, ◌<◌, ◌≤◌, Bool, true, List, Option, Some, Result, Ok, Err, IfOk}
-use Rattle.std.proofs.Common.{length, sym, ap, subst, ◌∙◌, arith, get_or}
+use Rattle.std.proofs.Common.{length, ap, subst, ◌∙◌, arith, get_or}
 use Rattle.std.specs.Prelude.{◌&&◌, slice_get, Vec}
 use Rattle.std.specs.declared.alloc.Global.{Global}
 use Rattle.std.proofs.lemmas.Option.{slice_get_within}

@@ -1,7 +1,8 @@
 //! What a token is granted on the objects of a directory, and which of them it sees. The rules are written in
 //! `docs/profile/access.md`, and defined for one object in `specs/Sight.antt`. At the attributes of an object, all
 //! at once: which attributes objects of its class may have, and the masks of the rights that are granted on their
-//! paths, by one sweep. Which attribute is the password, and the rights that set it (`specs/Passwords.antt`).
+//! paths, by one sweep. Which attribute is the password, and the rights that set it (`specs/Passwords.antt`). Whether a
+//! line can name a right by its cn (`specs/Labels.antt`).
 //!
 //! # Example
 //!
@@ -29,10 +30,12 @@ mod allowed;
 mod masks;
 mod passwords;
 mod sight;
+mod titles;
 mod visible;
 
 pub use allowed::{allowed_attrs, attr_count, class_count, push_if};
 pub use masks::{attr_masks, tree_masks};
 pub use passwords::{is_password, password_right};
 pub use sight::{granted, grants};
+pub use titles::is_title;
 pub use visible::is_visible;

@@ -15,7 +15,7 @@ use Rattle.ad_schema.specs.Attributes.{attrs_of, rights_of}
 use Rattle.ad_schema.specs.Classes.{classes_of}
 use Rattle.ad_types.specs.TypesOf.{path_of}
 use Rattle.ad_access_dir.specs.Allowed.{allowed_attrs, applies, is_child_class}
-use Rattle.ad_access_dir.specs.Labels.{label_of}
+use Rattle.ad_access_dir.specs.Labels.{label_of, right_title}
 use Rattle.ad_acl.specs.declared.codes.Code.{Code}
 use Rattle.ad_diff_rights.specs.Rights.{object_codes, attribute_codes, extended_codes, validated_codes, child_codes}
 use Rattle.ad_diff_rights.specs.Rights.{label_if}
@@ -58,13 +58,13 @@ same_kind : (f g : List Guid → ℕ → Bool) (r : RightInfo) → ((path : List
 unfolding kind_labels
 same_kind f g r same =
     ap (λ (t : List (List ℕ)). if r.accesses == 256 then t else (if r.accesses == 8
-    then labels (f (r.guid ∷ [])) (label_of (codes "validated ") r.name) validated_codes else []))
-    (same_labels (f (r.guid ∷ [])) (g (r.guid ∷ [])) (label_of (codes "right ") r.name) extended_codes
+    then labels (f (r.guid ∷ [])) (label_of (codes "validated ") (right_title r)) validated_codes else []))
+    (same_labels (f (r.guid ∷ [])) (g (r.guid ∷ [])) (label_of (codes "right ") (right_title r)) extended_codes
     (same (r.guid ∷ [])))
     ∙ ap (λ (t : List (List ℕ)). if r.accesses == 256
-    then labels (g (r.guid ∷ [])) (label_of (codes "right ") r.name) extended_codes
+    then labels (g (r.guid ∷ [])) (label_of (codes "right ") (right_title r)) extended_codes
     else (if r.accesses == 8 then t else []))
-    (same_labels (f (r.guid ∷ [])) (g (r.guid ∷ [])) (label_of (codes "validated ") r.name) validated_codes
+    (same_labels (f (r.guid ∷ [])) (g (r.guid ∷ [])) (label_of (codes "validated ") (right_title r)) validated_codes
     (same (r.guid ∷ [])))
 
 same_right : (schema : List SchemaRecord) (f g : List Guid → ℕ → Bool) (class : ClassId) (r : RightInfo)

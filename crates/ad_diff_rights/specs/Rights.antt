@@ -27,7 +27,7 @@ use Rattle.ad_dir_model.specs.Objects.{object_at, sd_at}
 use Rattle.ad_dir_model.specs.Identity.{self_sid}
 use Rattle.ad_access.specs.Grant.{granted}
 use Rattle.ad_access_dir.specs.Allowed.{allowed_attrs, applies, is_child_class}
-use Rattle.ad_access_dir.specs.Labels.{label_of}
+use Rattle.ad_access_dir.specs.Labels.{label_of, right_title}
 
 -- ---- codes
 
@@ -94,9 +94,9 @@ attribute_labels schema grants class id = option_map_or
 -- an extended right and a validated write, on its own path
 unfoldable pub kind_labels : (List Guid → ℕ → Bool) → RightInfo → List (List ℕ)
 kind_labels grants r =
-    if r.accesses == 256 then labels (grants (r.guid ∷ [])) (label_of (codes "right ") r.name) extended_codes
+    if r.accesses == 256 then labels (grants (r.guid ∷ [])) (label_of (codes "right ") (right_title r)) extended_codes
     else (if r.accesses == 8
-    then labels (grants (r.guid ∷ [])) (label_of (codes "validated ") r.name) validated_codes
+    then labels (grants (r.guid ∷ [])) (label_of (codes "validated ") (right_title r)) validated_codes
     else [])
 
 -- where it applies to the class or one above it

@@ -2,11 +2,13 @@
 
 ghost use Rattle.std.specs.Prelude.{◌≡◌, ◌++◌, ◌<◌, All, IfOk, OnOk};
 ghost use Rattle.ad_acl.specs.Mask.{has_bit};
-ghost use Rattle.ad_access_dir.specs.Labels.{label_of};
+ghost use Rattle.ad_access_dir.specs.Labels.{label_of, right_title};
 ghost use Rattle.ad_diff_rights.specs.Rights.{label_if, labels};
 ghost use Rattle.ad_diff_rights.specs.Steps.{texts};
 
+use ad_access_dir::is_title;
 use ad_acl::Code;
+use ad_schema::RightInfo;
 use std::alloc::{AllocError, Global};
 
 // Whether the mask has the bit.
@@ -30,6 +32,25 @@ pub(crate) fn label_of(alloc: Global, kind: &[u8], name: &[u8]) -> Result<Vec<u8
     label.extend_from_slice(name)?;
     label.extend_from_slice(b" ")?;
     Ok(label)
+}
+
+/// A kind and how a line names a right, with a blank after.
+///
+/// # Errors
+///
+/// Out of memory.
+pub(crate) fn label_of_right(
+    alloc: Global,
+    kind: &[u8],
+    right: &RightInfo,
+) -> Result<Vec<u8>, AllocError>
+    ensures { IfOk result (λ label. label.items ≡ label_of kind.now (right_title right.now)) }
+{
+    let name = right.name.as_slice();
+    if is_title(name) {
+        return label_of(alloc, kind, name);
+    }
+    label_of(alloc, kind, right.guid.text(alloc)?.as_bytes())
 }
 
 // What a right is of, and its code.

@@ -6,7 +6,7 @@ ghost use Rattle.ad_schema.specs.Attributes.{attrs_of, rights_of};
 ghost use Rattle.ad_schema.specs.Classes.{classes_of};
 ghost use Rattle.ad_dir_model.specs.Objects.{is_live};
 ghost use Rattle.ad_access_dir.specs.Allowed.{allowed_attrs, applies, is_child_class};
-ghost use Rattle.ad_access_dir.specs.Labels.{label_of};
+ghost use Rattle.ad_access_dir.specs.Labels.{label_of, right_title};
 ghost use Rattle.ad_diff_rights.specs.Rights.{labels, object_labels, attribute_labels, kind_labels};
 ghost use Rattle.ad_diff_rights.specs.Rights.{right_labels, child_labels, children_labels, rights_by};
 ghost use Rattle.ad_diff_rights.specs.Own.{rights_in};
@@ -15,7 +15,7 @@ ghost use Rattle.ad_diff_rights.specs.Steps.{texts, masked_attribute, AreWanted}
 
 use crate::asked::{Asked, mask_on};
 use crate::codes::{attribute_codes, child_codes, extended_codes, object_codes, validated_codes};
-use crate::labelling::{label_of, push_labels};
+use crate::labelling::{label_of, label_of_right, push_labels};
 use crate::leaf_masks::attr_masks;
 use ad_access_dir::{allowed_attrs, class_count};
 use ad_acl::Code;
@@ -107,10 +107,10 @@ fn push_kind(
     requires codes { AreWanted want codes.now }
     ensures { OnOk result (texts into.new.items ≡ texts into.old.items
         ++ labels (grants_of asked.now (right.now.guid ∷ []))
-        (label_of kind.now right.now.name) codes.now) }
+        (label_of kind.now (right_title right.now)) codes.now) }
 {
     let mask = mask_on(asked, &Path::one(right.guid), want);
-    let label = label_of(alloc, kind, right.name.as_slice())?;
+    let label = label_of_right(alloc, kind, right)?;
     push_labels(alloc, into, label.as_slice(), codes, mask)
 }
 

@@ -39,7 +39,7 @@ use Rattle.ad_access_dir.specs.Allowed.{allowed_attrs, is_child_class}
 use Rattle.ad_access_dir.specs.Masks.{IsMask}
 use Rattle.ad_access_dir.proofs.AllowedLaws.{allowed_within}
 use Rattle.ad_dsacls.specs.Effective.{line_of, attribute_line, is_of_set, set_attrs, set_path, set_grants}
-use Rattle.ad_access_dir.specs.Labels.{label_of}
+use Rattle.ad_access_dir.specs.Labels.{label_of, right_title}
 use Rattle.ad_dsacls.specs.Effective.{set_line, extended_line, validated_line, object_line}
 use Rattle.ad_dsacls.specs.Effective.{child_line, child_lines}
 use Rattle.ad_dsacls.specs.Masks.{masked_line}
@@ -142,21 +142,21 @@ module _ (dir : Directory) (token : Token) (number mask : ℕ) where
 
   pub set_is : (class : ClassId) (r : RightInfo) (ids : List AttrId) → ids ≡ set_attrs dir.schema class.0 r.guid
       → IsMask 48 (set_grants dir token number class r.guid ids) mask
-      → line_of (label_of (codes "set ") r.name) (codes_text right_codes mask) ≡ set_line dir token number class r
-  set_is class r ids same is = ap (line_of (label_of (codes "set ") r.name))
+      → line_of (label_of (codes "set ") (right_title r)) (codes_text right_codes mask) ≡ set_line dir token number class r
+  set_is class r ids same is = ap (line_of (label_of (codes "set ") (right_title r)))
       (set_codes (set_grants dir token number class r.guid (set_attrs dir.schema class.0 r.guid)) mask
       (subst (λ (found : List AttrId). IsMask 48 (set_grants dir token number class r.guid found) mask) same is))
 
   pub extended_is : (r : RightInfo) (path : List Guid) → path ≡ r.guid ∷ []
       → IsMask 0x100 (is_granted dir token number path) mask
-      → line_of (label_of (codes "right ") r.name) (codes_text right_codes mask) ≡ extended_line dir token number r
-  extended_is r path same is = ap (line_of (label_of (codes "right ") r.name))
+      → line_of (label_of (codes "right ") (right_title r)) (codes_text right_codes mask) ≡ extended_line dir token number r
+  extended_is r path same is = ap (line_of (label_of (codes "right ") (right_title r)))
       (extended_codes (is_granted dir token number (r.guid ∷ [])) mask (granted_on 0x100 path (r.guid ∷ []) same is))
 
   pub validated_is : (r : RightInfo) (path : List Guid) → path ≡ r.guid ∷ []
       → IsMask 0x8 (is_granted dir token number path) mask
-      → line_of (label_of (codes "validated ") r.name) (codes_text right_codes mask) ≡ validated_line dir token number r
-  validated_is r path same is = ap (line_of (label_of (codes "validated ") r.name))
+      → line_of (label_of (codes "validated ") (right_title r)) (codes_text right_codes mask) ≡ validated_line dir token number r
+  validated_is r path same is = ap (line_of (label_of (codes "validated ") (right_title r)))
       (validated_codes (is_granted dir token number (r.guid ∷ [])) mask (granted_on 0x8 path (r.guid ∷ []) same is))
 
   pub child_is : (class : ClassId) (place : ℕ) (info : ClassInfo) (path : List Guid)

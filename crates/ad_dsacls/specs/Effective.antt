@@ -26,7 +26,7 @@ use Rattle.ad_dir_model.specs.Objects.{object_at, sd_at}
 use Rattle.ad_dir_model.specs.Identity.{self_sid}
 use Rattle.ad_access_dir.specs.Sight.{is_granted}
 use Rattle.ad_access_dir.specs.Allowed.{allowed_attrs, applies, is_child_class}
-use Rattle.ad_access_dir.specs.Labels.{label_of}
+use Rattle.ad_access_dir.specs.Labels.{label_of, right_title}
 use Rattle.ad_dsacls.specs.Words.{labelled}
 
 -- ---- codes
@@ -102,16 +102,16 @@ set_grants dir token number class set (id ∷ ids) bit =
 
 abbrev pub set_line : Directory → Token → ℕ → ClassId → RightInfo → List ℕ
 set_line dir token number class r =
-    line_of (label_of (codes "set ") r.name)
+    line_of (label_of (codes "set ") (right_title r))
     (granted_codes (set_grants dir token number class r.guid (set_attrs dir.schema class.0 r.guid)) set_rights)
 
 -- an extended right and a validated write are judged on their own path
 abbrev pub extended_line : Directory → Token → ℕ → RightInfo → List ℕ
-extended_line dir token number r = line_of (label_of (codes "right ") r.name)
+extended_line dir token number r = line_of (label_of (codes "right ") (right_title r))
     (granted_codes (is_granted dir token number (r.guid ∷ [])) (control_access ∷ []))
 
 abbrev pub validated_line : Directory → Token → ℕ → RightInfo → List ℕ
-validated_line dir token number r = line_of (label_of (codes "validated ") r.name)
+validated_line dir token number r = line_of (label_of (codes "validated ") (right_title r))
     (granted_codes (is_granted dir token number (r.guid ∷ [])) (self_write ∷ []))
 
 -- by what the right is: a property set, an extended right or a validated write

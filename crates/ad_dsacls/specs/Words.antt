@@ -18,6 +18,7 @@ use Rattle.ad_schema.specs.declared.info.ClassInfo.{ClassInfo}
 use Rattle.ad_schema.specs.declared.info.RightInfo.{RightInfo}
 use Rattle.ad_schema.specs.Attributes.{attrs_of, rights_of}
 use Rattle.ad_schema.specs.Classes.{classes_of}
+use Rattle.ad_access_dir.specs.Labels.{is_title}
 
 -- ---- pieces
 
@@ -59,9 +60,12 @@ unfoldable pub attr_name : List AttrInfo → Guid → Option (List ℕ)
 attr_name [] guid = None
 attr_name (a ∷ attrs) guid = if same_guid a.guid guid then Some a.name else attr_name attrs guid
 
+-- (a right whose cn is no word has no name in a line)
 unfoldable pub right_name : List RightInfo → Guid → Option (List ℕ)
 right_name [] guid = None
-right_name (r ∷ rights) guid = if same_guid r.guid guid then Some r.name else right_name rights guid
+right_name (r ∷ rights) guid =
+    if same_guid r.guid guid then (if is_title r.name then Some r.name else None)
+    else right_name rights guid
 
 -- that of a class, else of an attribute, else of a right
 abbrev pub schema_name : List SchemaRecord → Guid → Option (List ℕ)

@@ -13,7 +13,7 @@ ghost use Rattle.ad_dsacls.specs.Effective.{effective_of, effective_text};
 ghost use Rattle.ad_dsacls.specs.Masks.{masked_line};
 
 use crate::asking::{attrs_of_set, mask_on, set_mask};
-use crate::lines::{put_mask, put_named};
+use crate::lines::{put_mask, put_named, put_right};
 use ad_access_dir::{allowed_attrs, attr_masks, class_count};
 use ad_dir::{Dir, class_of};
 use ad_ids::{Guid, Token};
@@ -112,7 +112,7 @@ fn put_set_line(
 {
     let own = attrs_of_set(alloc, dir, attrs, right.guid)?;
     let mask = set_mask(alloc, dir, token, number, class, right.guid, own.as_slice())?;
-    put_named(alloc, out, b"set ", right.name.as_slice(), mask)
+    put_right(alloc, out, b"set ", right, mask)
 }
 
 fn put_extended_line(
@@ -128,7 +128,7 @@ fn put_extended_line(
         (extended_line dir.now token.now number right.now)) }
 {
     let mask = mask_on(dir, token, number, &Path::one(right.guid), EXTENDED_RIGHT);
-    put_named(alloc, out, b"right ", right.name.as_slice(), mask)
+    put_right(alloc, out, b"right ", right, mask)
 }
 
 fn put_validated_line(
@@ -144,7 +144,7 @@ fn put_validated_line(
         (validated_line dir.now token.now number right.now)) }
 {
     let mask = mask_on(dir, token, number, &Path::one(right.guid), VALIDATED_WRITE);
-    put_named(alloc, out, b"validated ", right.name.as_slice(), mask)
+    put_right(alloc, out, b"validated ", right, mask)
 }
 
 // By what the right is.

@@ -1,15 +1,17 @@
 //! The words of a line.
 
-ghost use Rattle.std.specs.Prelude.{◌≡◌, ◌++◌, List, OnOk, IfOk};
+ghost use Rattle.std.specs.Prelude.{◌≡◌, ◌++◌, if◌then◌else◌, Some, None, List, OnOk, IfOk};
 ghost use Rattle.std.specs.List.{flat_map};
 ghost use Rattle.std.specs.Option.{option_map};
 ghost use Rattle.ad_acl.specs.Codes.{right_codes};
 ghost use Rattle.ad_sddl.specs.Canonical.{codes_text};
+ghost use Rattle.ad_access_dir.specs.Labels.{is_title};
 ghost use Rattle.ad_bytes.specs.Puts.{Puts, spaced};
 ghost use Rattle.ad_dsacls.specs.Words.{kind_text, own_flag, flags_text, origin_text, class_name, attr_name};
 ghost use Rattle.ad_dsacls.specs.Words.{right_name, schema_name, type_text};
 
 use crate::pieces::put_spaced;
+use ad_access_dir::is_title;
 use ad_acl::{AceKind, Code, INHERITED, flag_codes, right_codes};
 use ad_ids::Guid;
 use ad_schema::{AttrInfo, ClassInfo, RightInfo, Schema};
@@ -107,14 +109,23 @@ fn attr_name(attrs: &[AttrInfo], guid: Guid) -> Option<&[u8]>
     None
 }
 
-// The name of the first right of a GUID.
+// The cn of a right, where a line can name the right so.
+fn titled(right: &RightInfo) -> Option<&[u8]>
+    ensures { option_map (λ name. name.now) result
+        ≡ (if is_title right.now.name then Some right.now.name else None) }
+{
+    let name = right.name.as_slice();
+    if is_title(name) { Some(name) } else { None }
+}
+
+// The name of the first right of a GUID, where a line can name it so.
 #[tactic(auto, unfolding(crate::specs::Words::right_name))]
 fn right_name(rights: &[RightInfo], guid: Guid) -> Option<&[u8]>
     ensures { option_map (λ name. name.now) result ≡ right_name rights.now guid }
 {
     for right in rights {
         if right.guid == guid {
-            return Some(right.name.as_slice());
+            return titled(right);
         }
     }
     None

@@ -24,8 +24,9 @@ use Rattle.ad_diff_rights.specs.Rights.{object_codes, attribute_codes, extended_
 use Rattle.ad_diff_rights.specs.Rights.{labels, object_labels, attribute_labels, kind_labels, right_labels, child_labels}
 use Rattle.ad_diff_rights.specs.Rights.{children_labels, rights_by, grants_at, class_at, rights}
 use Rattle.ad_text_laws.specs.Lines.{is_line}
-use Rattle.ad_text_laws.specs.DiffTold.{HasLineNames}
-use Rattle.ad_text_laws.proofs.LineLaws.{two_lines}
+use Rattle.ad_text_laws.proofs.LineLaws.{two_lines, word_is_line}
+use Rattle.ad_text_laws.proofs.CodeWords.{title_word}
+use Rattle.ad_text_laws.proofs.SchemaWords.{HasWordNames, names_are_words}
 
 abbrev pub AreLines : List (List ℕ) → Type 0
 AreLines texts = AllByRecursion (λ (text : List ℕ). is_line text ≡ true) texts
@@ -64,13 +65,13 @@ if_lines : (t : Bool) (a b : List (List ℕ)) → AreLines a → AreLines b → 
 if_lines true a b p q = p
 if_lines false a b p q = q
 
-module _ (schema : List SchemaRecord) (grants : List Guid → ℕ → Bool) (class : ClassId) (names : HasLineNames schema) where
+module _ (schema : List SchemaRecord) (grants : List Guid → ℕ → Bool) (class : ClassId) (names : HasWordNames schema) where
   attribute_is : (id : AttrId) → AreLines (attribute_labels schema grants class id)
   unfolding attribute_labels
   attribute_is id = or_none _ (slice_get (attrs_of schema) id.0) (if_some
-      (λ (info : AttrInfo). is_line info.name ≡ true) _ (slice_get (attrs_of schema) id.0)
+      (λ (info : AttrInfo). is_word info.name ≡ true) _ (slice_get (attrs_of schema) id.0)
       (λ info e. labels_are (grants (path_of schema class id)) (label_of (codes "attribute ") info.name) attribute_codes
-      (named_line (codes "attribute ") info.name refl e) (refl, (refl, (refl, tt))))
+      (named_line (codes "attribute ") info.name refl (word_is_line info.name e)) (refl, (refl, (refl, tt))))
       (names.attrs id.0))
 
   attributes_are : (ids : List AttrId) → AreLines (flat_map (attribute_labels schema grants class) ids)
@@ -78,32 +79,32 @@ module _ (schema : List SchemaRecord) (grants : List Guid → ℕ → Bool) (cla
   attributes_are (id ∷ ids) = both_lines (attribute_labels schema grants class id)
       (flat_map (attribute_labels schema grants class) ids) (attribute_is id) (attributes_are ids)
 
-  kind_is : (r : RightInfo) → is_line r.name ≡ true → AreLines (kind_labels grants r)
+  kind_is : (r : RightInfo) → AreLines (kind_labels grants r)
   unfolding kind_labels
-  kind_is r e =
+  kind_is r =
+      let e = word_is_line (right_title r) (title_word r) in
       if_lines (r.accesses == 256) _ _
-      (labels_are (grants (r.guid ∷ [])) (label_of (codes "right ") r.name) extended_codes
-      (named_line (codes "right ") r.name refl e) (refl, tt))
+      (labels_are (grants (r.guid ∷ [])) (label_of (codes "right ") (right_title r)) extended_codes
+      (named_line (codes "right ") (right_title r) refl e) (refl, tt))
       (if_lines (r.accesses == 8) _ []
-      (labels_are (grants (r.guid ∷ [])) (label_of (codes "validated ") r.name) validated_codes
-      (named_line (codes "validated ") r.name refl e) (refl, tt)) tt)
+      (labels_are (grants (r.guid ∷ [])) (label_of (codes "validated ") (right_title r)) validated_codes
+      (named_line (codes "validated ") (right_title r) refl e) (refl, tt)) tt)
 
-  rights_are : (all : List RightInfo) → AllByRecursion (λ (r : RightInfo). is_line r.name ≡ true) all
-      → AreLines (flat_map (right_labels schema grants class) all)
+  rights_are : (all : List RightInfo) → AreLines (flat_map (right_labels schema grants class) all)
   unfolding right_labels
-  rights_are [] names_are = tt
-  rights_are (r ∷ all) names_are = both_lines (right_labels schema grants class r)
+  rights_are [] = tt
+  rights_are (r ∷ all) = both_lines (right_labels schema grants class r)
       (flat_map (right_labels schema grants class) all)
-      (if_lines (applies schema class.0 r.applies) (kind_labels grants r) [] (kind_is r names_are.0) tt)
-      (rights_are all names_are.1)
+      (if_lines (applies schema class.0 r.applies) (kind_labels grants r) [] (kind_is r) tt)
+      (rights_are all)
 
   child_is : (place : ℕ) → AreLines (child_labels schema grants class place)
   unfolding child_labels
   child_is place = or_none _ (slice_get (classes_of schema) place) (if_some
-      (λ (info : ClassInfo). is_line info.name ≡ true) _ (slice_get (classes_of schema) place)
+      (λ (info : ClassInfo). is_word info.name ≡ true) _ (slice_get (classes_of schema) place)
       (λ info e. if_lines (is_child_class schema class.0 place info) _ []
       (labels_are (grants (info.guid ∷ [])) (label_of (codes "child ") info.name) child_codes
-      (named_line (codes "child ") info.name refl e) (refl, (refl, tt))) tt)
+      (named_line (codes "child ") info.name refl (word_is_line info.name e)) (refl, (refl, tt))) tt)
       (names.classes place))
 
   children_are : (n : ℕ) → AreLines (children_labels schema grants class n)
@@ -127,9 +128,10 @@ module _ (schema : List SchemaRecord) (grants : List Guid → ℕ → Bool) (cla
       (attributes_are (allowed_attrs schema class.0))
       (both_lines (flat_map (right_labels schema grants class) (rights_of schema))
       (children_labels schema grants class (length (classes_of schema)))
-      (rights_are (rights_of schema) names.rights) (children_are (length (classes_of schema)))))
+      (rights_are (rights_of schema)) (children_are (length (classes_of schema)))))
 
-pub granted_are : (dir : Directory) (token : Token) (number : ℕ) → HasLineNames dir.schema
+pub granted_are : (dir : Directory) (token : Token) (number : ℕ) → MakeSchema dir.schema
     → AreLines (rights dir token number)
 unfolding rights
-granted_are dir token number names = all_are dir.schema (grants_at dir token number) (class_at dir number) names
+granted_are dir token number makes = all_are dir.schema (grants_at dir token number) (class_at dir number)
+    (names_are_words dir.schema makes)

@@ -205,7 +205,7 @@ module _ (before after : Directory) (text : List ℕ) (told : IsDiffText before 
       let is = rights after d.is o.after in (
         changed gained was is ++ changed lost is was,
         subst (λ (t : List ℕ). IsText t (changed gained was is ++ changed lost is was)) (sym d.lines_are)
-            (change_is was is (granted_are before d.was o.before first.names) (granted_are after d.is o.after second.names)),
+            (change_is was is (granted_are before d.was o.before first.makes) (granted_are after d.is o.after second.makes)),
       )
 
   cell_at : (o p : ℕ) → IsText (cell_text o p (cell told.table o p)) (cell_told o p (cell told.table o p))

@@ -7,10 +7,8 @@ use Rattle.std.specs.Option.{option_map_or}
 use Rattle.ad_bytes.specs.Puts.{spaced, ended}
 use Rattle.ad_ids.specs.declared.guid.Guid.{Guid}
 use Rattle.ad_ids.specs.declared.token.Token.{Token}
-use Rattle.ad_acl.specs.declared.codes.Code.{Code}
 use Rattle.ad_acl.specs.Codes.{right_codes}
-use Rattle.ad_acl.specs.Entry.{says}
-use Rattle.ad_sddl.specs.Canonical.{code_text, codes_text}
+use Rattle.ad_sddl.specs.Canonical.{codes_text}
 use Rattle.ad_schema.specs.declared.line.SchemaRecord.{SchemaRecord}
 use Rattle.ad_schema.specs.declared.info.AttrId.{AttrId}
 use Rattle.ad_schema.specs.declared.info.AttrInfo.{AttrInfo}
@@ -19,11 +17,12 @@ use Rattle.ad_schema.specs.declared.info.ClassInfo.{ClassInfo}
 use Rattle.ad_schema.specs.declared.info.RightInfo.{RightInfo}
 use Rattle.ad_schema.specs.Attributes.{attrs_of, rights_of}
 use Rattle.ad_schema.specs.Classes.{classes_of}
+use Rattle.ad_schema.specs.Sound.{MakeSchema}
 use Rattle.ad_types.specs.TypesOf.{path_of}
 use Rattle.ad_dir_model.specs.Directory.{Directory}
 use Rattle.ad_dir_model.specs.Objects.{object_at}
 use Rattle.ad_access_dir.specs.Sight.{is_granted}
-use Rattle.ad_access_dir.specs.Labels.{label_of}
+use Rattle.ad_access_dir.specs.Labels.{label_of, right_title}
 use Rattle.ad_access_dir.specs.Allowed.{allowed_attrs, applies, is_child_class}
 use Rattle.ad_dsacls.specs.Effective.{code_of, granted_codes, object_rights, attribute_rights, set_rights, child_rights}
 use Rattle.ad_dsacls.specs.Effective.{line_of, object_line, attribute_line, set_grants, set_line, extended_line}
@@ -31,76 +30,12 @@ use Rattle.ad_dsacls.specs.Effective.{validated_line, kind_line, right_line, chi
 use Rattle.ad_dsacls.specs.Effective.{effective_text, set_attrs}
 use Rattle.ad_text_laws.specs.Lines.{is_word}
 use Rattle.ad_text_laws.specs.Words.{joined, AreWords, IsOfWords}
-use Rattle.ad_text_laws.specs.Effective.{HasWordNames}
 use Rattle.ad_text_laws.proofs.LineLaws.{two_words}
+use Rattle.ad_text_laws.proofs.CodeWords.{if_word, codes_word, right_letters, title_word}
+use Rattle.ad_text_laws.proofs.SchemaWords.{HasWordNames, names_are_words}
 use Rattle.ad_text_laws.proofs.WordLines.{no_lines, one_line, two_texts}
 
 -- ---- codes
-
-abbrev AreLetters : List Code → Type 0
-AreLetters [] = Unit {0}
-AreLetters (code ∷ table) = (is_word code.letters ≡ true) × AreLetters table
-
-right_letters : AreLetters right_codes
-unfolding right_codes
-right_letters = (
-  refl,
-  (
-    refl,
-    (
-      refl,
-      (
-        refl,
-        (
-          refl,
-          (
-            refl,
-            (
-              refl,
-              (
-                refl,
-                (
-                  refl,
-                  (
-                    refl,
-                    (
-                      refl,
-                      (
-                        refl,
-                        (
-                          refl,
-                          (
-                            refl,
-                            (
-                              refl,
-                              (
-                                refl,
-                                (refl, tt),
-                              ),
-                            ),
-                          ),
-                        ),
-                      ),
-                    ),
-                  ),
-                ),
-              ),
-            ),
-          ),
-        ),
-      ),
-    ),
-  ),
-)
-
-if_word : (t : Bool) (letters : List ℕ) → is_word letters ≡ true → is_word (if t then letters else []) ≡ true
-if_word true letters e = e
-if_word false letters e = refl
-
-codes_word : (table : List Code) (mask : ℕ) → AreLetters table → is_word (codes_text table mask) ≡ true
-codes_word [] mask all = refl
-codes_word (code ∷ table) mask all = two_words (code_text mask code) (codes_text table mask)
-    (if_word (says mask code.bits) code.letters all.0) (codes_word table mask all.1)
 
 granted_word : (grants : ℕ → Bool) (rights : List ℕ) → is_word (granted_codes grants rights) ≡ true
 unfolding granted_codes code_of
@@ -154,26 +89,26 @@ module _ (dir : Directory) (token : Token) (number : ℕ) (class : ClassId) (nam
       (granted_word (is_granted dir token number (path_of dir.schema class id)) attribute_rights))
       (names.attrs id.0))
 
-  kind_words : (r : RightInfo) → is_word r.name ≡ true → IsOfWords (kind_line dir token number class r)
+  kind_words : (r : RightInfo) → IsOfWords (kind_line dir token number class r)
   unfolding kind_line
-  kind_words r e =
+  kind_words r =
       if_both (r.accesses == 48) _ _
-      (named_words (codes "set") r.name _ refl e
+      (named_words (codes "set") (right_title r) _ refl (title_word r)
       (granted_word (set_grants dir token number class r.guid (set_attrs dir.schema class.0 r.guid)) set_rights))
       (if_both (r.accesses == 256) _ _
-      (named_words (codes "right") r.name _ refl e (granted_word (is_granted dir token number (r.guid ∷ [])) (8 ∷ [])))
+      (named_words (codes "right") (right_title r) _ refl (title_word r)
+      (granted_word (is_granted dir token number (r.guid ∷ [])) (8 ∷ [])))
       (if_lines (r.accesses == 8) _
-      (named_words (codes "validated") r.name _ refl e
+      (named_words (codes "validated") (right_title r) _ refl (title_word r)
       (granted_word (is_granted dir token number (r.guid ∷ [])) (3 ∷ [])))))
 
-  right_words : (rights : List RightInfo) → AllByRecursion (λ (r : RightInfo). is_word r.name ≡ true) rights
-      → IsOfWords (flat_map (right_line dir token number class) rights)
+  right_words : (rights : List RightInfo) → IsOfWords (flat_map (right_line dir token number class) rights)
   unfolding right_line
-  right_words [] all = no_lines
-  right_words (r ∷ rights) all = two_texts (right_line dir token number class r)
+  right_words [] = no_lines
+  right_words (r ∷ rights) = two_texts (right_line dir token number class r)
       (flat_map (right_line dir token number class) rights)
-      (if_lines (applies dir.schema class.0 r.applies) (kind_line dir token number class r) (kind_words r all.0))
-      (right_words rights all.1)
+      (if_lines (applies dir.schema class.0 r.applies) (kind_line dir token number class r) (kind_words r))
+      (right_words rights)
 
   attributes_words : (ids : List AttrId) → IsOfWords (flat_map (attribute_line dir token number class) ids)
   attributes_words [] = no_lines
@@ -202,9 +137,9 @@ module _ (dir : Directory) (token : Token) (number : ℕ) (class : ClassId) (nam
       (two_texts (flat_map (attribute_line dir token number class) (allowed_attrs dir.schema class.0)) _
       (attributes_words (allowed_attrs dir.schema class.0))
       (two_texts (flat_map (right_line dir token number class) (rights_of dir.schema)) _
-      (right_words (rights_of dir.schema) names.rights) (children_words (length (classes_of dir.schema)))))
+      (right_words (rights_of dir.schema)) (children_words (length (classes_of dir.schema)))))
 
-pub effective_words : (dir : Directory) (token : Token) (number : ℕ) → HasWordNames dir.schema
+pub effective_words : (dir : Directory) (token : Token) (number : ℕ) → MakeSchema dir.schema
     → IsOfWords (effective_text dir token number)
-effective_words dir token number names = all_words dir token number (record { 0 = (object_at dir.objects number).class })
-    names
+effective_words dir token number makes = all_words dir token number
+    (record { 0 = (object_at dir.objects number).class }) (names_are_words dir.schema makes)

@@ -41,7 +41,7 @@ digit_word : (is : Bool) (d : ℕ) → d < 16 → nat_lt 32 (if is then 45 else 
 digit_word true d small = refl
 digit_word false d small = grind (arith, nat_tests)
 
-guid_word : (g : Guid) → is_word (guid_text g) ≡ true
+pub guid_word : (g : Guid) → is_word (guid_text g) ≡ true
 guid_word g =
     let xs = swap_fields g.bytes in
     by_index_word 36 (λ k. if is_hyphen_place k then 45 else hex_digit lower (nibble xs (digit_place k)))

@@ -5,6 +5,8 @@ pub mod TokenLaws
 pub mod EventLaws
 pub mod ListLaws
 pub mod WordLines
+pub mod CodeWords
+pub mod SchemaWords
 pub mod EffectiveLaws
 pub mod PrintedLaws
 pub mod DiffLaws

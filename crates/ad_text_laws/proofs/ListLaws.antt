@@ -19,6 +19,7 @@ use Rattle.ad_sd.specs.declared.parts.AceList.{AceList}
 use Rattle.ad_sd.specs.declared.parts.Sd.{Sd}
 use Rattle.ad_sddl.specs.Canonical.{rights_text}
 use Rattle.ad_schema.specs.declared.line.SchemaRecord.{SchemaRecord}
+use Rattle.ad_schema.specs.Sound.{MakeSchema}
 use Rattle.ad_dsacls.specs.Words.{or_dash, kind_text, flags_text, type_text, origin_text}
 use Rattle.ad_dsacls.specs.Listing.{entry_line, list_lines, lines_of}
 use Rattle.ad_text_laws.specs.Lines.{is_line, is_word, word_of, facts_of}
@@ -30,6 +31,8 @@ use Rattle.ad_text_laws.proofs.LineLaws.{IsRead, two_lines, word_is_line, facts_
 use Rattle.ad_text_laws.proofs.WordLaws.{word_then, sid_word, sid_back, name_line, name_back}
 use Rattle.ad_text_laws.proofs.FactLaws.{all_read, spaced_line}
 use Rattle.ad_text_laws.proofs.TokenLaws.{sid_line}
+use Rattle.ad_text_laws.proofs.CodeWords.{rights_word, flags_word}
+use Rattle.ad_text_laws.proofs.SchemaWords.{type_word}
 
 protection_line : (label : List ℕ) (protected : Bool) → is_line label ≡ true
     → is_line (label ++ protection_word protected) ≡ true
@@ -158,6 +161,22 @@ all_entries : (schema : List SchemaRecord) (entries : List Entry) (rest : List L
 all_entries schema [] rest all others = others
 all_entries schema (e ∷ entries) rest all others = (all.0, all_entries schema entries rest all.1 others)
 
+-- the words of entries are words
+entries_are : (schema : List SchemaRecord) → MakeSchema schema → (entries : List Entry)
+    → AllByRecursion (λ (e : Entry). IsSid e.sid) entries
+    → AllByRecursion (λ e. IsEntryWords (words_at schema e)) entries
+entries_are schema makes [] all = tt
+entries_are schema makes (e ∷ entries) all = (
+  record {
+    sid = all.0;
+    rights = rights_word e.mask;
+    object = type_word schema makes e.object;
+    inherited = type_word schema makes e.inherited;
+    flags = flags_word e.flags;
+  },
+  entries_are schema makes entries all.1,
+)
+
 -- the text of list is that of its lines
 lines_text : (schema : List SchemaRecord) (dn : Dn) (sd : Sd) → lines_of schema (dn_text dn) sd
     ≡ list_text (lines_at schema dn sd)
@@ -183,9 +202,9 @@ lines_text schema dn sd =
     (entries_text schema sd.dacl.entries (sacl sd.sacl.protected ∷ entries_at schema sd.sacl.entries))
     )
 
-pub listed_back : (schema : List SchemaRecord) (dn : Dn) (sd : Sd) → IsListed schema dn sd
+pub listed_back : (schema : List SchemaRecord) (dn : Dn) (sd : Sd) → MakeSchema schema → IsListed dn sd
     → facts_of list_line_of (lines_of schema (dn_text dn) sd) ≡ Some (lines_at schema dn sd)
-listed_back schema dn sd is = ap (facts_of list_line_of) (lines_text schema dn sd)
+listed_back schema dn sd makes is = ap (facts_of list_line_of) (lines_text schema dn sd)
     ∙ list_back (lines_at schema dn sd) (
       is.name,
       (
@@ -194,11 +213,12 @@ listed_back schema dn sd is = ap (facts_of list_line_of) (lines_text schema dn s
           is.group,
           (
             tt,
-            all_entries schema sd.dacl.entries (sacl sd.sacl.protected ∷ entries_at schema sd.sacl.entries) is.dacl (
-              tt,
-              subst (AllByRecursion IsListLine) (append-nil (entries_at schema sd.sacl.entries))
-                  (all_entries schema sd.sacl.entries [] is.sacl tt),
-            ),
+            all_entries schema sd.dacl.entries (sacl sd.sacl.protected ∷ entries_at schema sd.sacl.entries)
+                (entries_are schema makes sd.dacl.entries is.dacl) (
+                  tt,
+                  subst (AllByRecursion IsListLine) (append-nil (entries_at schema sd.sacl.entries))
+                      (all_entries schema sd.sacl.entries [] (entries_are schema makes sd.sacl.entries is.sacl) tt),
+                ),
           ),
         ),
       ),

@@ -2,7 +2,7 @@
 use Rattle.std.proofs.Common.{Bool, eqb, nat_lt, ◌≡◌, inl, inr, ℕ, zero, suc, ◌%◌, ◌/◌, ◌^◌, ◌<◌, ◌≤◌, true, false}
 use Rattle.std.proofs.Common.{if◌then◌else◌, Option, Some, None, List, [], ◌∷◌, ◌++◌, codes, decimal, refl, sym, ap}
 use Rattle.std.proofs.Common.{subst, ◌∙◌, append_assoc, arith, lt-ltb}
-use Rattle.std.specs.Prelude.{◌&&◌, not}
+use Rattle.std.specs.Prelude.{◌&&◌, not, ◌==◌}
 use Rattle.std.specs.List.{AllByRecursion, list_all}
 use Rattle.std.specs.Str.{bytes_eq}
 use Rattle.std.specs.Str.Parse.{digits_value, AllDigits}
@@ -22,6 +22,7 @@ use Rattle.ad_ids.specs.SidText.{hex_digits, authority_text, others_text, sid_te
 use Rattle.ad_ids.specs.SidFront.{sid_of_text}
 use Rattle.ad_ids.proofs.SidTextWriting.{spelled_by_text}
 use Rattle.ad_ids.proofs.SidFront.{spelled_of}
+use Rattle.ad_sddl.specs.Canonical.{hex_text}
 use Rattle.ad_dn.specs.declared.rdn.Dn.{Dn}
 use Rattle.ad_dn.specs.Value.{AreRdns}
 use Rattle.ad_dn.specs.Text.{is_control, has_no_control, dn_text}
@@ -79,6 +80,16 @@ unfolding hex_digits
 hex_words zero n = refl
 hex_words (suc k) n = two_words (hex_digits k (n / 16)) (hex_digit (n % 16) ∷ []) (hex_words k (n / 16))
     (both (nat_lt 32 (hex_digit (n % 16))) true (hex_word (n % 16) (omega arith)) refl)
+
+pub hex_text_word : (k n : ℕ) → is_word (hex_text k n) ≡ true
+unfolding hex_text
+hex_text_word zero n = refl
+hex_text_word (suc k) n = by (n == 0)
+  where
+    by : (t : Bool) → is_word (if t then [] else hex_text k (n / 16) ++ hex_digit (n % 16) ∷ []) ≡ true
+    by true = refl
+    by false = two_words (hex_text k (n / 16)) (hex_digit (n % 16) ∷ []) (hex_text_word k (n / 16))
+        (both (nat_lt 32 (hex_digit (n % 16))) true (hex_word (n % 16) (omega arith)) refl)
 
 authority_word : (n : ℕ) → is_word (authority_text n) ≡ true
 authority_word n = elim (cases_lt n (2 ^ 32)) [

@@ -1,39 +1,27 @@
 -- What the text of diff tells: the lines of an answer, and when they can be read back.
-use Rattle.std.specs.Prelude.{◌≡◌, ℕ, ◌+◌, true, ◌==◌, if◌then◌else◌, is_some, Option, Some, List, [], ◌∷◌, ◌++◌, IfSome}
+use Rattle.std.specs.Prelude.{◌≡◌, ℕ, ◌+◌, ◌==◌, if◌then◌else◌, is_some, Option, Some, List, [], ◌∷◌, ◌++◌}
 use Rattle.std.specs.Prelude.{slice_get, unwrap_or}
 use Rattle.std.specs.List.{AllByRecursion, flat_map}
 use Rattle.std.specs.Option.{option_map_or}
 use Rattle.ad_ids.specs.SidValue.{SidValue}
 use Rattle.ad_dn.specs.declared.rdn.Dn.{Dn}
-use Rattle.ad_schema.specs.declared.line.SchemaRecord.{SchemaRecord}
-use Rattle.ad_schema.specs.declared.info.AttrInfo.{AttrInfo}
-use Rattle.ad_schema.specs.declared.info.ClassInfo.{ClassInfo}
-use Rattle.ad_schema.specs.declared.info.RightInfo.{RightInfo}
-use Rattle.ad_schema.specs.Attributes.{attrs_of, rights_of}
-use Rattle.ad_schema.specs.Classes.{classes_of}
+use Rattle.ad_schema.specs.Sound.{MakeSchema}
 use Rattle.ad_dir_model.specs.Directory.{Directory}
 use Rattle.ad_dir_model.specs.Objects.{numbers, Rise}
 use Rattle.ad_dir_model.specs.Identity.{self_sid}
 use Rattle.ad_diff_rights.specs.Both.{counterpart}
 use Rattle.ad_diff.specs.declared.numbering.Grouped.{Grouped}
 use Rattle.ad_diff.specs.Text.{IsDiffText}
-use Rattle.ad_text_laws.specs.Lines.{is_line, facts_of}
+use Rattle.ad_text_laws.specs.Lines.{facts_of}
 use Rattle.ad_text_laws.specs.Printed.{HasForms, name_at}
 use Rattle.ad_text_laws.specs.Diff.{DiffLine, principal, object, block, only_before, only_after, diff_line_of, IsDiffLine}
 use Rattle.ad_text_laws.specs.Diff.{diff_text}
-
--- The names of the schema have no line end. Those of attributes and classes never have; the cn of a right may be any
--- bytes.
-pub record HasLineNames (schema : List SchemaRecord) : Type 0 where
-  pub attrs : (place : ℕ) → IfSome (slice_get (attrs_of schema) place) (λ (a : AttrInfo). is_line a.name ≡ true)
-  pub classes : (place : ℕ) → IfSome (slice_get (classes_of schema) place) (λ (c : ClassInfo). is_line c.name ≡ true)
-  pub rights : AllByRecursion (λ (r : RightInfo). is_line r.name ≡ true) (rights_of schema)
 
 -- what is needed of each of the two directories
 pub record IsTellable (dir : Directory) : Type 0 where
   pub forms : HasForms dir
   pub rise : Rise dir.objects
-  pub names : HasLineNames dir.schema
+  pub makes : MakeSchema dir.schema
 
 -- ---- groups
 

@@ -4,7 +4,6 @@ pub mod Tokens
 pub mod Events
 pub mod Listings
 pub mod Words
-pub mod Effective
 pub mod Printed
 pub mod Diff
 pub mod DiffTold

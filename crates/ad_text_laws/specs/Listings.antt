@@ -154,11 +154,10 @@ lines_at schema dn sd =
     ∷ (dacl sd.dacl.protected ∷ entries_at schema sd.dacl.entries)
     ++ sacl sd.sacl.protected ∷ entries_at schema sd.sacl.entries
 
--- The name, the identifiers and the words of the entries have their form: so it is where each name of the schema that
--- represents a type is a word.
-pub record IsListed (schema : List SchemaRecord) (dn : Dn) (sd : Sd) : Type 0 where
+-- The name and the identifiers have their form.
+pub record IsListed (dn : Dn) (sd : Sd) : Type 0 where
   pub name : AreRdns dn.rdns
   pub owner : IsSid sd.owner
   pub group : IsSid sd.group
-  pub dacl : AllByRecursion (λ e. IsEntryWords (words_at schema e)) sd.dacl.entries
-  pub sacl : AllByRecursion (λ e. IsEntryWords (words_at schema e)) sd.sacl.entries
+  pub dacl : AllByRecursion (λ (e : Entry). IsSid e.sid) sd.dacl.entries
+  pub sacl : AllByRecursion (λ (e : Entry). IsSid e.sid) sd.sacl.entries

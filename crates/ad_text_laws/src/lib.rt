@@ -15,9 +15,8 @@
 //! # Proved
 //!
 //! The lines of `token`, `who`, `can`, `list`, `audit` and `diff` give back the facts that they were written of, in their
-//! order; `effective` is of lines of words, and these give back their words. Of `list` and `effective` this holds where
-//! the names of the schema that stand in them are words, and of `diff` where they have no line end: those of attributes
-//! and classes are words, the `cn` of a right may be any bytes.
+//! order; `effective` is of lines of words, and these give back their words. The names of a schema are words there: those
+//! of attributes and classes always are, and a right whose `cn` is none is told by its GUID.
 //!
 //! # The caller owes
 //!

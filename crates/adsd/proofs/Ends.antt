@@ -1,7 +1,7 @@
 -- How a command ends that the words ask for, and what its status says then.
 use Rattle.std.proofs.Common.{◌≡◌, ◌∙◌, ℕ, true, false, List, [], ◌∷◌, Option, Some, None, inl, inr, refl, sym, ap}
 use Rattle.std.proofs.Common.{subst, arith}
-use Rattle.std.specs.Prelude.{◌↔◌, ◌⊎◌}
+use Rattle.std.specs.Prelude.{◌↔◌, ◌⊎◌, ◌^◌, ◌-◌, is_some, if◌then◌else◌}
 use Rattle.site_io.specs.Counts.{HasRisen}
 use Rattle.site_io.specs.declared.source.Source.{Ghosts as SourceGhosts}
 use Rattle.site_io.specs.declared.site.Site.{Ghosts as SiteGhosts}
@@ -15,8 +15,9 @@ use Rattle.cmd_words.specs.declared.command.Command.{Command}
 use Rattle.cmd_words.specs.Command.{CommandValue, value_of}
 use Rattle.cmd_words.specs.Command.CommandValue.{Access, Sddl, Change, Load, Serve, Settle, Check, Audit, Grants}
 use Rattle.cmd_words.specs.Command.CommandValue.{Listing, Effective, Token, Who, Can, Diff, Sample}
-use Rattle.cmd_words.specs.Table.{has_store, may_end, is_among}
+use Rattle.cmd_words.specs.Table.{has_store, may_end, is_among, other_store_of}
 use Rattle.adsd.specs.Commands.{Rules, CommandDoes, Does}
+use Rattle.adsd.specs.NoSite.{no_site, over_one}
 
 -- ---- one status comes of one outcome
 
@@ -224,6 +225,14 @@ module _ {I S T : Type 0} (source : SourceGhosts I) (site : SiteGhosts S) (other
     slots = λ lacks. let kept = did.slots lacks in (kept.0, λ five. kept.1 (five_is outcome five));
   }
 
+  pub asked_so : (asked other_asked : Option CommandValue) (from to : I) (old new : S) (before after : T)
+      (status other_status : ℕ) → asked ≡ other_asked → other_status ≡ status
+      → Promises asked from to old new before after status
+      → Promises other_asked from to old new before after other_status
+  asked_so asked other_asked from to old new before after status other_status is same promises =
+      subst (λ (n : ℕ). Promises other_asked from to old new before after n) (sym same)
+      (subst (λ (a : Option CommandValue). Promises a from to old new before after status) is promises)
+
   pub of_none : (from : I) (old : S) (before : T)
       → Promises None from from old old before before (status_of NoCommand)
   of_none from old before = record {
@@ -234,3 +243,76 @@ module _ {I S T : Type 0} (source : SourceGhosts I) (site : SiteGhosts S) (other
     site_failed = λ five. absurd (omega (arith, five));
     slots = λ lacks. (refl, λ five. absurd (omega (arith, five)));
   }
+
+  -- ---- one store at most
+
+  -- A command with one store at most does nothing to the second site, and so the same where there is none.
+  alone : (command : CommandValue) (from to : I) (old new : S) (before after : T) (outcome : Outcome)
+      → other_store_of command ≡ None → Rules source site other command from to old new before after outcome
+      → Rules source site no_site command from to old new tt tt outcome × (after ≡ before)
+  alone Access from to old new before after outcome one r = ((r.0, refl), r.1)
+  alone Sddl from to old new before after outcome one r = ((r.0, refl), r.1)
+  alone Change from to old new before after outcome one r = ((r.0, refl), r.1)
+  alone (Load store) from to old new before after outcome one r = ((r.0, refl), r.1)
+  alone (Serve store) from to old new before after outcome one r = ((r.0, refl), r.1)
+  alone (Settle store) from to old new before after outcome one r = ((r.0, r.1, refl), r.2)
+  alone (Check store) from to old new before after outcome one r = ((r.0, r.1, refl), r.2)
+  alone (Audit store) from to old new before after outcome one r = ((r.0, refl), r.1)
+  alone (Grants store) from to old new before after outcome one r = ((r.0, refl), r.1)
+  alone (Listing store name) from to old new before after outcome one r = ((r.0, r.1, refl), r.2)
+  alone (Effective store name) from to old new before after outcome one r = ((r.0, refl), r.1)
+  alone (Token store name sids) from to old new before after outcome one r = ((r.0, r.1, refl), r.2)
+  alone (Who store right name) from to old new before after outcome one r = ((r.0, r.1, refl), r.2)
+  alone (Can store name right base) from to old new before after outcome one r = ((r.0, r.1, refl), r.2)
+  alone (Diff store second) from to old new before after outcome one r = absurd (cc)
+  alone (Sample store size) from to old new before after outcome one r = ((r.0, r.1, refl), r.2)
+
+  -- a count that stands at 0 and stays as it is hasn't risen
+  never_risen : (before after : T) → after ≡ before → other.slot_faults before ≡ 0
+      → HasRisen (other.slot_faults before) (other.slot_faults after) → ⊥
+  never_risen before after same none (inl less) =
+      let still : other.slot_faults after ≡ other.slot_faults before = ap other.slot_faults same in omega (arith, less, still)
+  never_risen before after same none (inr end) =
+      let still : other.slot_faults after ≡ other.slot_faults before = ap other.slot_faults same in
+      let zero : 0 ≡ 2 ^ 64 - 1 = sym (still ∙ none) ∙ end in omega (arith, zero)
+
+  own_fault : (old new : S) (before after : T) → after ≡ before → other.slot_faults before ≡ 0
+      → HasFailed site old new ⊎ HasRisen (other.slot_faults before) (other.slot_faults after) → HasFailed site old new
+  own_fault old new before after same none (inl own) = own
+  own_fault old new before after same none (inr risen) = absurd (never_risen before after same none risen)
+
+  -- what it did, as there is no second site
+  pub by_itself : (command : CommandValue) (from to : I) (old new : S) (before after : T) (outcome : Outcome)
+      → other_store_of command ≡ None → other.slot_faults before ≡ 0
+      → CommandDoes source site other command from to old new before after outcome
+      → CommandDoes source site no_site command from to old new tt tt outcome
+  by_itself command from to old new before after outcome one none did =
+      let own = alone command from to old new before after outcome one did.rules in
+      record {
+        rules = own.0;
+        status = did.status;
+        source_failed = did.source_failed;
+        site_failed = λ failed. inl (own_fault old new before after own.1 none (did.site_failed failed));
+        slots = did.slots;
+      }
+
+-- words that name one store at most ask for the same without a second site
+pub one_is : (asked : Option CommandValue) (command : CommandValue) → Some command ≡ asked
+    → None ≡ other_store_of command → Some command ≡ over_one asked
+one_is asked command is one =
+    subst (λ (a : Option CommandValue). Some command ≡ over_one a) is
+    (subst (λ (other : Option (List ℕ)). Some command ≡ (if is_some other then None else Some command)) one refl)
+
+-- those that name two ask for nothing
+pub two_are : (asked : Option CommandValue) (command : CommandValue) (second : List ℕ) → Some command ≡ asked
+    → Some second ≡ other_store_of command → None ≡ over_one asked
+two_are asked command second is two =
+    subst (λ (a : Option CommandValue). None ≡ over_one a) is
+    (subst (λ (other : Option (List ℕ)). None ≡ (if is_some other then None else Some command)) two refl)
+
+-- no count rises where there is no site
+pub own_alone : {S : Type 0} (site : SiteGhosts S) (old new : S) → HasFailed site old new ⊎ HasRisen 0 0
+    → HasFailed site old new
+own_alone site old new (inl own) = own
+own_alone site old new (inr (inl less)) = absurd (omega (arith, less))
+own_alone site old new (inr (inr end)) = absurd (omega (arith, end))

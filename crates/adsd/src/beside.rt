@@ -11,7 +11,7 @@ ghost use Rattle.cmd_words.specs.Forms.{command_of};
 ghost use Rattle.cmd_words.specs.Table.{has_store};
 ghost use Rattle.adsd.specs.Commands.{Does};
 
-use crate::run::run;
+use crate::command::run_command;
 use cmd_call::Outcome;
 use cmd_words::command_of;
 use site_io::{Site, Source};
@@ -21,7 +21,7 @@ use std::alloc::Global;
 ///
 /// The words are those after the program's name, and are one of sixteen forms ([`command_of`]). STORE is any text that
 /// isn't empty, and its slots are those of the site; those of a second store are those of the other site. What each
-/// command does says [`run`].
+/// command does says [`run_command`].
 ///
 /// The statuses are 0 where the command was done and its input read to the end, 1 where the input isn't of the
 /// command's form, 2 where the words aren't one of the forms, 3 where the slots represent no directory, or for `load`
@@ -55,7 +55,7 @@ pub fn run_beside<I: Source, S: Site, T: Site>(
         (S.out_faults site.new)) }
 {
     match command_of(words) {
-        Some(command) => run(alloc, &command, source, site, other).status(),
+        Some(command) => run_command(alloc, &command, source, site, other).status(),
         None => Outcome::NoCommand.status(),
     }
 }

@@ -3,7 +3,7 @@
 //! # Example
 //!
 //! ```text
-//! let status = beside::run_beside(alloc, &words, &mut source, &mut site, &mut other);
+//! let status = run::run(alloc, &words, &mut source, &mut site);
 //! ```
 //!
 //! # Proved
@@ -22,6 +22,7 @@
 #![tactic(auto)]
 
 mod beside;
+mod command;
 mod lines;
 mod looks;
 mod nearest;
@@ -142,8 +143,7 @@ fn run_over(
     let of_lines = reads_lines(command);
     let most = if of_lines { LINES_BYTES } else { FIRST_BYTES };
     let mut source = Noted::new(rt.alloc(), StdSource::new(rt.stdin()), most);
-    let mut none = OutSite::new(rt.stdout());
-    let status = beside::run_beside(rt.alloc(), words, &mut source, &mut site, &mut none);
+    let status = run::run(rt.alloc(), words, &mut source, &mut site);
     let makes_store = opening == Opening::Makes;
     if makes_store && is_cut_short(status, site.fault()) {
         let _ = site.remove_made();
@@ -197,8 +197,7 @@ fn run_over_both(
 fn run_plain(rt: &HostRuntime, streams: &Streams, words: &[String]) -> u8 {
     let mut source = StdSource::new(rt.stdin());
     let mut site = OutSite::new(rt.stdout());
-    let mut none = OutSite::new(rt.stdout());
-    let status = beside::run_beside(rt.alloc(), words, &mut source, &mut site, &mut none);
+    let status = run::run(rt.alloc(), words, &mut source, &mut site);
     match status {
         NO_FORM => reason::tell_words(rt, words),
         NO_INPUT => reason::tell_input(rt, streams, source.cause()),

@@ -21,8 +21,8 @@ use Rattle.cmd_audit.specs.State.{State, behind}
 use Rattle.cmd_audit.specs.Tries.{message_looks}
 
 -- The engine stands over slots of which nothing is told, unless an earlier call on it failed.
-abbrev pub StandsUnkept : DirStore → Type 0
-StandsUnkept engine = StandsIn engine None 0 (λ _ _ _. ⊥)
+abbrev pub StandsOverNull : DirStore → Type 0
+StandsOverNull engine = StandsIn engine None 0 (λ _ _ _. ⊥)
 
 -- the frame is a message that only looks
 abbrev pub body_looks : FrameBody → Bool

@@ -5,7 +5,7 @@ ghost use Rattle.site_io.specs.Counts.{HasRisen};
 ghost use Rattle.cmd_call.specs.Store.{HasFailed};
 ghost use Rattle.cmd_call.specs.declared.outcome.Outcome.TheVariants.{SourceFailed, SiteFailed};
 ghost use Rattle.cmd_audit.specs.Audit.{AuditDoes};
-ghost use Rattle.cmd_audit.specs.Steps.{StandsUnkept, TellsText, TellsFrame, IsAuditedSince};
+ghost use Rattle.cmd_audit.specs.Steps.{StandsOverNull, TellsText, TellsFrame, IsAuditedSince};
 
 use crate::frames::next_lines;
 use crate::replay::Replay;
@@ -77,7 +77,7 @@ fn audit_opened<I: Source, S: Site>(
     site: &mut S,
     engine: Engine,
 ) -> Outcome
-    requires stands { StandsUnkept engine }
+    requires stands { StandsOverNull engine }
     requires tokens { engine.tokens ≡ [] }
     ensures { IsAuditedSince I.Source S.Site engine.dir source.old source.new site.old site.new
         result }

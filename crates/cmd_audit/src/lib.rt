@@ -29,8 +29,9 @@ mod events;
 mod frames;
 mod laws;
 mod messages;
+mod null_site;
 mod replay;
-mod unkept;
 
 pub use auditing::audit;
 pub use laws::{each_frame_is_judged_before_it_is_served, what_asks_for_nothing_audits_nothing};
+pub use null_site::NullSite;

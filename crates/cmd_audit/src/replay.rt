@@ -3,9 +3,9 @@
 ghost use Rattle.std.specs.Prelude.{◌≡◌, OnOk};
 ghost use Rattle.ad_engine_store.specs.Tokens.{token_of};
 ghost use Rattle.cmd_audit.specs.State.{behind};
-ghost use Rattle.cmd_audit.specs.Steps.{StandsUnkept};
+ghost use Rattle.cmd_audit.specs.Steps.{StandsOverNull};
 
-use crate::unkept::Unkept;
+use crate::null_site::NullSite;
 use ad_dir::Dir;
 use ad_engine::Engine;
 use ad_frames::Frame;
@@ -16,7 +16,7 @@ use std::marker::Model;
 /// An engine over slots that keep nothing. Contracts see the directory and the tokens.
 pub(crate) struct Replay {
     engine: Engine,
-    site: Unkept,
+    site: NullSite,
 }
 
 // Written out, so that where it is dropped a proof has a single step.
@@ -29,25 +29,25 @@ impl Drop for Replay {
 
 impl Model for Replay {
     ghost use Rattle.cmd_audit.specs.State.{State};
-    ghost use Rattle.cmd_audit.specs.Steps.{StandsUnkept};
+    ghost use Rattle.cmd_audit.specs.Steps.{StandsOverNull};
 
     ghost Value = { State };
 
     ghost view = { λ replay. record
         { directory = replay.engine.dir; tokens = replay.engine.tokens } };
 
-    ghost invariant = { λ replay. StandsUnkept replay.engine };
+    ghost invariant = { λ replay. StandsOverNull replay.engine };
 }
 
 impl Replay {
     /// From the directory and the tokens of this engine on. What was kept stays as it is.
     pub fn new(engine: Engine) -> Replay
-        requires { StandsUnkept engine }
+        requires { StandsOverNull engine }
         ensures { result ≡ record { directory = engine.dir; tokens = engine.tokens } }
     {
         Replay {
             engine,
-            site: Unkept::new(),
+            site: NullSite::new(),
         }
     }
 

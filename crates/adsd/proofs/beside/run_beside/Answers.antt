@@ -13,13 +13,13 @@ returns-in-Some g c =
     let words = map string_bytes c.args.words.now in
     let is : Some (value_of c.in-Some.command) ≡ command_of words =
     sym (ap (option_map value_of) c.in-Some.is) ∙ c.command_of.ensures.command in
-    let did = of_command g.I.Source g.S.Site g.T.Site (value_of c.in-Some.command) c.args.source.now c.run.new.source
-    c.args.site.now c.run.new.site c.args.other.now c.run.new.other c.run.result c.run.ensures in
+    let did = of_command g.I.Source g.S.Site g.T.Site (value_of c.in-Some.command) c.args.source.now c.run_command.new.source
+    c.args.site.now c.run_command.new.site c.args.other.now c.run_command.new.other c.run_command.result c.run_command.ensures in
     let asked = subst (λ (asked : Option CommandValue). Promises g.I.Source g.S.Site g.T.Site asked c.args.source.now
-    c.run.new.source c.args.site.now c.run.new.site c.args.other.now c.run.new.other (status_of c.run.result))
+    c.run_command.new.source c.args.site.now c.run_command.new.site c.args.other.now c.run_command.new.other (status_of c.run_command.result))
     is did in
     let p = subst (λ (status : ℕ). Promises g.I.Source g.S.Site g.T.Site (command_of words)
-    c.args.source.now c.run.new.source c.args.site.now c.run.new.site c.args.other.now c.run.new.other status)
+    c.args.source.now c.run_command.new.source c.args.site.now c.run_command.new.site c.args.other.now c.run_command.new.other status)
     (sym c.status.ensures) asked in
     record {
       words = p.words;

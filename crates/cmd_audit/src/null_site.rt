@@ -9,20 +9,20 @@ const LONGEST: u64 = 1 << 63;
 /// A site whose slots and output keep nothing, and whose content isn't observable: what an engine stands over that
 /// makes changes in memory alone. A write that would end past 2^63 fails, and no other call does.
 #[derive(Drop)]
-pub(crate) struct Unkept {
+pub struct NullSite {
     slot_faults: u64,
 }
 
-impl Unkept {
+impl NullSite {
     /// The site, with no fault.
-    pub fn new() -> Unkept
+    pub fn new() -> NullSite
         ensures { result.slot_faults ≡ 0 }
     {
-        Unkept { slot_faults: 0 }
+        NullSite { slot_faults: 0 }
     }
 }
 
-impl Site for Unkept {
+impl Site for NullSite {
     ghost reads = { λ _. None };
 
     ghost emitted = { λ _. None };
