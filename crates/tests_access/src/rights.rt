@@ -1,5 +1,7 @@
 //! Who of many is granted a right: the set of three tokens, where there is memory.
 
+ghost use Rattle.std.specs.Prelude.{◌<◌};
+
 use ad_acl::{Ace, AceKind, Aces};
 use ad_ids::{Sid, Sids, Token};
 use ad_rights::{Holding, granted_set, names_self};
@@ -10,6 +12,7 @@ use std::test::*;
 
 // To write properties, and to write the DACL.
 const WRITE: u32 = 5;
+
 const WRITE_DAC: u32 = 18;
 
 fn entry(kind: AceKind, sid: Sid) -> Ace {
@@ -80,7 +83,9 @@ fn is_set(
     self_sid: Option<&Sid>,
     bit: u32,
     wanted: &[bool],
-) {
+)
+    requires { bit < 20 }
+{
     let set = granted_set(rt.alloc(), &kept.view(), holding, self_sid, &[], bit);
     let set = set.expect(rt, "memory");
     assert!(rt; set.as_slice() == wanted);
@@ -96,7 +101,21 @@ fn a_set_is_decided_by_the_first_entry_and_the_owner(rt: HostRuntime) {
     assert!(&rt; holding.count() == 3);
     assert!(&rt; names_self(&kept.view()));
     is_set(&rt, &kept, &holding, None, WRITE, &[true, false, false]);
-    is_set(&rt, &kept, &holding, Some(&owner), WRITE, &[true, false, true]);
-    is_set(&rt, &kept, &holding, Some(&denied), WRITE, &[true, false, false]);
+    is_set(
+        &rt,
+        &kept,
+        &holding,
+        Some(&owner),
+        WRITE,
+        &[true, false, true],
+    );
+    is_set(
+        &rt,
+        &kept,
+        &holding,
+        Some(&denied),
+        WRITE,
+        &[true, false, false],
+    );
     is_set(&rt, &kept, &holding, None, WRITE_DAC, &[false, false, true]);
 }
