@@ -37,7 +37,7 @@ use Rattle.ad_needs_rules.proofs.FirstFailing.{head_passes, head_fails, all_pass
 use Rattle.ad_needs_rules.specs.Requests.{class_at}
 use Rattle.ad_needs_rules.specs.Descriptors.{is_owner_allowed}
 use Rattle.ad_change_values.specs.Values.{all_stored}
-use Rattle.ad_change.specs.Tree.{depth_of, is_light_with}
+use Rattle.ad_change.specs.Tree.{depth_of, fits_weight_limit}
 use Rattle.ad_change_values.specs.Items.{with_these}
 use Rattle.ad_change.specs.Adding.{held_before, all_held, attr_checks, has_musts, new_object, fits_in, add_later}
 use Rattle.ad_change.specs.Creating.{all_read, all_before, sent_checks, IsNewObject}
@@ -243,7 +243,7 @@ counted_made dir meta gets number rid suffix (Some s) is next more same some =
 pub fits_is : (dir : Directory) (o : Object) (object : ObjectIn) (gets few shallow light counted all : Bool)
     → IsNewObject dir o object gets
     → few ≡ nat_lt (length dir.objects) max_objects → shallow ≡ nat_lt (depth_of (parents dir) object.parent) max_depth
-    → ((sd : Sd) → light ≡ is_light_with dir (object_seen object sd))
+    → ((sd : Sd) → light ≡ fits_weight_limit dir (object_seen object sd))
     → counted ≡ (nat_lt dir.meta.next_number max_counter && (not gets || nat_lt dir.meta.next_rid max_counter))
     → all ≡ (few && (shallow && (light && counted))) → all ≡ fits_in dir o
 unfolding fits_in
@@ -253,8 +253,8 @@ fits_is dir o object gets few shallow light counted all new f s l c a =
     (s ∙ ap (λ (x : Object). nat_lt (depth_of (parents dir) x.parent) max_depth) new.seen)
     ∙ ap (λ (b : Bool). nat_lt (length dir.objects) max_objects
     && (nat_lt (depth_of (parents dir) o.parent) max_depth && (b && counted)))
-    (l o.sd ∙ ap (is_light_with dir) new.seen)
+    (l o.sd ∙ ap (fits_weight_limit dir) new.seen)
     ∙ ap (λ (b : Bool). nat_lt (length dir.objects) max_objects
-    && (nat_lt (depth_of (parents dir) o.parent) max_depth && (is_light_with dir (numbered dir o) && b)))
+    && (nat_lt (depth_of (parents dir) o.parent) max_depth && (fits_weight_limit dir (numbered dir o) && b)))
     (c ∙ ap (λ (b : Bool). nat_lt dir.meta.next_number max_counter && b)
     (counts_sid (new_sid dir o.class) gets (nat_lt dir.meta.next_rid max_counter) new.gets))

@@ -2,12 +2,11 @@
 use Rattle.std.proofs.Common.{◌≡◌, ℕ, ◌<◌, ◌≤◌, true, List, [], ◌∷◌, ◌++◌, map, Option, None, refl, sym, subst, ap}
 use Rattle.std.proofs.Common.{◌∙◌, arith}
 use Rattle.std.specs.List.{AllByRecursion, flat_map}
-use Rattle.std.specs.Prelude.{is_some, length, Bool, Some, IfSome}
+use Rattle.std.specs.Prelude.{is_some, Bool, Some, IfSome}
 use Rattle.std.proofs.lemmas.Bool.{false≢true}
 use Rattle.ad_ids.specs.SidValue.{SidValue}
 use Rattle.ad_ids.specs.declared.guid.Guid.{Guid}
 use Rattle.ad_schema.specs.declared.line.SchemaRecord.{SchemaRecord}
-use Rattle.ad_schema.specs.Attributes.{attrs_of}
 use Rattle.std.specs.Global.{Vec}
 use Rattle.ad_ids.specs.declared.token.Token.{Token}
 use Rattle.ad_sd.specs.declared.parts.Sd.{Sd}
@@ -50,10 +49,11 @@ use Rattle.ad_change.specs.Adding.{new_object, attr_checks, add_later}
 use Rattle.ad_change.specs.Creating.{IsNewObject, new_whole}
 use Rattle.ad_change.specs.Plans.{AreEditsOf}
 use Rattle.ad_change.proofs.Needed.{added_differs}
-use Rattle.ad_change.proofs.AddSound.{IsPlainAttr, room_of, add_is_sound}
+use Rattle.ad_change.proofs.AddSound.{room_of, add_is_sound}
 use Rattle.ad_change.proofs.Contents.{ReadsBack}
 use Rattle.ad_change.proofs.NewSid.{SidsRead, HasDomain}
-use Rattle.ad_change.proofs.ResolvedValues.{HasByteAttr, IsAddition}
+use Rattle.ad_change.specs.Creating.{HasByteAttr}
+use Rattle.ad_change.proofs.ResolvedValues.{IsAddition}
 
 -- ---- where the new directory is sound
 
@@ -189,11 +189,6 @@ whole_made dir token parent class sd given above default guid schema domain a g 
     ∙ ap (λ (x : Guid). whole (sd_at dir.objects parent)
     (chosen sd (default_of dir.schema (self_sid dir root) class) token.owner token.primary) x)
     (c ∙ ap (λ (x : List SchemaRecord). guid_at x class) s)
-
-pub attrs_within : (dir : Directory) (values : List (AttrId × List (List ℕ))) → AllByRecursion (IsPlainAttr dir) values
-    → AllByRecursion (λ (attr : AttrId × List (List ℕ)). attr.0.0 < length (attrs_of dir.schema)) values
-attrs_within dir [] are = tt
-attrs_within dir (attr ∷ values) are = (are.0.within, attrs_within dir values are.1)
 
 -- what the limits say of the counters
 pub counters_fit : (dir : Directory) (token : Token) (parent class : ℕ) (name : List ℕ)

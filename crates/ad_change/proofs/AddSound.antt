@@ -55,7 +55,7 @@ use Rattle.ad_needs_rules.specs.Adding.{all_ordinary, is_kept_back, own_checks, 
 use Rattle.ad_needs_rules.proofs.FirstFailing.{head_holds, both_hold, each_holds}
 use Rattle.ad_needs_rules.proofs.Named.{live_or}
 use Rattle.ad_change_values.specs.Values.{all_stored}
-use Rattle.ad_change.specs.Tree.{depth_within, depth_of, is_light_with}
+use Rattle.ad_change.specs.Tree.{depth_within, depth_of, fits_weight_limit}
 use Rattle.ad_change.specs.Adding.{held_before, all_held, new_object, attr_checks, fits_in, add_later, add_made}
 use Rattle.ad_change.proofs.DepthLaws.{depth_chain}
 use Rattle.ad_change.proofs.Contents.{ReadsBack, IsGood, AreGood, all_of_filter_map, all_stored_good, held_each}
@@ -144,7 +144,7 @@ pub record Room (dir : Directory) (o : Object) : Type 0 where
   pub rid : IfSome (new_sid dir o.class) (λ x. dir.meta.next_rid < max_counter)
 
 pub room_of : (dir : Directory) (o : Object) → fits_in dir o ≡ true → Room dir o
-unfolding fits_in is_light_with
+unfolding fits_in fits_weight_limit
 room_of dir o fits =
     let one = and_parts (nat_lt (length dir.objects) max_objects) _ fits in
     let two = and_parts (nat_lt (depth_of (parents dir) o.parent) max_depth) _ one.1 in

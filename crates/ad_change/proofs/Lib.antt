@@ -13,6 +13,7 @@ pub mod DeleteSound
 pub mod RenameSound
 pub mod RenameMay
 pub mod Contents
+pub mod Lower
 pub mod ModifySound
 pub mod NewSid
 pub mod AddSound

@@ -12,7 +12,7 @@ use Rattle.ad_needs_rules.specs.Checks.{Refusal, Check, code, or_code, first_fai
 use Rattle.ad_needs_rules.specs.Descriptors.{is_owner_allowed}
 use Rattle.ad_needs_rules.proofs.FirstFailing.{head_passes, head_fails, all_pass, one_fails}
 use Rattle.ad_change_values.specs.Values.{all_attrs}
-use Rattle.ad_change.specs.Tree.{is_light_with}
+use Rattle.ad_change.specs.Tree.{fits_weight_limit}
 use Rattle.ad_change_values.specs.Items.{after_items, all_item_checks, final_checks, is_item_named}
 use Rattle.ad_change.specs.Modifying.{modified_object, modify_later}
 use Rattle.ad_change_values.specs.Judging.{value_checks}
@@ -21,7 +21,7 @@ abbrev values_of : Directory → ℕ → List ActItem → List Check
 values_of dir number items = let o : Object = object_at dir.objects number in value_checks dir o.class o.values items
 
 abbrev weight_of : Directory → ℕ → List ActItem → List Check
-weight_of dir number items = or_code (is_light_with dir (modified_object dir number items)) 11 ∷ []
+weight_of dir number items = or_code (fits_weight_limit dir (modified_object dir number items)) 11 ∷ []
 
 -- the checks, with those of values as one list
 later_is : (dir : Directory) (token : Token) (number : ℕ) (items : List ActItem) (sd : Option SdParts)
@@ -65,19 +65,19 @@ values_stop dir token number items sd r owner is =
 
 pub weight_stops : (dir : Directory) (token : Token) (number : ℕ) (items : List ActItem) (sd : Option SdParts)
     → is_owner_allowed token sd ≡ true → first_failing (values_of dir number items) ≡ None
-    → is_light_with dir (modified_object dir number items) ≡ false
+    → fits_weight_limit dir (modified_object dir number items) ≡ false
     → first_failing (modify_later dir token number items sd) ≡ Some (code 11)
 weight_stops dir token number items sd owner none heavy =
     behind_owner dir token number items sd owner ∙ all_pass (values_of dir number items) (weight_of dir number items)
     none
-    ∙ head_fails (or_code (is_light_with dir (modified_object dir number items)) 11) [] heavy
+    ∙ head_fails (or_code (fits_weight_limit dir (modified_object dir number items)) 11) [] heavy
 
 pub all_hold : (dir : Directory) (token : Token) (number : ℕ) (items : List ActItem) (sd : Option SdParts)
     → is_owner_allowed token sd ≡ true → first_failing (values_of dir number items) ≡ None
-    → is_light_with dir (modified_object dir number items) ≡ true
+    → fits_weight_limit dir (modified_object dir number items) ≡ true
     → first_failing (modify_later dir token number items sd) ≡ None
 unfolding first_failing
 all_hold dir token number items sd owner none light =
     behind_owner dir token number items sd owner ∙ all_pass (values_of dir number items) (weight_of dir number items)
     none
-    ∙ head_passes (or_code (is_light_with dir (modified_object dir number items)) 11) [] light
+    ∙ head_passes (or_code (fits_weight_limit dir (modified_object dir number items)) 11) [] light

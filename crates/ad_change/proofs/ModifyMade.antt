@@ -19,7 +19,7 @@ use Rattle.ad_dir_model.proofs.ScratchLaws.{sound_at, below_at}
 use Rattle.ad_dir_model.proofs.EditLaws.{changed_edited, written_edited}
 use Rattle.ad_needs_rules.specs.Checks.{first_failing}
 use Rattle.ad_needs_rules.proofs.FirstFailing.{head_holds, both_hold}
-use Rattle.ad_change.specs.Tree.{is_light_with}
+use Rattle.ad_change.specs.Tree.{fits_weight_limit}
 use Rattle.ad_change_values.specs.Items.{after_items, all_item_checks, final_checks}
 use Rattle.ad_change.specs.Modifying.{with_parts, modified_object, modify_later, modify_made}
 use Rattle.ad_change.specs.Effects.{later_checks, made}
@@ -36,7 +36,7 @@ pub record IsModified (dir : Directory) (number : ℕ) (items : List ActItem) : 
   pub sound : IsSound dir
   pub live : is_live dir.objects number ≡ true
   pub plain : AllByRecursion (IsPlainItem dir) items
-  pub light : is_light_with dir (modified_object dir number items) ≡ true
+  pub light : fits_weight_limit dir (modified_object dir number items) ≡ true
 
 may_stand : (dir : Directory) (number : ℕ) (items : List ActItem) (sd : Sd) → IsModified dir number items
     → MayStand dir (with_all (object_at dir.objects number)
@@ -67,7 +67,7 @@ all_made dir number items (Some parts) =
 -- the last check is that of the weight
 light_then : (dir : Directory) (token : Token) (number : ℕ) (items : List ActItem) (sd : Option SdParts)
     → first_failing (modify_later dir token number items sd) ≡ None
-    → is_light_with dir (modified_object dir number items) ≡ true
+    → fits_weight_limit dir (modified_object dir number items) ≡ true
 unfolding modify_later
 light_then dir token number items sd none =
     let o : Object = object_at dir.objects number in

@@ -41,7 +41,7 @@ use Rattle.ad_needs_rules.specs.Modifying.{modify_checks}
 use Rattle.ad_needs_rules.proofs.FirstFailing.{head_holds, both_hold, each_holds}
 use Rattle.ad_needs_rules.proofs.Named.{named_live}
 use Rattle.ad_change_values.specs.Values.{all_stored, is_among}
-use Rattle.ad_change.specs.Tree.{is_light_with}
+use Rattle.ad_change.specs.Tree.{fits_weight_limit}
 use Rattle.ad_change_values.specs.Items.{taken_from, values_after, without, with_these, after_item, after_items}
 use Rattle.ad_change_values.specs.Items.{all_item_checks, final_checks}
 use Rattle.ad_change_values.proofs.HeldLaws.{rise_without}
@@ -165,10 +165,10 @@ sid_after dir o items sd are = by_attr (object_sid dir.schema) refl
 
 pub may_replace : ReadsBack → (dir : Directory) (number : ℕ) (items : List ActItem) (sd : Sd) → IsSound dir
     → is_live dir.objects number ≡ true → AllByRecursion (IsPlainItem dir) items
-    → is_light_with dir (modified_object dir number items) ≡ true
+    → fits_weight_limit dir (modified_object dir number items) ≡ true
     → MayReplace dir (with_all (object_at dir.objects number)
     (after_items dir (object_at dir.objects number).values items) sd)
-unfolding is_light_with
+unfolding fits_weight_limit
 may_replace back dir number items sd sound live are light = record {
   live = subst (λ (k : ℕ). is_live dir.objects k ≡ true) (sym is) live;
   fits = record {
@@ -222,7 +222,7 @@ modify_is_sound back dir token number items sd sound live are none =
     at : object_at dir.objects number ≡ object_at dir.objects (object_at dir.objects number).number
     at = ap (object_at dir.objects) (sym (at_number dir.objects number live))
 
-    by_sd : (parts : Option SdParts) → is_light_with dir (modified_object dir number items) ≡ true
+    by_sd : (parts : Option SdParts) → fits_weight_limit dir (modified_object dir number items) ≡ true
         → IsSound (modify_made dir number items parts)
     by_sd None light = changed_sound dir (modified_object dir number items) sound
         (may_replace back dir number items (object_at dir.objects number).sd sound live are light)

@@ -14,7 +14,7 @@ use Rattle.ad_dir_model.specs.Directory.{Directory}
 use Rattle.ad_dir_model.specs.Weight.{object_weight, objects_weight, weight}
 use Rattle.ad_dir_model.specs.Soundness.{IsSound}
 use Rattle.ad_dir_objects.specs.Left.{left_of}
-use Rattle.ad_change.specs.Tree.{is_light_with}
+use Rattle.ad_change.specs.Tree.{fits_weight_limit}
 use Rattle.ad_change.specs.Others.{other_weight, others_weight}
 
 -- ---- from a number on
@@ -208,8 +208,8 @@ left_within weight left is = let left_after = left_is 268435456 weight left is i
 
 pub light_by : (dir : Directory) (o : Object) (left : ℕ) → IsSound dir
     → left_of 268435456 (object_weight dir.schema o) ≡ Some left
-    → nat_le (others_weight dir.schema o.number dir.objects) left ≡ is_light_with dir o
-unfolding is_light_with weight max_weight
+    → nat_le (others_weight dir.schema o.number dir.objects) left ≡ fits_weight_limit dir o
+unfolding fits_weight_limit weight max_weight
 light_by dir o left sound is =
     let parts = put_apart dir.schema 0 o dir.objects sound.rise in
     let left_after = left_is 268435456 (object_weight dir.schema o) left is in
@@ -227,8 +227,8 @@ light_by dir o left sound is =
     ]
 
 pub heavy_by : (dir : Directory) (o : Object) → IsSound dir → left_of 268435456 (object_weight dir.schema o) ≡ None
-    → false ≡ is_light_with dir o
-unfolding is_light_with weight max_weight
+    → false ≡ fits_weight_limit dir o
+unfolding fits_weight_limit weight max_weight
 heavy_by dir o sound is =
     let parts = put_apart dir.schema 0 o dir.objects sound.rise in
     let more = no_left 268435456 (object_weight dir.schema o) is in

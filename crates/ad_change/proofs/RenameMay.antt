@@ -23,7 +23,7 @@ use Rattle.ad_change.specs.Effects.{later_checks, made}
 use Rattle.ad_change.specs.Judging.{AreNeeded}
 use Rattle.ad_change.specs.Plans.{AreEditsOf}
 use Rattle.ad_change.specs.Renaming.{rename_later}
-use Rattle.ad_change.specs.Tree.{is_shallow_with, is_light_with}
+use Rattle.ad_change.specs.Tree.{is_shallow_with, fits_weight_limit}
 use Rattle.ad_change.proofs.Needed.{needed_may}
 use Rattle.ad_change.proofs.Applicable.{keeps_place, moves, change_may, write_may}
 use Rattle.ad_change.proofs.RenameSound.{may_replace, may_move}
@@ -58,7 +58,7 @@ rename_may dir target parent name sound is none =
         let second = head_holds _ _ first.1 in
         let third = head_holds _ _ second.1 in
         let fits = and_parts (is_shallow_with dir (renamed_object (object_at dir.objects target) parent name))
-        (is_light_with dir (renamed_object (object_at dir.objects target) parent name)) third.0 in
+        (fits_weight_limit dir (renamed_object (object_at dir.objects target) parent name)) third.0 in
         may_replace dir target parent name sound is.live is.value second.0 fits.1
 
     shallow : is_shallow_with dir (renamed_object (object_at dir.objects target) parent name) ≡ true
@@ -67,7 +67,7 @@ rename_may dir target parent name sound is none =
         let second = head_holds _ _ first.1 in
         let third = head_holds _ _ second.1 in
         (and_parts (is_shallow_with dir (renamed_object (object_at dir.objects target) parent name))
-        (is_light_with dir (renamed_object (object_at dir.objects target) parent name)) third.0).0
+        (fits_weight_limit dir (renamed_object (object_at dir.objects target) parent name)) third.0).0
 
     apart : (parents dir target ≡ parent → ⊥) → target ≡ parent → ⊥
     apart differ same = eqb-false parent target (or_parts (nat_eq parent target) _ (is.outside differ)).0 (sym same)

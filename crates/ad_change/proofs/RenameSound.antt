@@ -27,7 +27,7 @@ use Rattle.ad_needs_rules.specs.Checks.{first_failing}
 use Rattle.ad_needs_rules.specs.Requests.{number_named, no_rdn}
 use Rattle.ad_needs_rules.specs.Renaming.{new_rdn, new_parent, rename_checks}
 use Rattle.ad_needs_rules.proofs.FirstFailing.{head_holds}
-use Rattle.ad_change.specs.Tree.{depth_of, is_shallow_with, is_light_with}
+use Rattle.ad_change.specs.Tree.{depth_of, is_shallow_with, fits_weight_limit}
 use Rattle.ad_change.specs.Renaming.{is_free, rename_later}
 use Rattle.ad_change.proofs.DepthLaws.{shallow_placed, passes_at}
 use Rattle.ad_change.proofs.Resolved.{IsRenaming, renaming_of}
@@ -68,9 +68,9 @@ own_name dir number parent name sound live free m other is same_parent same_name
 pub may_replace : (dir : Directory) (number parent : ℕ) (name : List ℕ) → IsSound dir → is_live dir.objects number
     ≡ true → IsValue name
     → is_free dir number parent name ≡ true
-    → is_light_with dir (renamed_object (object_at dir.objects number) parent name) ≡ true
+    → fits_weight_limit dir (renamed_object (object_at dir.objects number) parent name) ≡ true
     → MayReplace dir (renamed_object (object_at dir.objects number) parent name)
-unfolding is_light_with
+unfolding fits_weight_limit
 may_replace dir number parent name sound live value free light = record {
   live = subst (λ (k : ℕ). is_live dir.objects k ≡ true) (sym (at_number dir.objects number live)) live;
   fits = record {
@@ -130,7 +130,7 @@ rename_is_sound dir number parent name sound live not_root parent_live apart val
     let second = head_holds _ _ first.1 in
     let third = head_holds _ _ second.1 in
     let fits = and_parts (is_shallow_with dir (renamed_object (object_at dir.objects number) parent name))
-    (is_light_with dir (renamed_object (object_at dir.objects number) parent name)) third.0 in
+    (fits_weight_limit dir (renamed_object (object_at dir.objects number) parent name)) third.0 in
     renamed_sound dir number parent name sound live
     (may_replace dir number parent name sound live value second.0 fits.1)
     (λ differ. may_move dir number parent name live not_root parent_live (apart differ) fits.0)

@@ -26,6 +26,7 @@ use Rattle.ad_dir_model.specs.Objects.{is_live}
 use Rattle.ad_dir_model.specs.Attributes.{attr_place}
 use Rattle.ad_dir_model.specs.Directory.{Directory}
 use Rattle.ad_dir_model.specs.Soundness.{IsSound}
+use Rattle.ad_dir_model.proofs.AdminCount.{place_within}
 use Rattle.ad_needs_rules.specs.declared.outcome.Verdict.TheVariants.{Granted}
 use Rattle.ad_needs_rules.specs.Checks.{first_failing}
 use Rattle.ad_needs_rules.specs.Requests.{parts_in, number_named, is_descriptor}
@@ -39,6 +40,8 @@ use Rattle.ad_needs_rules.specs.Modifying.{item_checks, act_item, act_items, mod
 use Rattle.ad_needs_rules.specs.Verdicts.{verdict_of, IsChange, Resolves}
 use Rattle.ad_needs_rules.proofs.FirstFailing.{head_holds, both_hold, each_holds}
 use Rattle.ad_needs_rules.proofs.Named.{live_or, named_live}
+use Rattle.ad_change_values.specs.Judging.{HasByteItem}
+use Rattle.ad_change.specs.Creating.{HasByteAttr}
 use Rattle.ad_change.proofs.Contents.{all_of_filter_map}
 use Rattle.ad_change.proofs.AddSound.{IsPlainAttr, class_or, first_value, ordinary_within, plain_is}
 use Rattle.ad_change.proofs.ModifySound.{IsPlainItem, item_plain}
@@ -60,12 +63,9 @@ all_made P Q R f (x ∷ xs) step ps qs = by_found (f x) refl (λ rest. all_made 
     by_found None is others all = others all
     by_found (Some y) is others all = (step x y ps.0 is all.0, others all.1)
 
--- values that are bytes
-abbrev pub HasByteAttr : AttrId × List (List ℕ) → Type 0
-HasByteAttr attr = AllByRecursion IsBytes attr.1
-
-abbrev pub HasByteItem : ActItem → Type 0
-HasByteItem item = AllByRecursion IsBytes item.values
+-- an attribute of the schema
+abbrev pub IsWithin : Directory → AttrId × List (List ℕ) → Type 0
+IsWithin dir attr = attr.0.0 < length (attrs_of dir.schema)
 
 -- A live parent, a class of the schema, a naming value, and attributes of the schema that aren't the identifier.
 pub record IsAddition (dir : Directory) (parent class : ℕ) (name : List ℕ) (values : List (AttrId × List (List ℕ)))
@@ -73,6 +73,7 @@ pub record IsAddition (dir : Directory) (parent class : ℕ) (name : List ℕ) (
   pub parent_live : is_live dir.objects parent ≡ true
   pub class_within : class < length (classes_of dir.schema)
   pub value : IsValue name
+  pub within : AllByRecursion (IsWithin dir) values
   pub attrs : AllByRecursion HasByteAttr values → AllByRecursion (IsPlainAttr dir) values
 
 kept_plain : (dir : Directory) (class : ℕ) (value : List ℕ) (xs : List (ℕ × List (List ℕ)))
@@ -92,6 +93,16 @@ kept_plain dir class value (x ∷ xs) within each bytes =
                 class value xs within.1 each.1 own.1,
           )
       | inr left ↦ rw left (kept_plain dir class value xs within.1 each.1 (rw left at bytes))
+    ]
+
+kept_within : (dir : Directory) (class : ℕ) (xs : List (ℕ × List (List ℕ)))
+    → AllByRecursion (λ x. x.0 < length (attrs_of dir.schema)) xs
+    → AllByRecursion (IsWithin dir) (map by_id (filter (λ x. is_value dir.schema class x.0) xs))
+kept_within dir class [] within = tt
+kept_within dir class (x ∷ xs) within =
+    elim (cases_Bool (is_value dir.schema class x.0)) [
+      | inl kept ↦ rw kept (within.0, kept_within dir class xs within.1)
+      | inr left ↦ rw left (kept_within dir class xs within.1)
     ]
 
 -- each attribute is one of the schema
@@ -129,6 +140,8 @@ addition_of dir token a flags sound none =
       parent_live = live_or dir token (drop 1 (parts_in a.dn)) (parent_named dir token a) sound.rise refl parent.0;
       class_within = class_or dir.schema (unwrap_or (sent a (codes "objectClass")) []) (new_class dir a) refl class.0;
       value = first_value a parts.0;
+      within = kept_within dir (class_number dir a) (filter_map (ordinary dir.schema) a.attrs)
+          (all_within dir a.attrs);
       attrs = kept_plain dir (class_number dir a) (new_part a).value (filter_map (ordinary dir.schema) a.attrs)
           (all_within dir a.attrs)
           (each_holds (own_checks dir.schema (class_number dir a) (new_part a).value) (all_ordinary dir.schema a)
@@ -196,12 +209,8 @@ addition dir token parent class name values sd sound r = by_op r.op r.change r.g
 pub record IsModification (dir : Directory) (target : ℕ) (items : List ActItem) : Type 0 where
   pub live : is_live dir.objects target ≡ true
   pub ops : AllByRecursion (λ (item : ActItem). item.op ≤ 2) items
+  pub within : AllByRecursion (λ (item : ActItem). item.attr.0 < length (attrs_of dir.schema)) items
   pub attrs : AllByRecursion HasByteItem items → AllByRecursion (IsPlainItem dir) items
-
-pub items_within : (dir : Directory) (items : List ActItem) → AllByRecursion (IsPlainItem dir) items
-    → AllByRecursion (λ (item : ActItem). item.attr.0 < length (attrs_of dir.schema)) items
-items_within dir [] are = tt
-items_within dir (item ∷ items) are = (are.0.within, items_within dir items are.1)
 
 item_parts : (schema : List SchemaRecord) (item : Item) (a : ActItem) → act_item schema item ≡ Some a
     → (item.op ≡ a.op) × (item.values ≡ a.values)
@@ -218,6 +227,22 @@ item_parts schema item a is =
     by_place (Some p) is' =
         let same : record { op = item.op; attr = record { 0 = p }; values = item.values } ≡ a = same_Some _ a is' in
         (ap (λ (x : ActItem). x.op) same, ap (λ (x : ActItem). x.values) same)
+
+item_place : (dir : Directory) (item : Item) (a : ActItem) → act_item dir.schema item ≡ Some a
+    → a.attr.0 < length (attrs_of dir.schema)
+item_place dir item a is =
+    elim (cases_Bool (is_descriptor item.attr)) [
+      | inl descriptor ↦ absurd (none-some a (rw descriptor at is))
+      | inr other ↦ by_place (attr_place dir.schema item.attr) refl (rw other at is)
+    ]
+  where
+    by_place : (place : Option ℕ) → attr_place dir.schema item.attr ≡ place → option_map
+        (λ attr. record { op = item.op; attr = record { 0 = attr }; values = item.values }) place ≡ Some a
+        → a.attr.0 < length (attrs_of dir.schema)
+    by_place None at is' = absurd (none-some a is')
+    by_place (Some p) at is' = subst (λ (x : ActItem). x.attr.0 < length (attrs_of dir.schema))
+        (same_Some (record { op = item.op; attr = record { 0 = p }; values = item.values }) a is')
+        (place_within dir.schema item.attr p at)
 
 all_ops : (schema : List SchemaRecord) (items : List Item) → AllByRecursion (λ (item : Item). item.op ≤ 2) items
     → AllByRecursion (λ (item : ActItem). item.op ≤ 2) (filter_map (act_item schema) items)
@@ -238,6 +263,9 @@ modification_of dir token m flags sound ops none =
     record {
       live = named_live dir token m.dn sound.rise seen.0;
       ops = all_ops dir.schema m.items ops;
+      within = all_of_filter_map (λ (item : Item). item.op ≤ 2)
+          (λ (a : ActItem). a.attr.0 < length (attrs_of dir.schema)) (act_item dir.schema) m.items
+          (λ item a op is. item_place dir item a is) ops;
       attrs = all_made (λ (item : Item). first_failing (item_checks dir number flags m.items item) ≡ None) HasByteItem
           (IsPlainItem dir)
           (act_item dir.schema) m.items

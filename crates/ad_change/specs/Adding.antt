@@ -19,7 +19,7 @@ use Rattle.ad_needs_rules.specs.Descriptors.{is_owner_allowed}
 use Rattle.ad_change_values.specs.Values.{all_attrs, is_lacking, reads, is_short, leads}
 use Rattle.ad_dir_model.specs.Attributes.{is_single}
 use Rattle.ad_change_values.specs.Values.{is_no_empty_password, is_given_twice, all_stored}
-use Rattle.ad_change.specs.Tree.{depth_of, is_light_with}
+use Rattle.ad_change.specs.Tree.{depth_of, fits_weight_limit}
 use Rattle.ad_schema_defaults.specs.Defaults.{default_of}
 use Rattle.ad_ldap.specs.ResultCodes.{admin_limit_exceeded, constraint_violation, attribute_or_value_exists}
 use Rattle.ad_ldap.specs.ResultCodes.{invalid_attribute_syntax, naming_violation, object_class_violation}
@@ -74,7 +74,7 @@ has_musts dir class values = list_all (λ attr. not (is_lacking dir.schema class
 unfoldable pub fits_in : Directory → Object → Bool
 fits_in dir o =
     nat_lt (length dir.objects) max_objects && (nat_lt (depth_of (parents dir) o.parent) max_depth
-    && (is_light_with dir (numbered dir o) && (nat_lt dir.meta.next_number max_counter
+    && (fits_weight_limit dir (numbered dir o) && (nat_lt dir.meta.next_number max_counter
     && option_map_or (λ sid. nat_lt dir.meta.next_rid max_counter) (new_sid dir o.class) true)))
 
 unfoldable pub add_later : Directory → Token → ℕ → ℕ → List ℕ → List (AttrId × List (List ℕ)) → Option SdParts

@@ -1,6 +1,7 @@
 -- What is said on the way to the edits of an addition.
 use Rattle.std.specs.Prelude.{◌≡◌, ℕ, Bool, is_some, Option, List, [], ◌∷◌, ◌++◌, map}
-use Rattle.std.specs.List.{list_all, flat_map}
+use Rattle.std.specs.List.{list_all, flat_map, AllByRecursion}
+use Rattle.ad_bytes.specs.Reading.{IsBytes}
 use Rattle.ad_ids.specs.declared.token.Token.{Token}
 use Rattle.ad_sd.specs.declared.parts.Sd.{Sd}
 use Rattle.ad_sd.specs.declared.parts.SdParts.{SdParts}
@@ -23,6 +24,10 @@ use Rattle.ad_needs_rules.specs.Descriptors.{is_owner_allowed}
 use Rattle.ad_change_values.specs.Values.{all_stored}
 use Rattle.ad_change.specs.Adding.{held_before, attr_checks, has_musts}
 use Rattle.ad_ldap.specs.ResultCodes.{constraint_violation, naming_violation, object_class_violation}
+
+-- the values of an attribute are bytes
+abbrev pub HasByteAttr : AttrId × List (List ℕ) → Type 0
+HasByteAttr attr = AllByRecursion IsBytes attr.1
 
 -- the attributes with their stored values, in the order in which they were sent
 abbrev pub read_attr : Directory → AttrId × List (List ℕ) → Held

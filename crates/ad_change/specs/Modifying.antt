@@ -15,7 +15,7 @@ use Rattle.ad_needs_rules.specs.Checks.{Check, or_code}
 use Rattle.ad_needs_rules.specs.Descriptors.{is_owner_allowed}
 use Rattle.ad_change_values.specs.Values.{all_attrs}
 use Rattle.ad_change_values.specs.Items.{after_items, all_item_checks, final_checks, is_item_named}
-use Rattle.ad_change.specs.Tree.{is_light_with}
+use Rattle.ad_change.specs.Tree.{fits_weight_limit}
 use Rattle.ad_ldap.specs.ResultCodes.{admin_limit_exceeded, constraint_violation}
 
 -- ---- what is written
@@ -41,7 +41,7 @@ modify_later dir token number items sd =
     ∷ (all_item_checks dir o.values items
     ++ (flat_map (final_checks dir.schema o.class (after_items dir o.values items))
     (filter (is_item_named items) (all_attrs dir.schema))
-    ++ (or_code (is_light_with dir (modified_object dir number items)) admin_limit_exceeded ∷ [])))
+    ++ (or_code (fits_weight_limit dir (modified_object dir number items)) admin_limit_exceeded ∷ [])))
 
 -- Values alone leave the descriptor. Where parts of it are written, what is inherited is computed anew, and the
 -- object is marked where the descriptor is another one then.

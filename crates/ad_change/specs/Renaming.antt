@@ -9,7 +9,7 @@ use Rattle.ad_dir_model.specs.Names.{child_named}
 use Rattle.ad_dir_model.specs.Changes.{renamed_object, renamed}
 use Rattle.ad_needs_rules.specs.Checks.{Check, or_code}
 use Rattle.ad_needs_rules.specs.Requests.{class_at}
-use Rattle.ad_change.specs.Tree.{is_shallow_with, is_light_with}
+use Rattle.ad_change.specs.Tree.{is_shallow_with, fits_weight_limit}
 use Rattle.ad_ldap.specs.ResultCodes.{admin_limit_exceeded, naming_violation, entry_already_exists}
 
 -- the class may stand below that of another parent
@@ -23,7 +23,7 @@ is_free dir number parent name = option_map_or (λ (other : Object). other.numbe
     (child_named dir.objects parent name) true
 
 abbrev pub fits_there : Directory → Object → Bool
-fits_there dir o = is_shallow_with dir o && is_light_with dir o
+fits_there dir o = is_shallow_with dir o && fits_weight_limit dir o
 
 unfoldable pub rename_later : Directory → ℕ → ℕ → List ℕ → List Check
 rename_later dir number parent name =

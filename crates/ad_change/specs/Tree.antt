@@ -23,5 +23,5 @@ is_shallow_with dir o = list_all (λ (other : Object). nat_le (depth_of (parent_
     max_depth) dir.objects
 
 -- nor is the directory too heavy
-unfoldable pub is_light_with : Directory → Object → Bool
-is_light_with dir o = nat_le (weight (with_objects (put o dir.objects) dir)) max_weight
+unfoldable pub fits_weight_limit : Directory → Object → Bool
+fits_weight_limit dir o = nat_le (weight (with_objects (put o dir.objects) dir)) max_weight

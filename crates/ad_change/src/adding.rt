@@ -5,6 +5,7 @@ ghost use Rattle.std.specs.Prelude.{[], ◌∷◌, ◌++◌, map, length, IfOk, 
 ghost use Rattle.std.specs.BTreeSet.{contains};
 ghost use Rattle.std.specs.List.{list_all, flat_map, AllByRecursion};
 ghost use Rattle.std.specs.Ordering.{nat_cmp};
+ghost use Rattle.ad_bytes.specs.Reading.{IsBytes};
 ghost use Rattle.ad_dn.specs.Value.{IsValue};
 ghost use Rattle.ad_schema.specs.Attributes.{attrs_of};
 ghost use Rattle.ad_schema.specs.Classes.{classes_of, is_allowed, is_under};
@@ -20,7 +21,7 @@ ghost use Rattle.ad_dir_model.specs.Changes.{new_sid};
 ghost use Rattle.ad_dir_model.specs.Soundness.{IsSound};
 ghost use Rattle.ad_needs_rules.specs.Verdicts.{Resolves};
 ghost use Rattle.ad_change.specs.Adding as add;
-ghost use Rattle.ad_change.specs.Creating.{IsNewObject, all_read, sent_checks};
+ghost use Rattle.ad_change.specs.Creating.{IsNewObject, HasByteAttr, all_read, sent_checks};
 ghost use Rattle.ad_change_values.specs.Judging.{Judges};
 ghost use Rattle.ad_change.specs.Plans.{IsPlan};
 ghost use Rattle.ad_change.specs.Tree.{depth_of};
@@ -29,22 +30,20 @@ ghost use Rattle.ad_dir_model.specs.Attributes.{is_single};
 
 use crate::by_attr::{all_held, given_of, is_in};
 use crate::depth::depth;
-use crate::light::is_light_with;
+use crate::light::fits_weight_limit;
 use crate::new_object::{domain_is_sid, gets_sid, new_edits, new_object};
 use crate::outcome::Plan;
 use crate::owner::is_owner_allowed;
-use crate::sent::attrs_are_bytes;
 use ad_bytes::{Bytes, List, OneOrMany};
 use ad_change_values::{
-    Held, Stop, are_too_many, code_of, has_no_empty_password, is_lacking, one_is_repeated,
+    Held, Refusal, are_too_many, code_of, has_no_empty_password, is_lacking, one_is_repeated,
     read_values, stored_values,
 };
 use ad_dir::{Dir, MAX_DEPTH, Object, Stored, live_object};
-use ad_ids::{Token, a_sid_has_8_bytes_and_4_for_each, a_sid_is_read_as_spelled};
+use ad_ids::Token;
 use ad_ldap::result_code;
 use ad_schema::{AttrId, ClassId, Schema, attr_count};
 use ad_sd::SdParts;
-use ad_value::what_is_shown_reads_back;
 use std::alloc::{AllocError, Global};
 use std::collections::BTreeSet;
 
@@ -67,23 +66,24 @@ fn judge_attr(
     dir: &Dir,
     attr: AttrId,
     sent: &[Bytes],
-) -> Result<OneOrMany<Stored>, Stop>
+) -> Result<OneOrMany<Stored>, Refusal>
     requires { attr.0 < length (attrs_of dir.now.schema) }
     ensures { Judges (add.attr_checks dir.now (attr, sent.now))
-        (λ stored. map stored_seen stored ≡ all_stored dir.now attr.0 sent.now) result }
+        (λ stored. (map stored_seen stored ≡ all_stored dir.now attr.0 sent.now)
+        × AllByRecursion IsBytes sent.now) result }
 {
     let schema = dir.schema();
     let read = read_values(alloc, schema, attr, sent)?;
     let repeated = one_is_repeated(alloc, read.as_slice())?;
     if repeated {
-        return Err(Stop::Refused(result_code::ATTRIBUTE_OR_VALUE_EXISTS));
+        return Err(Refusal::Code(result_code::ATTRIBUTE_OR_VALUE_EXISTS));
     }
     if too_many(schema, attr, sent) {
-        return Err(Stop::Refused(result_code::CONSTRAINT_VIOLATION));
+        return Err(Refusal::Code(result_code::CONSTRAINT_VIOLATION));
     }
     let stored = stored_values(alloc, dir, attr, sent, read)?;
     if !has_no_empty_password(schema, attr, sent) {
-        return Err(Stop::Refused(result_code::CONSTRAINT_VIOLATION));
+        return Err(Refusal::Code(result_code::CONSTRAINT_VIOLATION));
     }
     Ok(stored)
 }
@@ -97,10 +97,11 @@ fn push_held(held: &mut Held, attr: AttrId, stored: OneOrMany<Stored>) -> Result
 }
 
 // The checks of all attributes in their order, and each with its values as they are stored.
-fn judge_values(alloc: Global, dir: &Dir, values: &[(AttrId, List<Bytes>)]) -> Result<Held, Stop>
+fn judge_values(alloc: Global, dir: &Dir, values: &[(AttrId, List<Bytes>)]) -> Result<Held, Refusal>
     requires { AllByRecursion (λ attr. attr.0.0 < length (attrs_of dir.now.schema)) values.now }
     ensures { Judges (flat_map (add.attr_checks dir.now) values.now)
-        (λ held. map held_seen held.items ≡ all_read dir.now values.now) result }
+        (λ held. (map held_seen held.items ≡ all_read dir.now values.now)
+        × AllByRecursion HasByteAttr values.now) result }
 {
     let mut held = Vec::new(alloc);
     'each: for attr in values {
@@ -205,7 +206,7 @@ fn fits_in(dir: &Dir, object: &Object, gets_sid: bool) -> bool
 {
     let few = are_few(dir);
     let shallow = may_have_children(dir, object.parent);
-    let light = is_light_with(dir, object);
+    let light = fits_weight_limit(dir, object);
     let counted = has_counters(dir, gets_sid);
     all_four(few, shallow, light, counted)
 }
@@ -230,28 +231,29 @@ fn judge_sent(
     class: ClassId,
     values: &[(AttrId, List<Bytes>)],
     sd: &Option<SdParts>,
-) -> Result<Held, Stop>
+) -> Result<Held, Refusal>
     requires parent { is_live dir.now.objects parent ≡ true }
     requires class { class.0 < length (classes_of dir.now.schema) }
     requires attrs { AllByRecursion (λ attr. attr.0.0 < length (attrs_of dir.now.schema))
         values.now }
     ensures { Judges (sent_checks dir.now token.now parent class.0 values.now sd.now)
-        (λ held. map held_seen held.items ≡ add.all_held dir.now values.now) result }
+        (λ held. (map held_seen held.items ≡ add.all_held dir.now values.now)
+        × AllByRecursion HasByteAttr values.now) result }
 {
     if !is_owner_allowed(token, sd) {
-        return Err(Stop::Refused(result_code::CONSTRAINT_VIOLATION));
+        return Err(Refusal::Code(result_code::CONSTRAINT_VIOLATION));
     }
     if !may_stand(dir, class, parent) {
-        return Err(Stop::Refused(result_code::NAMING_VIOLATION));
+        return Err(Refusal::Code(result_code::NAMING_VIOLATION));
     }
     let read = judge_values(alloc, dir, values)?;
     let schema = dir.schema();
     if !are_allowed(schema, class, values) {
-        return Err(Stop::Refused(result_code::OBJECT_CLASS_VIOLATION));
+        return Err(Refusal::Code(result_code::OBJECT_CLASS_VIOLATION));
     }
     let has = has_musts(alloc, schema, class, values)?;
     if !has {
-        return Err(Stop::Refused(result_code::OBJECT_CLASS_VIOLATION));
+        return Err(Refusal::Code(result_code::OBJECT_CLASS_VIOLATION));
     }
     let held = all_held(alloc, read)?;
     Ok(held)
@@ -269,7 +271,7 @@ pub(crate) struct Adding<'a> {
 }
 
 // All of them, and the object with its number and its identifier.
-fn judge_add(alloc: Global, dir: &Dir, token: &Token, added: &Adding<'_>) -> Result<Object, Stop>
+fn judge_add(alloc: Global, dir: &Dir, token: &Token, added: &Adding<'_>) -> Result<Object, Refusal>
     requires sound { IsSound dir.now }
     requires parent { is_live dir.now.objects added.now.parent ≡ true }
     requires class { added.now.class.0 < length (classes_of dir.now.schema) }
@@ -281,19 +283,20 @@ fn judge_add(alloc: Global, dir: &Dir, token: &Token, added: &Adding<'_>) -> Res
         (λ object. IsNewObject dir.now
         (add.new_object dir.now token.now added.now.parent added.now.class.0
         added.now.name.now added.now.values.now added.now.sd.now) object
-        (is_some (new_sid dir.now added.now.class.0))) result }
+        (is_some (new_sid dir.now added.now.class.0))
+        × AllByRecursion HasByteAttr added.now.values.now) result }
 {
     let parent = added.parent;
     let class = added.class;
     let held = judge_sent(alloc, dir, token, parent, class, added.values, added.sd)?;
     let free = is_free(alloc, dir, parent, added.name.as_slice())?;
     if !free {
-        return Err(Stop::Refused(result_code::ENTRY_ALREADY_EXISTS));
+        return Err(Refusal::Code(result_code::ENTRY_ALREADY_EXISTS));
     }
     let object = new_object(alloc, dir, parent, class, added.name, held)?;
     let gets = gets_sid(dir, class);
     if !fits_in(dir, &object, gets) {
-        return Err(Stop::Refused(result_code::ADMIN_LIMIT_EXCEEDED));
+        return Err(Refusal::Code(result_code::ADMIN_LIMIT_EXCEEDED));
     }
     Ok(object)
 }
@@ -315,10 +318,6 @@ pub(crate) fn add_plan(
         (Act.Add added.now.parent added.now.class added.now.name.now added.now.values.now
         added.now.sd.now)) }
 {
-    what_is_shown_reads_back();
-    a_sid_is_read_as_spelled();
-    a_sid_has_8_bytes_and_4_for_each();
-    attrs_are_bytes(added.values);
     domain_is_sid(dir);
     match judge_add(alloc, dir, token, added) {
         Ok(object) => {

@@ -16,9 +16,6 @@ ghost use Rattle.ad_dir_model.specs.Identity.{domain_sid};
 ghost use Rattle.ad_dir_model.specs.Soundness.{IsSound};
 ghost use Rattle.ad_change.specs.Effects.{changes_to, effect};
 
-use ad_ids::{a_sid_has_8_bytes_and_4_for_each, a_sid_is_read_as_spelled};
-use ad_value::what_is_shown_reads_back;
-
 /// Where a Delete changes a sound directory, the new one is sound.
 pub fn a_delete_keeps_a_directory_sound()
     ensures { (dir after : Directory) (token : Token) (dn : List ℕ) (s : Settings) → IsSound dir
@@ -36,9 +33,7 @@ pub fn a_modify_keeps_a_directory_sound()
     ensures { (dir after : Directory) (token : Token) (m : Modify) (s : Settings) → IsSound dir
         → AllByRecursion (λ item. AllByRecursion IsBytes item.values) m.items
         → effect dir token (ModifyOf m) s ≡ changes_to after → IsSound after }
-{
-    what_is_shown_reads_back();
-}
+{}
 
 /// The same of an Add. Its values are bytes, and the domain's identifier, if it has one, has the form of one, as
 /// that of each directory in memory has.
@@ -47,8 +42,4 @@ pub fn an_add_keeps_a_directory_sound()
         → ((sid : SidValue) → domain_sid dir ≡ Some sid → IsSid sid)
         → AllByRecursion (λ attr. AllByRecursion IsBytes attr.1) a.attrs
         → effect dir token (AddOf a) s ≡ changes_to after → IsSound after }
-{
-    what_is_shown_reads_back();
-    a_sid_is_read_as_spelled();
-    a_sid_has_8_bytes_and_4_for_each();
-}
+{}

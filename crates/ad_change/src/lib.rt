@@ -41,7 +41,6 @@ mod owner;
 mod planning;
 mod renaming;
 mod same;
-mod sent;
 mod subtree;
 mod unlinking;
 mod writing;

@@ -88,9 +88,9 @@ fn is_enough(dir: &Dir, left: usize, but: u32) -> bool
 
 /// Whether the directory is none too heavy with the object put, in the place of the one of its number if there is
 /// one. What the others weigh is kept with the directory, and summed up only where it isn't.
-pub(crate) fn is_light_with(dir: &Dir, object: &Object) -> bool
+pub(crate) fn fits_weight_limit(dir: &Dir, object: &Object) -> bool
     requires { IsSound dir.now }
-    ensures { (sd : SdValue) → result ≡ tree.is_light_with dir.now (object_seen object.now sd) }
+    ensures { (sd : SdValue) → result ≡ tree.fits_weight_limit dir.now (object_seen object.now sd) }
 {
     match after_object(dir.schema(), MAX_WEIGHT, object) {
         Some(left) => is_enough(dir, left, object.number),

@@ -2,7 +2,6 @@
 
 ghost use Rattle.std.specs.Prelude.{◌≡◌, ◌≢◌, ◌<◌, map, length, true, IfOk};
 ghost use Rattle.std.specs.List.{AllByRecursion};
-ghost use Rattle.ad_bytes.specs.Reading.{IsBytes};
 ghost use Rattle.ad_sd.specs.Seen.{seen};
 ghost use Rattle.ad_schema.specs.Attributes.{attrs_of};
 ghost use Rattle.ad_schema.specs.Classes.{classes_of};
@@ -13,35 +12,40 @@ ghost use Rattle.ad_dir_model.specs.Tree.{root};
 ghost use Rattle.ad_dir_model.specs.Soundness.{AttrsRiseFrom, IsSound};
 ghost use Rattle.ad_needs_rules.specs.Verdicts.{Resolves};
 ghost use Rattle.ad_change_values.specs.Items.{after_items};
-ghost use Rattle.ad_change_values.specs.Judging.{Judges, value_checks};
+ghost use Rattle.ad_change_values.specs.Judging.{Judges, value_checks, HasByteItem};
 ghost use Rattle.ad_change.specs.Modifying as modify;
 ghost use Rattle.ad_change.specs.Judging.{IsWithValues, AreNeeded, modify_edits};
 ghost use Rattle.ad_change.specs.Plans.{IsPlan};
 
-use crate::light::is_light_with;
+use crate::light::fits_weight_limit;
 use crate::outcome::Plan;
 use crate::owner::is_owner_allowed;
 use crate::writing::{put_edits, write_edits};
-use ad_bytes::{List, are_bytes};
-use ad_change_values::{Stop, code_of, judge_attrs, judge_items};
+use ad_bytes::List;
+use ad_change_values::{Refusal, code_of, judge_attrs, judge_items};
 use ad_dir::{ActItem, Dir, Edit, Object, live_object, live_sd};
 use ad_ids::Token;
 use ad_ldap::result_code;
 use ad_sd::{NormalSd, Sd, SdParts, SdView};
-use ad_value::what_is_shown_reads_back;
 use std::alloc::{AllocError, Global};
 
 // ---- checks
 
 // The checks of the items and of the attributes that they name, and the object with the values that it gets.
-fn judge_values(alloc: Global, dir: &Dir, object: Object, items: &[ActItem]) -> Result<Object, Stop>
+fn judge_values(
+    alloc: Global,
+    dir: &Dir,
+    object: Object,
+    items: &[ActItem],
+) -> Result<Object, Refusal>
     requires class { object.class.0 < length (classes_of dir.now.schema) }
     requires attrs { AllByRecursion (λ item. item.attr.0 < length (attrs_of dir.now.schema))
         items.now }
     requires rise { AttrsRiseFrom 0 (map held_seen object.values) }
     ensures { Judges (value_checks dir.now object.class.0 (map held_seen object.values) items.now)
         (λ after. IsWithValues object after
-        (after_items dir.now (map held_seen object.values) items.now)) result }
+        (after_items dir.now (map held_seen object.values) items.now)
+        × AllByRecursion HasByteItem items.now) result }
 {
     let Object {
         number,
@@ -69,22 +73,23 @@ fn judge_modify(
     target: u32,
     items: &[ActItem],
     sd: &Option<SdParts>,
-) -> Result<Object, Stop>
+) -> Result<Object, Refusal>
     requires sound { IsSound dir.now }
     requires live { is_live dir.now.objects target ≡ true }
     requires attrs { AllByRecursion (λ item. item.attr.0 < length (attrs_of dir.now.schema))
         items.now }
     ensures { Judges (modify.modify_later dir.now token.now target items.now sd.now)
-        (λ object. object_seen object (sd_at dir.now.objects target)
-        ≡ modify.modified_object dir.now target items.now) result }
+        (λ object. (object_seen object (sd_at dir.now.objects target)
+        ≡ modify.modified_object dir.now target items.now)
+        × AllByRecursion HasByteItem items.now) result }
 {
     if !is_owner_allowed(token, sd) {
-        return Err(Stop::Refused(result_code::CONSTRAINT_VIOLATION));
+        return Err(Refusal::Code(result_code::CONSTRAINT_VIOLATION));
     }
     let before = live_object(dir, target).copy(alloc)?;
     let after = judge_values(alloc, dir, before, items)?;
-    if !is_light_with(dir, &after) {
-        return Err(Stop::Refused(result_code::ADMIN_LIMIT_EXCEEDED));
+    if !fits_weight_limit(dir, &after) {
+        return Err(Refusal::Code(result_code::ADMIN_LIMIT_EXCEEDED));
     }
     Ok(after)
 }
@@ -131,15 +136,6 @@ fn edits_of(
 
 // ---- the plan
 
-// What is sent are bytes.
-fn items_are_bytes(items: &[ActItem])
-    ensures { AllByRecursion (λ item. AllByRecursion IsBytes item.values) items.now }
-{
-    for item in items {
-        are_bytes(item.values.as_slice());
-    }
-}
-
 // The plan of these items.
 fn plan_of(
     alloc: Global,
@@ -153,8 +149,6 @@ fn plan_of(
     requires resolved { Resolves dir.now token.now (Act.Modify target items.now sd.now) }
     ensures { IfOk result (IsPlan dir.now token.now (Act.Modify target items.now sd.now)) }
 {
-    items_are_bytes(items);
-    what_is_shown_reads_back();
     match judge_modify(alloc, dir, token, target, items, sd) {
         Ok(object) => {
             let edits = edits_of(alloc, dir, object, sd)?;

@@ -16,11 +16,11 @@ ghost use Rattle.ad_change.specs.Plans.{IsPlan};
 ghost use Rattle.ad_change.specs.Renaming as rename;
 
 use crate::depth::is_shallow_with;
-use crate::light::is_light_with;
+use crate::light::fits_weight_limit;
 use crate::outcome::Plan;
 use crate::writing::{put_edits, write_edits};
 use ad_bytes::{Bytes, List};
-use ad_change_values::{Stop, code_of};
+use ad_change_values::{Refusal, code_of};
 use ad_dir::{Dir, Edit, Object, live_object, live_sd, parent_number};
 use ad_ldap::result_code;
 use std::alloc::{AllocError, Global};
@@ -84,7 +84,7 @@ fn fits_there(alloc: Global, dir: &Dir, target: u32, object: &Object) -> Result<
     ensures { IfOk result (λ fits. fits ≡ rename.fits_there dir.now
         (renamed_object (object_at dir.now.objects target) object.now.parent object.now.name)) }
 {
-    Ok(is_shallow_with(alloc, dir, target, object.parent)? && is_light_with(dir, object))
+    Ok(is_shallow_with(alloc, dir, target, object.parent)? && fits_weight_limit(dir, object))
 }
 
 // The checks of a rename or a move, and the object as it is then.
@@ -95,7 +95,7 @@ fn judge_rename(
     target: u32,
     parent: u32,
     name: &Bytes,
-) -> Result<Object, Stop>
+) -> Result<Object, Refusal>
     requires sound { IsSound dir.now }
     requires live { is_live dir.now.objects target ≡ true }
     requires parent { is_live dir.now.objects parent ≡ true }
@@ -105,14 +105,14 @@ fn judge_rename(
         ≡ renamed_object (object_at dir.now.objects target) parent name.now) result }
 {
     if !may_stand(dir, target, parent) {
-        return Err(Stop::Refused(result_code::NAMING_VIOLATION));
+        return Err(Refusal::Code(result_code::NAMING_VIOLATION));
     }
     if !is_free(alloc, dir, target, parent, name.as_slice())? {
-        return Err(Stop::Refused(result_code::ENTRY_ALREADY_EXISTS));
+        return Err(Refusal::Code(result_code::ENTRY_ALREADY_EXISTS));
     }
     let object = renamed(alloc, dir, target, parent, name)?;
     if !fits_there(alloc, dir, target, &object)? {
-        return Err(Stop::Refused(result_code::ADMIN_LIMIT_EXCEEDED));
+        return Err(Refusal::Code(result_code::ADMIN_LIMIT_EXCEEDED));
     }
     Ok(object)
 }

@@ -3,7 +3,7 @@ use Rattle.std.proofs.Common.{◌≡◌, ℕ, ◌+◌, ◌<◌, ◌≤◌, Bool,
 use Rattle.std.proofs.Common.{drop, Some, None, refl, sym, subst, ap, ◌∙◌, arith}
 use Rattle.std.specs.Prelude.{◌||◌, ◌&&◌, ◌==◌, if◌then◌else◌}
 use Rattle.std.specs.List.{AllByRecursion, list_all, list_any}
-use Rattle.std.proofs.lemmas.Bool.{true≢false}
+use Rattle.std.proofs.lemmas.Bool.{true≢false, eqb-true}
 use Rattle.std.proofs.lemmas.List.{drop_all}
 use Rattle.std.proofs.lemmas.List.Elements.{All-from_recursion, All-get_or}
 use Rattle.ad_schema.specs.declared.line.SchemaRecord.{SchemaRecord}
@@ -23,7 +23,7 @@ use Rattle.ad_change_values.specs.Values.{all_stored}
 use Rattle.ad_change_values.specs.Items.{values_after, without, with_these, after_item, after_items, adds_new}
 use Rattle.ad_change_values.specs.Items.{gives_once, deletes_there}
 use Rattle.ad_change_values.specs.Items.{item_checks, all_item_checks}
-use Rattle.ad_change_values.specs.Judging.{reading_checks, kept_checks, checks_on}
+use Rattle.ad_change_values.specs.Judging.{reading_checks, kept_checks, checks_on, HasByteItem}
 use Rattle.ad_change_values.proofs.HeldLaws.{rise_without, these_again}
 use Rattle.ad_change_values.proofs.SentLaws.{cut}
 
@@ -75,22 +75,27 @@ all_kept added once false password there filled p q r s = rw (p, q, s) refl
 abbrev once_by : ActItem → Bool → Bool
 once_by item twice = item.op == 1 || not twice
 
+abbrev deletes_by : ActItem → List Stored → List Stored → Bool → Bool
+deletes_by item new stored twice =
+    if length item.values == 0 then not (length stored == 0) else list_all (is_among stored) new && not twice
+
 abbrev there_by : ActItem → List Stored → List Stored → Bool → Bool
-there_by item new stored twice =
-    not (item.op == 1) || (if length item.values == 0 then not (length stored == 0) else list_all (is_among stored)
-    new && not twice)
+there_by item new stored twice = not (item.op == 1) || deletes_by item new stored twice
+
+abbrev all_filled : List SchemaRecord → ActItem → Bool
+all_filled schema item = list_all (is_no_empty_password schema item.attr.0) item.values
 
 abbrev filled_by : List SchemaRecord → ActItem → Bool
-filled_by schema item = item.op == 1 || list_all (is_no_empty_password schema item.attr.0) item.values
+filled_by schema item = item.op == 1 || all_filled schema item
 
-pub kept_added : (schema : List SchemaRecord) (item : ActItem) (new stored : List Stored)
+pub given_there : (schema : List SchemaRecord) (item : ActItem) (new stored : List Stored)
     → adds_new item.op new stored ≡ false
     → first_failing (kept_checks schema item new stored) ≡ Some (code 20)
-kept_added schema item new stored a =
+given_there schema item new stored a =
     not_added (adds_new item.op new stored) (gives_once schema item) (item.op == 1) (is_password schema item.attr.0)
     (deletes_there schema item new stored) (filled_by schema item) a
 
-pub kept_twice : (schema : List SchemaRecord) (item : ActItem) (new stored : List Stored) (twice : Bool)
+kept_twice : (schema : List SchemaRecord) (item : ActItem) (new stored : List Stored) (twice : Bool)
     → twice ≡ is_given_twice schema item.attr.0 item.values → adds_new item.op new stored ≡ true → once_by item twice
     ≡ false
     → first_failing (kept_checks schema item new stored) ≡ Some (code 20)
@@ -98,7 +103,7 @@ kept_twice schema item new stored twice is a o =
     not_once (adds_new item.op new stored) (gives_once schema item) (item.op == 1) (is_password schema item.attr.0)
     (deletes_there schema item new stored) (filled_by schema item) a (ap (once_by item) (sym is) ∙ o)
 
-pub kept_absent : (schema : List SchemaRecord) (item : ActItem) (new stored : List Stored) (twice : Bool)
+kept_absent : (schema : List SchemaRecord) (item : ActItem) (new stored : List Stored) (twice : Bool)
     → twice ≡ is_given_twice schema item.attr.0 item.values → adds_new item.op new stored ≡ true → once_by item twice
     ≡ true
     → there_by item new stored twice ≡ false
@@ -109,7 +114,7 @@ kept_absent schema item new stored twice is a o t =
     (deletes_there schema item new stored) (filled_by schema item) a (ap (once_by item) (sym is) ∙ o)
     (ap (there_by item new stored) (sym is) ∙ t)
 
-pub kept_empty : (schema : List SchemaRecord) (item : ActItem) (new stored : List Stored) (twice : Bool)
+kept_empty : (schema : List SchemaRecord) (item : ActItem) (new stored : List Stored) (twice : Bool)
     → twice ≡ is_given_twice schema item.attr.0 item.values → adds_new item.op new stored ≡ true → once_by item twice
     ≡ true
     → there_by item new stored twice ≡ true → filled_by schema item ≡ false
@@ -119,7 +124,7 @@ kept_empty schema item new stored twice is a o t f =
     (deletes_there schema item new stored) (filled_by schema item) a (ap (once_by item) (sym is) ∙ o)
     (ap (there_by item new stored) (sym is) ∙ t) f
 
-pub kept_fine : (schema : List SchemaRecord) (item : ActItem) (new stored : List Stored) (twice : Bool)
+kept_fine : (schema : List SchemaRecord) (item : ActItem) (new stored : List Stored) (twice : Bool)
     → twice ≡ is_given_twice schema item.attr.0 item.values → adds_new item.op new stored ≡ true → once_by item twice
     ≡ true
     → there_by item new stored twice ≡ true → filled_by schema item ≡ true
@@ -128,6 +133,58 @@ kept_fine schema item new stored twice is a o t f =
     all_kept (adds_new item.op new stored) (gives_once schema item) (item.op == 1) (is_password schema item.attr.0)
     (deletes_there schema item new stored) (filled_by schema item) a (ap (once_by item) (sym is) ∙ o)
     (ap (there_by item new stored) (sym is) ∙ t) f
+
+-- ---- a deletion: the values are there, and nothing else is asked
+
+adds_nothing : (op : ℕ) (new stored : List Stored) → (op == 1) ≡ true → adds_new op new stored ≡ true
+adds_nothing op new stored is =
+    subst (λ (n : ℕ). adds_new n new stored ≡ true) (sym (eqb-true op 1 is)) refl
+
+pub deletion_absent : (schema : List SchemaRecord) (item : ActItem) (new stored : List Stored) (twice : Bool)
+    → (item.op == 1) ≡ true → twice ≡ is_given_twice schema item.attr.0 item.values
+    → deletes_by item new stored twice ≡ false
+    → first_failing (kept_checks schema item new stored)
+    ≡ Some (code (if is_password schema item.attr.0 then 19 else 16))
+deletion_absent schema item new stored twice op is gone =
+    kept_absent schema item new stored twice is (adds_nothing item.op new stored op)
+    (ap (λ (b : Bool). b || not twice) op)
+    (ap (λ (b : Bool). not b || deletes_by item new stored twice) op ∙ gone)
+
+pub deletion_fine : (schema : List SchemaRecord) (item : ActItem) (new stored : List Stored) (twice : Bool)
+    → (item.op == 1) ≡ true → twice ≡ is_given_twice schema item.attr.0 item.values
+    → deletes_by item new stored twice ≡ true → first_failing (kept_checks schema item new stored) ≡ None
+deletion_fine schema item new stored twice op is there =
+    kept_fine schema item new stored twice is (adds_nothing item.op new stored op)
+    (ap (λ (b : Bool). b || not twice) op)
+    (ap (λ (b : Bool). not b || deletes_by item new stored twice) op ∙ there)
+    (ap (λ (b : Bool). b || all_filled schema item) op)
+
+-- ---- an addition or a replacement: no value is there or given twice, and no password is empty
+
+pub given_twice : (schema : List SchemaRecord) (item : ActItem) (new stored : List Stored) (twice : Bool)
+    → (item.op == 1) ≡ false → twice ≡ is_given_twice schema item.attr.0 item.values
+    → adds_new item.op new stored ≡ true → twice ≡ true
+    → first_failing (kept_checks schema item new stored) ≡ Some (code 20)
+given_twice schema item new stored twice op is fresh again =
+    kept_twice schema item new stored twice is fresh (ap (λ (b : Bool). b || not twice) op ∙ ap not again)
+
+pub given_empty : (schema : List SchemaRecord) (item : ActItem) (new stored : List Stored) (twice : Bool)
+    → (item.op == 1) ≡ false → twice ≡ is_given_twice schema item.attr.0 item.values
+    → adds_new item.op new stored ≡ true → twice ≡ false → all_filled schema item ≡ false
+    → first_failing (kept_checks schema item new stored) ≡ Some (code 19)
+given_empty schema item new stored twice op is fresh once empty =
+    kept_empty schema item new stored twice is fresh (ap (λ (b : Bool). b || not twice) op ∙ ap not once)
+    (ap (λ (b : Bool). not b || deletes_by item new stored twice) op)
+    (ap (λ (b : Bool). b || all_filled schema item) op ∙ empty)
+
+pub given_fine : (schema : List SchemaRecord) (item : ActItem) (new stored : List Stored) (twice : Bool)
+    → (item.op == 1) ≡ false → twice ≡ is_given_twice schema item.attr.0 item.values
+    → adds_new item.op new stored ≡ true → twice ≡ false → all_filled schema item ≡ true
+    → first_failing (kept_checks schema item new stored) ≡ None
+given_fine schema item new stored twice op is fresh once filled =
+    kept_fine schema item new stored twice is fresh (ap (λ (b : Bool). b || not twice) op ∙ ap not once)
+    (ap (λ (b : Bool). not b || deletes_by item new stored twice) op)
+    (ap (λ (b : Bool). b || all_filled schema item) op ∙ filled)
 
 -- ---- one item
 
@@ -190,6 +247,7 @@ pub record AreDoneTo (dir : Directory) (first : List Held) (items : List ActItem
     pub checks : first_failing (all_item_checks dir held (drop i items))
         ≡ first_failing (all_item_checks dir first items)
     pub after : after_items dir held (drop i items) ≡ after_items dir first items
+    pub bytes : AllByRecursion HasByteItem (drop i items) → AllByRecursion HasByteItem items
 
 rise_these : (attr : ℕ) (new : List Stored) (vs : List Held) → AttrsRiseFrom 0 vs
     → AttrsRiseFrom 0 (with_these attr new vs)
@@ -206,10 +264,10 @@ rise_after dir held item rise =
 pub items_more : (dir : Directory) (first : List Held) (items : List ActItem) (i : ℕ) (item : ActItem)
     (held after : List Held)
     → i < length items → item ≡ get_or items i item → first_failing (item_checks dir held item) ≡ None → after
-    ≡ after_item dir held item
+    ≡ after_item dir held item → HasByteItem item
     → AreDoneTo dir first items i held → AreDoneTo dir first items (i + 1) after
 unfolding all_item_checks after_items
-items_more dir first items i item held after lt is none done before = record {
+items_more dir first items i item held after lt is none done bytes' before = record {
   rise = subst (AttrsRiseFrom 0) (sym done) (rise_after dir held item before.rise);
   checks = ap (λ (vs : List Held). first_failing (all_item_checks dir vs rest)) done
       ∙ sym (ap (λ (xs : List ActItem). first_failing (all_item_checks dir held xs)) at
@@ -217,6 +275,7 @@ items_more dir first items i item held after lt is none done before = record {
       ∙ before.checks;
   after = ap (λ (vs : List Held). after_items dir vs rest) done
       ∙ sym (ap (after_items dir held) at) ∙ before.after;
+  bytes = λ others. before.bytes (subst (AllByRecursion HasByteItem) (sym at) (bytes', others));
 }
   where
     rest : List ActItem
@@ -238,11 +297,12 @@ items_no_more dir first items i item held r lt is before stops =
 pub items_done : (dir : Directory) (first : List Held) (items : List ActItem) (i : ℕ) (held : List Held)
     → length items ≤ i
     → AreDoneTo dir first items i held → (first_failing (all_item_checks dir first items) ≡ None)
-    × (held ≡ after_items dir first items)
+    × (held ≡ after_items dir first items) × AllByRecursion HasByteItem items
 unfolding all_item_checks after_items first_failing
 items_done dir first items i held le before = (
   sym before.checks ∙ ap (λ (xs : List ActItem). first_failing (all_item_checks dir held xs)) (drop_all i items le),
   sym (ap (after_items dir held) (drop_all i items le)) ∙ before.after,
+  before.bytes (subst (AllByRecursion HasByteItem) (sym (drop_all i items le)) tt),
 )
 
 -- an item's attribute is of the schema

@@ -1,13 +1,14 @@
 -- Values that were sent, one after the other.
 use Rattle.std.proofs.Common.{◌≡◌, ℕ, suc, ◌+◌, ◌<◌, ◌≤◌, Bool, true, false, List, [], ◌∷◌, ◌++◌, length, map, get_or}
 use Rattle.std.proofs.Common.{drop, drop-cons}
-use Rattle.std.proofs.Common.{add-one, Option, Some, None, Result, Ok, Err, refl, sym, ap, ◌∙◌, append_assoc}
+use Rattle.std.proofs.Common.{add-one, Option, Some, None, Result, Ok, Err, refl, sym, subst, ap, ◌∙◌, append_assoc}
 use Rattle.std.specs.Prelude.{◌&&◌, ◌||◌, option_map}
-use Rattle.std.specs.List.{list_all, list_any, cons_option}
+use Rattle.std.specs.List.{list_all, list_any, cons_option, AllByRecursion}
 use Rattle.std.specs.Option.{option_map_or, option_to_list}
 use Rattle.std.specs.Result.{result_ok}
 use Rattle.std.proofs.Math.Bool.{and_assoc}
 use Rattle.std.proofs.lemmas.List.{drop_all, append-nil, map-append}
+use Rattle.ad_bytes.specs.Reading.{IsBytes}
 use Rattle.ad_value.specs.Value.{Value, same_key}
 use Rattle.ad_value.specs.declared.fault.ValueFault.{ValueFault}
 use Rattle.ad_value.specs.declared.fault.ValueFault.TheVariants as fault
@@ -19,8 +20,8 @@ use Rattle.ad_dir_objects.specs.Seen.{stored_seen}
 use Rattle.ad_dir_model.specs.Object.{Stored, plain, link}
 use Rattle.ad_dir_model.specs.Directory.{Directory}
 use Rattle.ad_needs_rules.specs.Checks.{Refusal, Check, code, or_code, first_failing}
-use Rattle.ad_change_values.specs.declared.stop.Stop.{Stop}
-use Rattle.ad_change_values.specs.declared.stop.Stop.TheVariants as stop
+use Rattle.ad_change_values.specs.declared.refusal.Refusal.{Refusal as RefusalIn}
+use Rattle.ad_change_values.specs.declared.refusal.Refusal.TheVariants as refusal
 use Rattle.ad_change_values.specs.Values.{value_in, reads, is_short, target_of, stored_of, leads, all_stored}
 use Rattle.ad_change_values.specs.Values.{are_repeated}
 use Rattle.ad_change_values.specs.Judging.{StopsAt, values_in, reading_checks}
@@ -45,10 +46,10 @@ all_seen test seen (x ∷ xs) = ap (λ (b : Bool). test (seen x) && b) (all_seen
 -- ---- what is judged
 
 -- checks that stop where some of them stop
-pub stops : (cs ds : List Check) (e : Stop) → ((r : Refusal) → first_failing cs ≡ Some r → first_failing ds ≡ Some r)
-    → StopsAt cs e → StopsAt ds e
-stops cs ds (stop.Refused n) also stopped = also (code n) stopped
-stops cs ds stop.Memory also stopped = tt
+pub stops : (cs ds : List Check) (e : RefusalIn) → ((r : Refusal) → first_failing cs ≡ Some r
+    → first_failing ds ≡ Some r) → StopsAt cs e → StopsAt ds e
+stops cs ds (refusal.Code n) also stopped = also (code n) stopped
+stops cs ds refusal.Memory also stopped = tt
 
 -- one check that holds, or doesn't
 pub one_holds : (b : Bool) (n : ℕ) → b ≡ true → first_failing (or_code b n ∷ []) ≡ None
@@ -78,6 +79,7 @@ pub record AreReadTo (schema : List SchemaRecord) (attr : ℕ) (sent : List (Lis
   pub all_read : list_all (reads schema attr) (drop i sent) ≡ list_all (reads schema attr) sent
   pub none_long : (short && list_all (is_short schema attr) (drop i sent)) ≡ list_all (is_short schema attr) sent
   pub values : read ++ values_in schema attr (drop i sent) ≡ values_in schema attr sent
+  pub bytes : AllByRecursion IsBytes (drop i sent) → AllByRecursion IsBytes sent
 
 front_of : {A : Type 0} (o : Option A) (xs : List A) → option_to_list o ++ xs ≡ cons_option o xs
 front_of None xs = refl
@@ -86,9 +88,9 @@ front_of (Some x) xs = refl
 pub reads_more : (schema : List SchemaRecord) (attr : ℕ) (sent : List (List ℕ)) (i : ℕ) (x : List ℕ)
     (short one : Bool) (read after : List Value)
     → i < length sent → x ≡ get_or sent i x → reads schema attr x ≡ true → one ≡ is_short schema attr x
-    → after ≡ read ++ option_to_list (result_ok (value_in schema attr x))
+    → after ≡ read ++ option_to_list (result_ok (value_in schema attr x)) → IsBytes x
     → AreReadTo schema attr sent i short read → AreReadTo schema attr sent (i + 1) (short && one) after
-reads_more schema attr sent i x short one read after lt is reads' short' read' before =
+reads_more schema attr sent i x short one read after lt is reads' short' read' bytes' before =
     let rest : List (List ℕ) = drop (i + 1) sent in
     let at : drop i sent ≡ x ∷ rest = cut sent i x lt is in record {
       all_read = sym (ap (list_all (reads schema attr)) at ∙ ap (λ (b : Bool). b && list_all (reads schema attr) rest)
@@ -101,23 +103,26 @@ reads_more schema attr sent i x short one read after lt is reads' short' read' b
           ∙ ap (λ (vs : List Value). read ++ vs)
           (front_of (result_ok (value_in schema attr x)) (values_in schema attr rest))
           ∙ sym (ap (λ (xs : List (List ℕ)). read ++ values_in schema attr xs) at) ∙ before.values;
+      bytes = λ others. before.bytes (subst (AllByRecursion IsBytes) (sym at) (bytes', others));
     }
 
 -- ---- one more
 
 pub one_read : (schema : List SchemaRecord) (attr : ℕ) (bytes : List ℕ) (v : Value) (read after : List Value)
     → value_in schema attr bytes ≡ Ok v
-    → after ≡ read ++ v ∷ [] → (first_failing (or_code (reads schema attr bytes) 21 ∷ []) ≡ None)
-    × ((true ≡ is_short schema attr bytes) × (after ≡ read ++ option_to_list (result_ok (value_in schema attr bytes))))
+    → after ≡ read ++ v ∷ [] → IsBytes bytes → (first_failing (or_code (reads schema attr bytes) 21 ∷ []) ≡ None)
+    × ((true ≡ is_short schema attr bytes) × (after ≡ read ++ option_to_list (result_ok (value_in schema attr bytes)))
+    × IsBytes bytes)
 unfolding first_failing
-one_read schema attr bytes v read after is made = rw is (refl, (refl, made))
+one_read schema attr bytes v read after is made are = rw is (refl, (refl, made, are))
 
 pub one_long : (schema : List SchemaRecord) (attr : ℕ) (bytes : List ℕ) (read : List Value)
-    → value_in schema attr bytes ≡ Err fault.TooLong
+    → value_in schema attr bytes ≡ Err fault.TooLong → IsBytes bytes
     → (first_failing (or_code (reads schema attr bytes) 21 ∷ []) ≡ None)
-    × ((false ≡ is_short schema attr bytes) × (read ≡ read ++ option_to_list (result_ok (value_in schema attr bytes))))
+    × ((false ≡ is_short schema attr bytes) × (read ≡ read ++ option_to_list (result_ok (value_in schema attr bytes)))
+    × IsBytes bytes)
 unfolding first_failing
-one_long schema attr bytes read is = rw is (refl, (refl, sym (append-nil read)))
+one_long schema attr bytes read is are = rw is (refl, (refl, sym (append-nil read), are))
 
 pub one_unread : (schema : List SchemaRecord) (attr : ℕ) (bytes : List ℕ) → value_in schema attr bytes
     ≡ Err fault.Syntax
@@ -157,7 +162,8 @@ is_long schema attr sent i short read le before long =
 pub are_read : (schema : List SchemaRecord) (attr : ℕ) (sent : List (List ℕ)) (i : ℕ) (short : Bool)
     (read : List Value) → length sent ≤ i
     → AreReadTo schema attr sent i short read → short ≡ true
-    → (first_failing (reading_checks schema attr sent) ≡ None) × (read ≡ values_in schema attr sent)
+    → (first_failing (reading_checks schema attr sent) ≡ None)
+    × ((read ≡ values_in schema attr sent) × AllByRecursion IsBytes sent)
 unfolding first_failing
 are_read schema attr sent i short read le before none =
     let rest : drop i sent ≡ [] = drop_all i sent le in
@@ -166,8 +172,11 @@ are_read schema attr sent i short read le before none =
     ∙ ap (λ (b : Bool). b && list_all (is_short schema attr) (drop i sent)) none
     ∙ ap (list_all (is_short schema attr)) rest in (
       rw (all, each) refl,
-      sym (append-nil read) ∙ ap (λ (xs : List (List ℕ)). read ++ values_in schema attr xs)
-          (sym rest) ∙ before.values,
+      (
+        sym (append-nil read) ∙ ap (λ (xs : List (List ℕ)). read ++ values_in schema attr xs)
+            (sym rest) ∙ before.values,
+        before.bytes (subst (AllByRecursion IsBytes) (sym rest) tt),
+      ),
     )
 
 -- ---- repeated values

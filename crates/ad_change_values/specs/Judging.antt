@@ -3,14 +3,15 @@ use Rattle.std.specs.Prelude.{◌≡◌, ℕ, ◌<◌, Bool, false, ◌==◌, �
 use Rattle.std.specs.Prelude.{length, filter, filter_map, slice_index_or, Result, Ok, Err}
 use Rattle.std.specs.List.{list_all, flat_map, AllByRecursion}
 use Rattle.std.specs.Result.{result_ok}
+use Rattle.ad_bytes.specs.Reading.{IsBytes}
 use Rattle.ad_value.specs.Value.{Value}
 use Rattle.ad_schema.specs.declared.line.SchemaRecord.{SchemaRecord}
 use Rattle.ad_dir_objects.specs.declared.act.ActItem.{ActItem}
 use Rattle.ad_dir_model.specs.Object.{Stored, Held}
 use Rattle.ad_dir_model.specs.Directory.{Directory}
 use Rattle.ad_needs_rules.specs.Checks.{Check, code, or_code, first_failing}
-use Rattle.ad_change_values.specs.declared.stop.Stop.{Stop}
-use Rattle.ad_change_values.specs.declared.stop.Stop.TheVariants as stop
+use Rattle.ad_change_values.specs.declared.refusal.Refusal.{Refusal}
+use Rattle.ad_change_values.specs.declared.refusal.Refusal.TheVariants as refusal
 use Rattle.ad_change_values.specs.Values.{all_attrs, value_in, reads, is_short, leads}
 use Rattle.ad_dir_model.specs.Attributes.{is_password}
 use Rattle.ad_change_values.specs.Values.{is_no_empty_password, all_stored}
@@ -21,12 +22,12 @@ use Rattle.ad_ldap.specs.ResultCodes.{no_such_attribute}
 use Rattle.ad_ldap.specs.Choices.{delete_values}
 
 -- The first check that fails has this code, or memory ran out.
-abbrev pub StopsAt : List Check → Stop → Type 0
-StopsAt checks (stop.Refused number) = first_failing checks ≡ Some (code number)
-StopsAt checks stop.Memory = Unit {0}
+abbrev pub StopsAt : List Check → Refusal → Type 0
+StopsAt checks (refusal.Code number) = first_failing checks ≡ Some (code number)
+StopsAt checks refusal.Memory = Unit {0}
 
 -- The checks hold and what is made is so, or they stop there.
-abbrev pub Judges : {X : Type 0} → List Check → (X → Type 0) → Result X Stop → Type 0
+abbrev pub Judges : {X : Type 0} → List Check → (X → Type 0) → Result X Refusal → Type 0
 Judges checks Made (Ok made) = (first_failing checks ≡ None) × Made made
 Judges checks Made (Err why) = StopsAt checks why
 
@@ -68,6 +69,10 @@ value_checks dir class held items =
     all_item_checks dir held items
     ++ flat_map (final_checks dir.schema class (after_items dir held items))
     (filter (is_item_named items) (all_attrs dir.schema))
+
+-- the values of an item are bytes
+abbrev pub HasByteItem : ActItem → Type 0
+HasByteItem item = AllByRecursion IsBytes item.values
 
 -- ---- attributes that are named
 

@@ -14,7 +14,7 @@ ghost use Rattle.ad_change_values.specs.Items as modify;
 ghost use Rattle.ad_change_values.specs.Judging.{Judges, AreNamed};
 
 use crate::counts::{Counts, count_of, counts_of};
-use crate::stop::Stop;
+use crate::refusal::Refusal;
 use crate::values::is_lacking;
 use ad_bytes::OneOrMany;
 use ad_dir::{ActItem, Stored, is_single};
@@ -43,20 +43,20 @@ pub fn are_too_many(schema: &Schema, attr: AttrId, count: usize) -> bool
 }
 
 // The checks of an attribute that has so many values.
-fn judge_attr(schema: &Schema, class: ClassId, attr: AttrId, count: usize) -> Result<(), Stop>
+fn judge_attr(schema: &Schema, class: ClassId, attr: AttrId, count: usize) -> Result<(), Refusal>
     requires class { class.0 < length (classes_of schema.now) }
     requires attr { attr.0 < length (attrs_of schema.now) }
     ensures { (held : List HeldValue) → count ≡ length (stored_in held attr.0)
         → Judges (modify.final_checks schema.now class.0 held attr.0) (λ _. Unit {0}) result }
 {
     if are_too_many(schema, attr, count) {
-        return Err(Stop::Refused(result_code::CONSTRAINT_VIOLATION));
+        return Err(Refusal::Code(result_code::CONSTRAINT_VIOLATION));
     }
     if !schema.allowed(class, attr) {
-        return Err(Stop::Refused(result_code::OBJECT_CLASS_VIOLATION));
+        return Err(Refusal::Code(result_code::OBJECT_CLASS_VIOLATION));
     }
     if is_lacking(schema, class, attr, count != 0) {
-        return Err(Stop::Refused(result_code::OBJECT_CLASS_VIOLATION));
+        return Err(Refusal::Code(result_code::OBJECT_CLASS_VIOLATION));
     }
     Ok(())
 }
@@ -68,7 +68,7 @@ fn judge_if(
     class: ClassId,
     attr: AttrId,
     counts: &Counts,
-) -> Result<(), Stop>
+) -> Result<(), Refusal>
     requires class { class.0 < length (classes_of schema.now) }
     requires attr { attr.0 < length (attrs_of schema.now) }
     ensures { (held : List HeldValue) → count_in counts.now attr.0 ≡ length (stored_in held attr.0)
@@ -88,7 +88,7 @@ pub fn judge_attrs(
     class: ClassId,
     held: &[(AttrId, OneOrMany<Stored>)],
     items: &[ActItem],
-) -> Result<(), Stop>
+) -> Result<(), Refusal>
     requires class { class.0 < length (classes_of schema.now) }
     requires attrs { AllByRecursion (λ item. item.attr.0 < length (attrs_of schema.now)) items.now }
     ensures { Judges (flat_map (modify.final_checks schema.now class.0 (map held_seen held.now))

@@ -1,7 +1,7 @@
 //! The items of a Modify, in their order: the checks of each on the values that those before it made, and what it
 //! makes of them.
 
-ghost use Rattle.std.specs.Prelude.{◌≡◌, ◌<◌, ◌==◌, ◌&&◌, ◌||◌, not, if◌then◌else◌, map, length, IfOk};
+ghost use Rattle.std.specs.Prelude.{◌≡◌, ◌<◌, ◌==◌, ◌&&◌, not, true, false, if◌then◌else◌, map, length, IfOk};
 ghost use Rattle.std.specs.List.{list_all, list_any, AllByRecursion};
 ghost use Rattle.ad_schema.specs.Attributes.{attrs_of};
 ghost use Rattle.ad_dir_objects.specs.Seen.{stored_seen, held_seen};
@@ -9,15 +9,15 @@ ghost use Rattle.ad_dir_model.specs.Soundness.{AttrsRiseFrom};
 ghost use Rattle.ad_change_values.specs.Values.{is_among, is_given_twice, is_no_empty_password, all_stored};
 ghost use Rattle.ad_change_values.specs.ByAttr.{by_attr};
 ghost use Rattle.ad_change_values.specs.Items as modify;
-ghost use Rattle.ad_change_values.specs.Judging.{Judges, checks_on, kept_checks};
+ghost use Rattle.ad_change_values.specs.Judging.{Judges, checks_on, kept_checks, HasByteItem};
 ghost use Rattle.ad_ldap.specs.Choices.{delete_values};
 ghost use Rattle.ad_ldap.specs.ResultCodes.{constraint_violation, no_such_attribute};
 
 use crate::held::Held;
 use crate::pile::Pile;
+use crate::refusal::Refusal;
 use crate::repeated::one_is_repeated;
 use crate::rows::{Rows, held_of, put_pile, rows_of, take_pile};
-use crate::stop::Stop;
 use crate::values::{has_no_empty_password, read_values, stored_values};
 use ad_bytes::OneOrMany;
 use ad_dir::{ActItem, Dir, Stored, is_password};
@@ -93,39 +93,11 @@ fn deletes_there(
     Ok(all && !twice)
 }
 
-// The same of an item that may be no deletion.
-fn deletes_well(
-    alloc: Global,
-    item: &ActItem,
-    twice: bool,
-    new: &[Stored],
-    stored: &Pile,
-) -> Result<bool, AllocError>
-    ensures { IfOk result (λ there. there
-        ≡ (not (item.now.op == delete_values) || (if length item.now.values == 0
-        then not (length (map stored_seen stored.now) == 0)
-        else list_all (is_among (map stored_seen stored.now)) (map stored_seen new.now)
-        && not twice))) }
-{
-    if item.op != DELETE_VALUES {
-        return Ok(true);
-    }
-    deletes_there(alloc, item, twice, new, stored)
-}
-
-// Whether no value of an addition or of a replacement is given twice.
-fn gives_once(op: u8, twice: bool) -> bool
-    ensures { result ≡ (op == delete_values || not twice) }
-{
-    op == DELETE_VALUES || !twice
-}
-
 // Whether no new password is empty.
 fn is_filled(schema: &Schema, item: &ActItem) -> bool
-    ensures { result ≡ (item.now.op == delete_values
-        || list_all (is_no_empty_password schema.now item.now.attr.0) item.now.values) }
+    ensures { result ≡ list_all (is_no_empty_password schema.now item.now.attr.0) item.now.values }
 {
-    item.op == DELETE_VALUES || has_no_empty_password(schema, item.attr, item.values.as_slice())
+    has_no_empty_password(schema, item.attr, item.values.as_slice())
 }
 
 // What a deletion of values that aren't there is answered.
@@ -139,7 +111,57 @@ fn absent(password: bool) -> u8
     }
 }
 
-// The checks of an item after those of its values alone. It is said whether one of them is given twice.
+// The checks of a deletion after those of its values alone. It is said whether one of them is given twice.
+fn judge_deletion(
+    alloc: Global,
+    schema: &Schema,
+    item: &ActItem,
+    twice: bool,
+    new: &[Stored],
+    stored: &Pile,
+) -> Result<(), Refusal>
+    requires op { (item.now.op == delete_values) ≡ true }
+    requires twice { twice ≡ is_given_twice schema.now item.now.attr.0 item.now.values }
+    ensures { Judges (kept_checks schema.now item.now (map stored_seen new.now)
+        (map stored_seen stored.now))
+        (λ _. Unit {0}) result }
+{
+    let there = deletes_there(alloc, item, twice, new, stored)?;
+    if !there {
+        return Err(Refusal::Code(absent(is_password(schema, item.attr))));
+    }
+    Ok(())
+}
+
+// The same of an addition and of a replacement.
+fn judge_given(
+    alloc: Global,
+    schema: &Schema,
+    item: &ActItem,
+    twice: bool,
+    new: &[Stored],
+    stored: &Pile,
+) -> Result<(), Refusal>
+    requires op { (item.now.op == delete_values) ≡ false }
+    requires twice { twice ≡ is_given_twice schema.now item.now.attr.0 item.now.values }
+    ensures { Judges (kept_checks schema.now item.now (map stored_seen new.now)
+        (map stored_seen stored.now))
+        (λ _. Unit {0}) result }
+{
+    let fresh = adds_new(alloc, item.op, new, stored)?;
+    if !fresh {
+        return Err(Refusal::Code(result_code::ATTRIBUTE_OR_VALUE_EXISTS));
+    }
+    if twice {
+        return Err(Refusal::Code(result_code::ATTRIBUTE_OR_VALUE_EXISTS));
+    }
+    if !is_filled(schema, item) {
+        return Err(Refusal::Code(result_code::CONSTRAINT_VIOLATION));
+    }
+    Ok(())
+}
+
+// The same of an item, whatever it does.
 fn judge_kept(
     alloc: Global,
     schema: &Schema,
@@ -147,27 +169,16 @@ fn judge_kept(
     twice: bool,
     new: &[Stored],
     stored: &Pile,
-) -> Result<(), Stop>
+) -> Result<(), Refusal>
     requires { twice ≡ is_given_twice schema.now item.now.attr.0 item.now.values }
     ensures { Judges (kept_checks schema.now item.now (map stored_seen new.now)
         (map stored_seen stored.now))
         (λ _. Unit {0}) result }
 {
-    let fresh = adds_new(alloc, item.op, new, stored)?;
-    if !fresh {
-        return Err(Stop::Refused(result_code::ATTRIBUTE_OR_VALUE_EXISTS));
+    if item.op == DELETE_VALUES {
+        return judge_deletion(alloc, schema, item, twice, new, stored);
     }
-    if !gives_once(item.op, twice) {
-        return Err(Stop::Refused(result_code::ATTRIBUTE_OR_VALUE_EXISTS));
-    }
-    let there = deletes_well(alloc, item, twice, new, stored)?;
-    if !there {
-        return Err(Stop::Refused(absent(is_password(schema, item.attr))));
-    }
-    if !is_filled(schema, item) {
-        return Err(Stop::Refused(result_code::CONSTRAINT_VIOLATION));
-    }
-    Ok(())
+    judge_given(alloc, schema, item, twice, new, stored)
 }
 
 // All checks of an item on the values of its attribute, and its values as they are stored.
@@ -176,10 +187,11 @@ fn judge_item(
     dir: &Dir,
     stored: &Pile,
     item: &ActItem,
-) -> Result<OneOrMany<Stored>, Stop>
+) -> Result<OneOrMany<Stored>, Refusal>
     requires { item.now.attr.0 < length (attrs_of dir.now.schema) }
     ensures { Judges (checks_on dir.now (map stored_seen stored.now) item.now)
-        (λ new. map stored_seen new ≡ all_stored dir.now item.now.attr.0 item.now.values) result }
+        (λ new. (map stored_seen new ≡ all_stored dir.now item.now.attr.0 item.now.values)
+        × HasByteItem item.now) result }
 {
     let schema = dir.schema();
     let sent = item.values.as_slice();
@@ -230,12 +242,12 @@ fn values_after(
 }
 
 // The checks of an item, and what it makes of the attributes.
-fn apply_item(alloc: Global, dir: &Dir, rows: &mut Rows, item: &ActItem) -> Result<(), Stop>
+fn apply_item(alloc: Global, dir: &Dir, rows: &mut Rows, item: &ActItem) -> Result<(), Refusal>
     requires attr { item.now.attr.0 < length (attrs_of dir.now.schema) }
     requires rise { AttrsRiseFrom 0 (by_attr rows.old.entries) }
     ensures { Judges (modify.item_checks dir.now (by_attr rows.old.entries) item.now)
-        (λ _. by_attr rows.new.entries ≡ modify.after_item dir.now (by_attr rows.old.entries)
-        item.now) result }
+        (λ _. (by_attr rows.new.entries ≡ modify.after_item dir.now (by_attr rows.old.entries)
+        item.now) × HasByteItem item.now) result }
 {
     let taken = take_pile(alloc, rows, item.attr);
     let stored = taken.looked_at(alloc, item.values.len())?;
@@ -247,14 +259,14 @@ fn apply_item(alloc: Global, dir: &Dir, rows: &mut Rows, item: &ActItem) -> Resu
 
 // ---- all items
 
-/// The checks of the items, and the attributes with their values after all of them.
-pub fn judge_items(alloc: Global, dir: &Dir, held: Held, items: &[ActItem]) -> Result<Held, Stop>
+/// The checks of the items, and the attributes with their values after all of them. What was read of them were bytes.
+pub fn judge_items(alloc: Global, dir: &Dir, held: Held, items: &[ActItem]) -> Result<Held, Refusal>
     requires attrs { AllByRecursion (λ item. item.attr.0 < length (attrs_of dir.now.schema))
         items.now }
     requires rise { AttrsRiseFrom 0 (map held_seen held.items) }
     ensures { Judges (modify.all_item_checks dir.now (map held_seen held.items) items.now)
-        (λ after. map held_seen after.items ≡ modify.after_items dir.now (map held_seen held.items)
-        items.now) result }
+        (λ after. (map held_seen after.items ≡ modify.after_items dir.now (map held_seen held.items)
+        items.now) × AllByRecursion HasByteItem items.now) result }
 {
     let mut rows = rows_of(held)?;
     for item in items {

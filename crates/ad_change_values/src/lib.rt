@@ -30,14 +30,14 @@ mod items;
 mod keys;
 mod pile;
 mod places;
+mod refusal;
 mod repeated;
 mod rows;
-mod stop;
 mod values;
 
 pub use finals::{are_too_many, judge_attrs};
 pub use held::{Held, put_stored, take_stored};
 pub use items::judge_items;
+pub use refusal::{Refusal, code_of};
 pub use repeated::one_is_repeated;
-pub use stop::{Stop, code_of};
 pub use values::{are_repeated, has_no_empty_password, is_lacking, read_values, stored_values};

@@ -1,10 +1,10 @@
 //! Values that were sent: how they are read and stored, and the checks of them.
 
 ghost use Rattle.std.specs.Prelude.{◌≡◌, ◌<◌, ◌==◌, ◌&&◌, ◌++◌, not, true, [], ◌∷◌, map, length, IfOk};
-ghost use Rattle.std.specs.List.{list_all, list_any};
+ghost use Rattle.std.specs.List.{list_all, list_any, AllByRecursion};
 ghost use Rattle.std.specs.Option.{option_to_list};
 ghost use Rattle.std.specs.Result.{result_ok};
-ghost use Rattle.ad_bytes.specs.Reading.{GivesUnless};
+ghost use Rattle.ad_bytes.specs.Reading.{GivesUnless, IsBytes};
 ghost use Rattle.ad_value.specs.Value.{same_key};
 ghost use Rattle.ad_value.specs.ValueOf.{is_memory};
 ghost use Rattle.ad_schema.specs.Attributes.{attrs_of};
@@ -17,7 +17,7 @@ ghost use Rattle.ad_dir_model.specs.Attributes as attributes;
 ghost use Rattle.ad_change_values.specs.Values as values;
 ghost use Rattle.ad_change_values.specs.Judging.{Judges, values_in, reading_checks};
 
-use crate::stop::Stop;
+use crate::refusal::Refusal;
 use ad_bytes::{Bytes, List, OneOrMany};
 use ad_dir::{Dir, Stored, digest_value, is_password};
 use ad_ldap::result_code;
@@ -59,12 +59,12 @@ fn read_more(
     attr: AttrId,
     read: &mut List<Value>,
     bytes: &[u8],
-) -> Result<bool, Stop>
+) -> Result<bool, Refusal>
     requires { attr.0 < length (attrs_of schema.now) }
     ensures { Judges (or_code (values.reads schema.now attr.0 bytes.now) 21 ∷ [])
         (λ short. (short ≡ values.is_short schema.now attr.0 bytes.now)
         × (read.new ≡ read.old ++ option_to_list
-        (result_ok (values.value_in schema.now attr.0 bytes.now)))) result }
+        (result_ok (values.value_in schema.now attr.0 bytes.now))) × IsBytes bytes.now) result }
 {
     match value_in(alloc, schema, attr, bytes) {
         Ok(value) => {
@@ -72,8 +72,8 @@ fn read_more(
             Ok(true)
         }
         Err(ValueFault::TooLong) => Ok(false),
-        Err(ValueFault::Syntax) => Err(Stop::Refused(result_code::INVALID_ATTRIBUTE_SYNTAX)),
-        Err(ValueFault::Memory) => Err(Stop::Memory),
+        Err(ValueFault::Syntax) => Err(Refusal::Code(result_code::INVALID_ATTRIBUTE_SYNTAX)),
+        Err(ValueFault::Memory) => Err(Refusal::Memory),
     }
 }
 
@@ -83,16 +83,17 @@ fn both(a: bool, b: bool) -> bool
     a && b
 }
 
-/// The values of an attribute, read: 21 where one isn't of the syntax, and else 19 where one is too long.
+/// The values of an attribute, read: 21 where one isn't of the syntax, and else 19 where one is too long. What was
+/// read were bytes.
 pub fn read_values(
     alloc: Global,
     schema: &Schema,
     attr: AttrId,
     sent: &[Bytes],
-) -> Result<List<Value>, Stop>
+) -> Result<List<Value>, Refusal>
     requires { attr.0 < length (attrs_of schema.now) }
     ensures { Judges (reading_checks schema.now attr.0 sent.now)
-        (λ read. read ≡ values_in schema.now attr.0 sent.now) result }
+        (λ read. (read ≡ values_in schema.now attr.0 sent.now) × AllByRecursion IsBytes sent.now) result }
 {
     let mut read = List::new(alloc);
     let mut short = true;
@@ -101,7 +102,7 @@ pub fn read_values(
         short = both(short, one);
     }
     if !short {
-        return Err(Stop::Refused(result_code::CONSTRAINT_VIOLATION));
+        return Err(Refusal::Code(result_code::CONSTRAINT_VIOLATION));
     }
     Ok(read)
 }
@@ -147,7 +148,7 @@ fn links_to(
     dir: &Dir,
     attr: AttrId,
     sent: &[Bytes],
-) -> Result<OneOrMany<Stored>, Stop>
+) -> Result<OneOrMany<Stored>, Refusal>
     requires { attr_is_link dir.now.schema attr.0 ≡ true }
     ensures { Judges (or_code (list_all (values.leads dir.now attr.0) sent.now) 19 ∷ [])
         (λ stored. map stored_seen stored ≡ values.all_stored dir.now attr.0 sent.now) result }
@@ -157,7 +158,7 @@ fn links_to(
         let target = number_of_name(alloc, dir, text.as_slice())?;
         match target {
             Some(number) => stored.push(Stored::Link(number))?,
-            None => return Err(Stop::Refused(result_code::CONSTRAINT_VIOLATION)),
+            None => return Err(Refusal::Code(result_code::CONSTRAINT_VIOLATION)),
         }
     }
     Ok(stored)
@@ -180,7 +181,7 @@ pub fn stored_values(
     attr: AttrId,
     sent: &[Bytes],
     read: List<Value>,
-) -> Result<OneOrMany<Stored>, Stop>
+) -> Result<OneOrMany<Stored>, Refusal>
     requires attr { attr.0 < length (attrs_of dir.now.schema) }
     requires read { read ≡ values_in dir.now.schema attr.0 sent.now }
     ensures { Judges (or_code (list_all (values.leads dir.now attr.0) sent.now) 19 ∷ [])

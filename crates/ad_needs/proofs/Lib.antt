@@ -5,3 +5,8 @@ pub mod AddLaws
 pub mod SentLaws
 pub mod ModifyLaws
 pub mod FirstLaws
+pub mod StepLaws
+pub mod ItemLaws
+pub mod ReachLaws
+pub mod TracedLaws
+pub mod VerdictLaws

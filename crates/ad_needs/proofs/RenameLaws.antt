@@ -177,7 +177,11 @@ pub stays : (dir : Directory) (token : Token) (number parent : ℕ) → parent_a
 unfolding refusal_of first_failing
 stays dir token number parent same = rw (eq-eqb (parent_at dir.objects number) parent same) refl
 
-moving : (dir : Directory) (number parent : ℕ) → (parent_at dir.objects number ≡ parent → ⊥)
+pub resting : (dir : Directory) (number parent : ℕ) → parent_at dir.objects number ≡ parent → []
+    ≡ move_needs dir number parent
+resting dir number parent same = rw (eq-eqb (parent_at dir.objects number) parent same) refl
+
+pub moving : (dir : Directory) (number parent : ℕ) → (parent_at dir.objects number ≡ parent → ⊥)
     → to_leave dir number ∷ (needs parent create_child (class_path dir.schema (class_at dir number)) ∷ []) ∷ []
     ≡ move_needs dir number parent
 moving dir number parent differs = rw (ne_eqb (parent_at dir.objects number) parent differs) refl

@@ -1,4 +1,7 @@
+pub mod Tries
+pub mod Traces
 -- only for private contracts, invariants and proofs
 pub mod Moves
 pub mod Additions
 pub mod ItemWords
+pub mod Steps

@@ -15,14 +15,15 @@ ghost use Rattle.ad_needs_rules.specs.Descriptors.{sd_in_one};
 ghost use Rattle.ad_schema_defaults.specs.NewClass.{is_schema_class};
 ghost use Rattle.ad_needs_rules.specs.Renaming.{is_typed};
 ghost use Rattle.ad_needs_rules.specs.Adding.{first_part, sent, new_class, new_sd, all_ordinary, own_checks};
-ghost use Rattle.ad_needs_rules.specs.Adding.{brings_sacl};
-ghost use Rattle.ad_needs_rules.specs.Adding.{sacl_needs, add_needs};
+ghost use Rattle.ad_needs_rules.specs.Adding.{brings_sacl, sacl_needs, add_needs};
 ghost use Rattle.ad_needs.specs.Additions.{sd_sent, class_judged, below_judged};
 ghost use Rattle.ad_needs_rules.specs.Judged.{refusal_of};
+ghost use Rattle.ad_needs.specs.Steps.{Steps};
 ghost use Rattle.ad_needs_rules.specs.Verdicts.{verdict_of};
 
 use crate::renaming::is_typed;
 use crate::sent::{new_values, sent, unless_all_lawful, unless_named_once};
+use crate::trying::{Trace, no_trace, require};
 use ad_bytes::Bytes;
 use ad_dir::{Act, Dir, ROOT};
 use ad_dn::{Dn, Rdn};
@@ -30,7 +31,7 @@ use ad_ids::Token;
 use ad_ldap::{Add, Settings, result_code};
 use ad_needs_rules::{
     Right, Verdict, asked_in, asked_of, matched, on_children, on_object, read_name, sd_in_one,
-    unless_granted, visible,
+    visible,
 };
 use ad_schema::ClassId;
 use ad_schema_defaults::{class_by_names, is_schema_class};
@@ -55,7 +56,7 @@ fn class_names(add: &Add) -> &[Bytes]
 ///
 /// Memory ran out.
 #[tactic(auto, unfolding(ad_needs_rules::specs::Adding::new_class))]
-pub fn new_class(alloc: Global, dir: &Dir, add: &Add) -> Result<Option<ClassId>, AllocError>
+pub(crate) fn new_class(alloc: Global, dir: &Dir, add: &Add) -> Result<Option<ClassId>, AllocError>
     ensures class { IfOk result (λ class. option_map (λ id. id.0) class
         ≡ new_class dir.now add.now) }
     ensures in_range { IfOk result (λ class.
@@ -89,7 +90,7 @@ fn sd_sent(alloc: Global, add: &Add) -> Result<Option<Option<SdParts>>, AllocErr
 /// # Errors
 ///
 /// Memory ran out.
-pub fn new_sd(alloc: Global, add: &Add, flags: u8) -> Result<Option<SdParts>, AllocError>
+pub(crate) fn new_sd(alloc: Global, add: &Add, flags: u8) -> Result<Option<SdParts>, AllocError>
     ensures { IfOk result (λ sd. sd ≡ new_sd add.now flags) }
 {
     match sent(add, b"nTSecurityDescriptor") {
@@ -98,8 +99,8 @@ pub fn new_sd(alloc: Global, add: &Add, flags: u8) -> Result<Option<SdParts>, Al
     }
 }
 
-/// Whether a descriptor has a SACL.
-pub fn brings_sacl(sd: &Option<SdParts>) -> bool
+// Whether a descriptor has a SACL.
+fn brings_sacl(sd: &Option<SdParts>) -> bool
     ensures { result ≡ brings_sacl sd.now }
 {
     match sd {
@@ -117,37 +118,53 @@ fn unless_audits(
     token: &Token,
     parent: u32,
     sacl: bool,
+    trace: &mut Trace,
 ) -> Result<Option<Verdict>, AllocError>
     requires { is_live dir.now.objects parent ≡ true }
-    ensures { IfOk result (λ refusal. refusal
+    ensures refusal { IfOk result (λ refusal. refusal
         ≡ refusal_of (all_met dir.now token.now (sacl_needs parent sacl))) }
+    ensures steps { IfOk result (λ refusal. Steps dir.now token.now trace.old
+        (sacl_needs parent sacl) trace.new refusal) }
 {
     if sacl {
-        unless_granted(alloc, dir, token, &on_object(parent, Right::SystemSecurity))
+        require(
+            alloc,
+            dir,
+            token,
+            &on_object(parent, Right::SystemSecurity),
+            trace,
+        )
     } else {
         Ok(None)
     }
 }
 
-// The refusal where what an Add below a live object needs is missing.
-fn unless_creates(
+/// The refusal where what an Add below a live object needs is missing.
+///
+/// # Errors
+///
+/// Memory ran out.
+pub(crate) fn unless_creates(
     alloc: Global,
     dir: &Dir,
     token: &Token,
     parent: u32,
     class: ClassId,
     sd: &Option<SdParts>,
+    trace: &mut Trace,
 ) -> Result<Option<Verdict>, AllocError>
     requires parent { is_live dir.now.objects parent ≡ true }
     requires class { class.0 < length (classes_of dir.now.schema) }
-    ensures { IfOk result (λ refusal. refusal
+    ensures refusal { IfOk result (λ refusal. refusal
         ≡ refusal_of (all_met dir.now token.now (add_needs dir.now parent class.0 sd.now))) }
+    ensures steps { IfOk result (λ refusal. Steps dir.now token.now trace.old
+        (add_needs dir.now parent class.0 sd.now) trace.new refusal) }
 {
     let create = on_children(dir, parent, Right::CreateChild, class);
-    if let Some(refusal) = unless_granted(alloc, dir, token, &create)? {
+    if let Some(refusal) = require(alloc, dir, token, &create, trace)? {
         return Ok(Some(refusal));
     }
-    unless_audits(alloc, dir, token, parent, brings_sacl(sd))
+    unless_audits(alloc, dir, token, parent, brings_sacl(sd), trace)
 }
 
 // ---- the checks
@@ -181,7 +198,10 @@ fn unless_adds(
     let attrs = added.add.attrs.as_slice();
     match unless_all_lawful(dir.schema(), added.class, rdn.value.as_slice(), attrs) {
         Some(refusal) => Ok(Some(refusal)),
-        None => unless_creates(alloc, dir, token, added.parent, added.class, sd),
+        None => {
+            let mut trace = no_trace(alloc);
+            unless_creates(alloc, dir, token, added.parent, added.class, sd, &mut trace)
+        }
     }
 }
 
@@ -305,7 +325,7 @@ fn is_root_named(alloc: Global, dir: &Dir, dn: &Dn) -> Result<bool, AllocError>
 /// # Errors
 ///
 /// Memory ran out.
-pub fn parent_named(
+pub(crate) fn parent_named(
     alloc: Global,
     dir: &Dir,
     token: &Token,

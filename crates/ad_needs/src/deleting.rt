@@ -7,15 +7,14 @@ ghost use Rattle.ad_dir_model.specs.Tree.{root};
 ghost use Rattle.ad_needs_rules.specs.Checks.{all_met};
 ghost use Rattle.ad_needs_rules.specs.Deleting.{to_leave, delete_needs};
 ghost use Rattle.ad_needs_rules.specs.Judged.{refusal_of};
+ghost use Rattle.ad_needs.specs.Steps.{Steps};
 ghost use Rattle.ad_needs_rules.specs.Verdicts.{verdict_of};
 
+use crate::trying::{Trace, no_trace, require, require_either};
 use ad_dir::{Act, Dir, ROOT, class_of, parent_of};
 use ad_ids::Token;
 use ad_ldap::{Settings, result_code};
-use ad_needs_rules::{
-    Right, Verdict, matched, on_children, on_object, read_name, unless_either, unless_granted,
-    visible,
-};
+use ad_needs_rules::{Right, Verdict, matched, on_children, on_object, read_name, visible};
 use std::alloc::{AllocError, Global};
 
 /// The refusal where a live object, which isn't the root, may not go alone: it needs to be deleted, or its parent
@@ -29,16 +28,19 @@ pub(crate) fn unless_leaves(
     dir: &Dir,
     token: &Token,
     number: u32,
+    trace: &mut Trace,
 ) -> Result<Option<Verdict>, AllocError>
     requires live { is_live dir.now.objects number ≡ true }
     requires below { number ≢ root }
-    ensures { IfOk result (λ refusal. refusal
+    ensures refusal { IfOk result (λ refusal. refusal
         ≡ refusal_of (all_met dir.now token.now (to_leave dir.now number ∷ []))) }
+    ensures steps { IfOk result (λ refusal. Steps dir.now token.now trace.old
+        (to_leave dir.now number ∷ []) trace.new refusal) }
 {
     let parent = parent_of(dir, number);
     let alone = on_object(number, Right::Delete);
     let above = on_children(dir, parent, Right::DeleteChild, class_of(dir, number));
-    unless_either(alloc, dir, token, &alone, &above)
+    require_either(alloc, dir, token, &alone, &above, trace)
 }
 
 // The refusal where it may not go with all that is below it.
@@ -47,31 +49,47 @@ fn unless_all_go(
     dir: &Dir,
     token: &Token,
     number: u32,
+    trace: &mut Trace,
 ) -> Result<Option<Verdict>, AllocError>
     requires { is_live dir.now.objects number ≡ true }
-    ensures { IfOk result (λ refusal. refusal
+    ensures refusal { IfOk result (λ refusal. refusal
         ≡ refusal_of (all_met dir.now token.now (delete_needs dir.now number true))) }
+    ensures steps { IfOk result (λ refusal. Steps dir.now token.now trace.old
+        (delete_needs dir.now number true) trace.new refusal) }
 {
-    unless_granted(alloc, dir, token, &on_object(number, Right::DeleteTree))
+    require(
+        alloc,
+        dir,
+        token,
+        &on_object(number, Right::DeleteTree),
+        trace,
+    )
 }
 
-// The refusal where what a Delete needs is missing.
-fn unless_deletes(
+/// The refusal where what a Delete needs is missing.
+///
+/// # Errors
+///
+/// Memory ran out.
+pub(crate) fn unless_deletes(
     alloc: Global,
     dir: &Dir,
     token: &Token,
     number: u32,
     tree: bool,
+    trace: &mut Trace,
 ) -> Result<Option<Verdict>, AllocError>
     requires live { is_live dir.now.objects number ≡ true }
     requires below { number ≢ root }
-    ensures { IfOk result (λ refusal. refusal
+    ensures refusal { IfOk result (λ refusal. refusal
         ≡ refusal_of (all_met dir.now token.now (delete_needs dir.now number tree))) }
+    ensures steps { IfOk result (λ refusal. Steps dir.now token.now trace.old
+        (delete_needs dir.now number tree) trace.new refusal) }
 {
     if tree {
-        unless_all_go(alloc, dir, token, number)
+        unless_all_go(alloc, dir, token, number, trace)
     } else {
-        unless_leaves(alloc, dir, token, number)
+        unless_leaves(alloc, dir, token, number, trace)
     }
 }
 
@@ -101,7 +119,8 @@ pub(crate) fn delete_verdict(
     if number == ROOT {
         return Ok(Verdict::Refused(result_code::UNWILLING_TO_PERFORM));
     }
-    match unless_deletes(alloc, dir, token, number, settings.tree)? {
+    let mut trace = no_trace(alloc);
+    match unless_deletes(alloc, dir, token, number, settings.tree, &mut trace)? {
         Some(refusal) => Ok(refusal),
         None => Ok(Verdict::Granted(Act::Delete {
             target: number,

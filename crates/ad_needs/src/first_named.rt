@@ -16,7 +16,7 @@ use std::alloc::{AllocError, Global};
 /// # Errors
 ///
 /// Memory ran out.
-pub fn none_named(alloc: Global, schema: &Schema) -> Result<Vec<bool>, AllocError>
+pub(crate) fn none_named(alloc: Global, schema: &Schema) -> Result<Vec<bool>, AllocError>
     ensures named { IfOk result (λ named. AreNamed schema.now named.items []) }
     ensures sent { IfOk result (λ named. AreSent schema.now named.items []) }
 {
@@ -37,7 +37,7 @@ pub(crate) fn is_first_mark(named: &mut [bool], place: usize) -> bool
 
 /// Whether an item after others names its attribute for the first time. `named` has the flags of the attributes
 /// that the others name, and then that of this one too.
-pub fn is_first(schema: &Schema, named: &mut [bool], earlier: &[Item], item: &Item) -> bool
+pub(crate) fn is_first(schema: &Schema, named: &mut [bool], earlier: &[Item], item: &Item) -> bool
     requires { AreNamed schema.now named.old earlier.now }
     ensures first { result ≡ not (list_any (is_item_of item.now.attr) earlier.now) }
     ensures named { AreNamed schema.now named.new (earlier.now ++ item.now ∷ []) }

@@ -29,7 +29,7 @@ pub(crate) fn is_named_in(items: &[Item], name: &[u8]) -> bool
 /// # Errors
 ///
 /// Memory ran out.
-pub fn items_of<'a>(
+pub(crate) fn items_of<'a>(
     alloc: Global,
     items: &'a [Item],
     name: &[u8],

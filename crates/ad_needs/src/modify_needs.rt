@@ -8,17 +8,19 @@ ghost use Rattle.ad_needs_rules.specs.Checks.{all_met};
 ghost use Rattle.ad_needs_rules.specs.Modifying.{written_sd, need_if, parts_needs, descriptor_needs, password_needs};
 ghost use Rattle.ad_needs_rules.specs.Modifying.{attr_needs, ordinary_needs, items_of, modify_needs};
 ghost use Rattle.ad_needs_rules.specs.Judged.{bit_of, asked, refusal_of};
+ghost use Rattle.ad_needs.specs.Steps.{Steps};
 ghost use Rattle.ad_needs.specs.ItemWords.{needs_if, named_needs};
 
 use crate::first_named::{is_first, none_named};
 use crate::items::{is_forced, items_of};
+use crate::trying::{Trace, keep_success, require, require_either};
 use ad_access_dir::{is_password, password_right};
 use ad_dir::Dir;
 use ad_ids::Token;
 use ad_ldap::Item;
 use ad_needs_rules::{
     Ask, Right, Verdict, asked_in, has_owner_or_group, is_descriptor, is_granted, on_object, to_do,
-    to_write, unless_either, unless_granted, validated_write,
+    to_write, validated_write,
 };
 use ad_schema::AttrId;
 use ad_sd::SdParts;
@@ -32,7 +34,11 @@ use std::alloc::{AllocError, Global};
 /// # Errors
 ///
 /// Memory ran out.
-pub fn written_sd(alloc: Global, items: &[Item], flags: u8) -> Result<Option<SdParts>, AllocError>
+pub(crate) fn written_sd(
+    alloc: Global,
+    items: &[Item],
+    flags: u8,
+) -> Result<Option<SdParts>, AllocError>
     ensures { IfOk result (λ sd. sd ≡ written_sd items.now flags) }
 {
     'each: for item in items {
@@ -45,22 +51,25 @@ pub fn written_sd(alloc: Global, items: &[Item], flags: u8) -> Result<Option<SdP
 
 // The refusal where a part is written and the right isn't granted.
 #[tactic(auto, unfolding(ad_needs_rules::specs::Judged::refusal_of, ad_needs_rules::specs::Checks::first_failing))]
-fn unless_kept(
+fn require_if_written(
     alloc: Global,
     dir: &Dir,
     token: &Token,
     number: u32,
     is_written: bool,
     right: Right,
+    trace: &mut Trace,
 ) -> Result<Option<Verdict>, AllocError>
     requires { is_live dir.now.objects number ≡ true }
-    ensures { IfOk result (λ refusal. refusal
+    ensures refusal { IfOk result (λ refusal. refusal
         ≡ refusal_of (all_met dir.now token.now (need_if is_written number (bit_of right)))) }
+    ensures steps { IfOk result (λ refusal. Steps dir.now token.now trace.old
+        (need_if is_written number (bit_of right)) trace.new refusal) }
 {
     if !is_written {
         return Ok(None);
     }
-    unless_granted(alloc, dir, token, &on_object(number, right))
+    require(alloc, dir, token, &on_object(number, right), trace)
 }
 
 fn parts_refusal(
@@ -69,21 +78,48 @@ fn parts_refusal(
     token: &Token,
     number: u32,
     parts: &SdParts,
+    trace: &mut Trace,
 ) -> Result<Option<Verdict>, AllocError>
     requires { is_live dir.now.objects number ≡ true }
-    ensures { IfOk result (λ refusal. refusal
+    ensures refusal { IfOk result (λ refusal. refusal
         ≡ refusal_of (all_met dir.now token.now (parts_needs number parts.now))) }
+    ensures steps { IfOk result (λ refusal. Steps dir.now token.now trace.old
+        (parts_needs number parts.now) trace.new refusal) }
 {
     let is_owned = has_owner_or_group(parts);
-    if let Some(owner) = unless_kept(alloc, dir, token, number, is_owned, Right::WriteOwner)? {
+    if let Some(owner) = require_if_written(
+        alloc,
+        dir,
+        token,
+        number,
+        is_owned,
+        Right::WriteOwner,
+        trace,
+    )? {
         return Ok(Some(owner));
     }
     let has_list = parts.dacl.is_some();
-    if let Some(list) = unless_kept(alloc, dir, token, number, has_list, Right::WriteDac)? {
+    if let Some(list) = require_if_written(
+        alloc,
+        dir,
+        token,
+        number,
+        has_list,
+        Right::WriteDac,
+        trace,
+    )? {
         return Ok(Some(list));
     }
     let is_audited = parts.sacl.is_some();
-    unless_kept(alloc, dir, token, number, is_audited, Right::SystemSecurity)
+    require_if_written(
+        alloc,
+        dir,
+        token,
+        number,
+        is_audited,
+        Right::SystemSecurity,
+        trace,
+    )
 }
 
 #[tactic(auto, unfolding(ad_needs_rules::specs::Judged::refusal_of, ad_needs_rules::specs::Checks::first_failing))]
@@ -94,26 +130,25 @@ fn descriptor_refusal(
     number: u32,
     flags: u8,
     items: &[Item],
+    trace: &mut Trace,
 ) -> Result<Option<Verdict>, AllocError>
     requires { is_live dir.now.objects number ≡ true }
-    ensures { IfOk result (λ refusal. refusal
+    ensures refusal { IfOk result (λ refusal. refusal
         ≡ refusal_of (all_met dir.now token.now
         (descriptor_needs number (written_sd items.now flags)))) }
+    ensures steps { IfOk result (λ refusal. Steps dir.now token.now trace.old
+        (descriptor_needs number (written_sd items.now flags)) trace.new refusal) }
 {
     match written_sd(alloc, items, flags)? {
-        Some(parts) => parts_refusal(alloc, dir, token, number, &parts),
+        Some(parts) => parts_refusal(alloc, dir, token, number, &parts, trace),
         None => Ok(None),
     }
 }
 
 // ---- passwords
 
-/// The right to write a password by the items of its name.
-///
-/// # Errors
-///
-/// Memory ran out.
-pub fn to_set_password(
+// The right to write a password by the items of its name.
+fn to_set_password(
     alloc: Global,
     number: u32,
     items: &[Item],
@@ -138,14 +173,17 @@ fn password_refusal(
     number: u32,
     items: &[Item],
     name: &[u8],
+    trace: &mut Trace,
 ) -> Result<Option<Verdict>, AllocError>
     requires { is_live dir.now.objects number ≡ true }
-    ensures { IfOk result (λ refusal. refusal
+    ensures refusal { IfOk result (λ refusal. refusal
         ≡ refusal_of (all_met dir.now token.now
         (password_needs number (items_of items.now name.now)))) }
+    ensures steps { IfOk result (λ refusal. Steps dir.now token.now trace.old
+        (password_needs number (items_of items.now name.now)) trace.new refusal) }
 {
     let ask = to_set_password(alloc, number, items, name)?;
-    unless_granted(alloc, dir, token, &ask)
+    require(alloc, dir, token, &ask, trace)
 }
 
 // ---- attributes
@@ -159,17 +197,21 @@ fn unless_validated(
     number: u32,
     attr: AttrId,
     items: &[&Item],
+    trace: &mut Trace,
 ) -> Result<Option<Verdict>, AllocError>
     requires live { is_live dir.now.objects number ≡ true }
     requires attr { attr.0 < length (attrs_of dir.now.schema) }
-    ensures { IfOk result (λ refusal. refusal
+    ensures refusal { IfOk result (λ refusal. refusal
         ≡ refusal_of (all_met dir.now token.now
         (attr_needs dir.now token.now number attr.0 (map (λ item. item.now) items.now)))) }
+    ensures steps { IfOk result (λ refusal. Steps dir.now token.now trace.old
+        (attr_needs dir.now token.now number attr.0 (map (λ item. item.now) items.now)) trace.new
+        refusal) }
 {
     let write = to_write(dir, number, attr);
     match validated_write(alloc, dir, token, number, attr, items)? {
-        Some(guid) => unless_either(alloc, dir, token, &write, &to_do(number, guid)),
-        None => unless_granted(alloc, dir, token, &write),
+        Some(guid) => require_either(alloc, dir, token, &write, &to_do(number, guid), trace),
+        None => require(alloc, dir, token, &write, trace),
     }
 }
 
@@ -182,18 +224,24 @@ fn attr_refusal(
     attr: AttrId,
     items: &[Item],
     name: &[u8],
+    trace: &mut Trace,
 ) -> Result<Option<Verdict>, AllocError>
     requires live { is_live dir.now.objects number ≡ true }
     requires attr { attr.0 < length (attrs_of dir.now.schema) }
-    ensures { IfOk result (λ refusal. refusal
+    ensures refusal { IfOk result (λ refusal. refusal
         ≡ refusal_of (all_met dir.now token.now
         (attr_needs dir.now token.now number attr.0 (items_of items.now name.now)))) }
+    ensures steps { IfOk result (λ refusal. Steps dir.now token.now trace.old
+        (attr_needs dir.now token.now number attr.0 (items_of items.now name.now)) trace.new
+        refusal) }
 {
-    if is_granted(dir, token, &to_write(dir, number, attr)) {
+    let write = to_write(dir, number, attr);
+    if is_granted(dir, token, &write) {
+        keep_success(trace, &write)?;
         return Ok(None);
     }
     let own = items_of(alloc, items, name)?;
-    unless_validated(alloc, dir, token, number, attr, own.as_slice())
+    unless_validated(alloc, dir, token, number, attr, own.as_slice(), trace)
 }
 
 #[tactic(auto, unfolding(ad_needs_rules::specs::Judged::refusal_of, ad_needs_rules::specs::Checks::first_failing))]
@@ -204,15 +252,19 @@ fn ordinary_refusal(
     number: u32,
     items: &[Item],
     name: &[u8],
+    trace: &mut Trace,
 ) -> Result<Option<Verdict>, AllocError>
     requires { is_live dir.now.objects number ≡ true }
-    ensures { IfOk result (λ refusal. refusal
+    ensures refusal { IfOk result (λ refusal. refusal
         ≡ refusal_of (all_met dir.now token.now
         (ordinary_needs dir.now token.now number (items_of items.now name.now)
         (attr_place dir.now.schema name.now)))) }
+    ensures steps { IfOk result (λ refusal. Steps dir.now token.now trace.old
+        (ordinary_needs dir.now token.now number (items_of items.now name.now)
+        (attr_place dir.now.schema name.now)) trace.new refusal) }
 {
     match dir.schema().attr(name) {
-        Some(attr) => attr_refusal(alloc, dir, token, number, attr, items, name),
+        Some(attr) => attr_refusal(alloc, dir, token, number, attr, items, name, trace),
         None => Ok(None),
     }
 }
@@ -230,22 +282,26 @@ fn refusal_if(
     items: &[Item],
     name: &[u8],
     is_first: bool,
+    trace: &mut Trace,
 ) -> Result<Option<Verdict>, AllocError>
     requires { is_live dir.now.objects number ≡ true }
-    ensures { IfOk result (λ refusal. refusal
+    ensures refusal { IfOk result (λ refusal. refusal
         ≡ refusal_of (all_met dir.now token.now
         (needs_if is_first (named_needs dir.now token.now number flags items.now name.now)))) }
+    ensures steps { IfOk result (λ refusal. Steps dir.now token.now trace.old
+        (needs_if is_first
+        (named_needs dir.now token.now number flags items.now name.now)) trace.new refusal) }
 {
     if !is_first {
         return Ok(None);
     }
     if is_descriptor(name) {
-        return descriptor_refusal(alloc, dir, token, number, flags, items);
+        return descriptor_refusal(alloc, dir, token, number, flags, items, trace);
     }
     if is_password(name) {
-        return password_refusal(alloc, dir, token, number, items, name);
+        return password_refusal(alloc, dir, token, number, items, name, trace);
     }
-    ordinary_refusal(alloc, dir, token, number, items, name)
+    ordinary_refusal(alloc, dir, token, number, items, name, trace)
 }
 
 /// The refusal for the first required right that is missing.
@@ -260,18 +316,23 @@ pub(crate) fn needs_refusal(
     number: u32,
     flags: u8,
     items: &[Item],
+    trace: &mut Trace,
 ) -> Result<Option<Verdict>, AllocError>
     requires { is_live dir.now.objects number ≡ true }
-    ensures { IfOk result (λ refusal. refusal
+    ensures refusal { IfOk result (λ refusal. refusal
         ≡ refusal_of (all_met dir.now token.now
         (modify_needs dir.now token.now number flags items.now))) }
+    ensures steps { IfOk result (λ refusal. Steps dir.now token.now trace.old
+        (modify_needs dir.now token.now number flags items.now) trace.new refusal) }
 {
     let mut named = none_named(alloc, dir.schema())?;
     'each: for i in 0..items.len() {
         let item = &items[i];
         let first = is_first(dir.schema(), named.as_mut_slice(), &items[..i], item);
         let name = item.attr.as_slice();
-        if let Some(verdict) = refusal_if(alloc, dir, token, number, flags, items, name, first)? {
+        if let Some(verdict) = refusal_if(
+            alloc, dir, token, number, flags, items, name, first, trace,
+        )? {
             return Ok(Some(verdict));
         }
     }

@@ -10,6 +10,7 @@ ghost use Rattle.ad_needs.specs.ItemWords.{act_at, verdict_at, verdict_named};
 use crate::item_checks::items_refusal;
 use crate::modify_needs::{needs_refusal, written_sd};
 use crate::sent::copies;
+use crate::trying::no_trace;
 use ad_bytes::List;
 use ad_dir::{Act, ActItem, Dir};
 use ad_dn::Dn;
@@ -95,7 +96,8 @@ fn verdict_at(
     if let Some(refusal) = items_refusal(alloc, dir, number, flags, items)? {
         return Ok(refusal);
     }
-    if let Some(missing) = needs_refusal(alloc, dir, token, number, flags, items)? {
+    let mut trace = no_trace(alloc);
+    if let Some(missing) = needs_refusal(alloc, dir, token, number, flags, items, &mut trace)? {
         return Ok(missing);
     }
     let act = act_of(alloc, dir, number, items, flags)?;

@@ -16,16 +16,16 @@ ghost use Rattle.ad_needs_rules.specs.Renaming.{one_part, is_typed, move_needs, 
 ghost use Rattle.ad_needs.specs.Moves.{parent_by, is_outside, rename_rest, rename_judged, in_place_judged};
 ghost use Rattle.ad_needs.specs.Moves.{moved_judged};
 ghost use Rattle.ad_needs_rules.specs.Judged.{refusal_of};
+ghost use Rattle.ad_needs.specs.Steps.{Steps};
 ghost use Rattle.ad_needs_rules.specs.Verdicts.{verdict_of};
 
 use crate::deleting::unless_leaves;
+use crate::trying::{Trace, no_trace, require};
 use ad_dir::{Act, Dir, ROOT, class_of, goes_with, live_object, naming_name, naming_of, parent_of};
 use ad_dn::{Dn, Rdn};
 use ad_ids::Token;
 use ad_ldap::{Rename, result_code};
-use ad_needs_rules::{
-    Right, Verdict, matched, on_children, read_name, to_write, unless_granted, visible,
-};
+use ad_needs_rules::{Right, Verdict, matched, on_children, read_name, to_write, visible};
 use ad_schema::{AttrId, ClassId, Schema};
 use ad_schema_classes::same_name;
 use std::alloc::{AllocError, Global};
@@ -96,21 +96,24 @@ fn unless_moves(
     token: &Token,
     number: u32,
     parent: u32,
+    trace: &mut Trace,
 ) -> Result<Option<Verdict>, AllocError>
     requires live { is_live dir.now.objects number ≡ true }
     requires below { number ≢ root }
     requires parent { is_live dir.now.objects parent ≡ true }
-    ensures { IfOk result (λ refusal. refusal
+    ensures refusal { IfOk result (λ refusal. refusal
         ≡ refusal_of (all_met dir.now token.now (move_needs dir.now number parent))) }
+    ensures steps { IfOk result (λ refusal. Steps dir.now token.now trace.old
+        (move_needs dir.now number parent) trace.new refusal) }
 {
     if parent_of(dir, number) == parent {
         return Ok(None);
     }
-    if let Some(refusal) = unless_leaves(alloc, dir, token, number)? {
+    if let Some(refusal) = unless_leaves(alloc, dir, token, number, trace)? {
         return Ok(Some(refusal));
     }
     let create = on_children(dir, parent, Right::CreateChild, class_of(dir, number));
-    unless_granted(alloc, dir, token, &create)
+    require(alloc, dir, token, &create, trace)
 }
 
 // The refusal where the attribute of a live object may not be written.
@@ -120,13 +123,16 @@ fn unless_writes(
     token: &Token,
     number: u32,
     attr: AttrId,
+    trace: &mut Trace,
 ) -> Result<Option<Verdict>, AllocError>
     requires live { is_live dir.now.objects number ≡ true }
     requires attr { attr.0 < length (attrs_of dir.now.schema) }
-    ensures { IfOk result (λ refusal. refusal
+    ensures refusal { IfOk result (λ refusal. refusal
         ≡ refusal_of (all_met dir.now token.now (to_write dir.now number attr.0 ∷ []))) }
+    ensures steps { IfOk result (λ refusal. Steps dir.now token.now trace.old
+        (to_write dir.now number attr.0 ∷ []) trace.new refusal) }
 {
-    unless_granted(alloc, dir, token, &to_write(dir, number, attr))
+    require(alloc, dir, token, &to_write(dir, number, attr), trace)
 }
 
 // The same of `name`, where the schema has it.
@@ -135,14 +141,17 @@ fn unless_names(
     dir: &Dir,
     token: &Token,
     number: u32,
+    trace: &mut Trace,
 ) -> Result<Option<Verdict>, AllocError>
     requires { is_live dir.now.objects number ≡ true }
-    ensures { IfOk result (λ refusal. refusal
+    ensures refusal { IfOk result (λ refusal. refusal
         ≡ refusal_of (all_met dir.now token.now
         (name_needs dir.now number (attr_place dir.now.schema (codes "name"))))) }
+    ensures steps { IfOk result (λ refusal. Steps dir.now token.now trace.old
+        (name_needs dir.now number (attr_place dir.now.schema (codes "name"))) trace.new refusal) }
 {
     match dir.schema().attr(b"name") {
-        Some(attr) => unless_writes(alloc, dir, token, number, attr),
+        Some(attr) => unless_writes(alloc, dir, token, number, attr, trace),
         None => Ok(None),
     }
 }
@@ -153,37 +162,48 @@ fn unless_named(
     dir: &Dir,
     token: &Token,
     number: u32,
+    trace: &mut Trace,
 ) -> Result<Option<Verdict>, AllocError>
     requires { is_live dir.now.objects number ≡ true }
-    ensures { IfOk result (λ refusal. refusal ≡ refusal_of (all_met dir.now token.now
+    ensures refusal { IfOk result (λ refusal. refusal ≡ refusal_of (all_met dir.now token.now
         (to_write dir.now number (naming_of dir.now.schema (class_at dir.now number))
         ∷ name_needs dir.now number (attr_place dir.now.schema (codes "name"))))) }
+    ensures steps { IfOk result (λ refusal. Steps dir.now token.now trace.old
+        (to_write dir.now number (naming_of dir.now.schema (class_at dir.now number))
+        ∷ name_needs dir.now number (attr_place dir.now.schema (codes "name"))) trace.new refusal) }
 {
     let naming = naming_of(dir, number);
-    if let Some(refusal) = unless_writes(alloc, dir, token, number, naming)? {
+    if let Some(refusal) = unless_writes(alloc, dir, token, number, naming, trace)? {
         return Ok(Some(refusal));
     }
-    unless_names(alloc, dir, token, number)
+    unless_names(alloc, dir, token, number, trace)
 }
 
-// The refusal where what a rename needs is missing.
-fn unless_renames(
+/// The refusal where what a rename needs is missing.
+///
+/// # Errors
+///
+/// Memory ran out.
+pub(crate) fn unless_renames(
     alloc: Global,
     dir: &Dir,
     token: &Token,
     number: u32,
     parent: u32,
+    trace: &mut Trace,
 ) -> Result<Option<Verdict>, AllocError>
     requires live { is_live dir.now.objects number ≡ true }
     requires below { number ≢ root }
     requires parent { is_live dir.now.objects parent ≡ true }
-    ensures { IfOk result (λ refusal. refusal
+    ensures refusal { IfOk result (λ refusal. refusal
         ≡ refusal_of (all_met dir.now token.now (rename_needs dir.now number parent))) }
+    ensures steps { IfOk result (λ refusal. Steps dir.now token.now trace.old
+        (rename_needs dir.now number parent) trace.new refusal) }
 {
-    if let Some(refusal) = unless_moves(alloc, dir, token, number, parent)? {
+    if let Some(refusal) = unless_moves(alloc, dir, token, number, parent, trace)? {
         return Ok(Some(refusal));
     }
-    unless_named(alloc, dir, token, number)
+    unless_named(alloc, dir, token, number, trace)
 }
 
 // ---- the checks
@@ -212,7 +232,8 @@ fn unless_lawful(
         return Ok(Some(Verdict::Refused(result_code::UNWILLING_TO_PERFORM)));
     }
     let parent = new_parent(dir, number, superior);
-    unless_renames(alloc, dir, token, number, parent)
+    let mut trace = no_trace(alloc);
+    unless_renames(alloc, dir, token, number, parent, &mut trace)
 }
 
 // What is said after the names.

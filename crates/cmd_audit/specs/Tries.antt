@@ -9,7 +9,7 @@ use Rattle.ad_ldap.specs.MessageReading.{message_of}
 use Rattle.ad_ldap.specs.Settings.{settings_of}
 use Rattle.ad_dir_model.specs.Directory.{Directory}
 use Rattle.ad_types.specs.Tried.{TriedValue}
-use Rattle.ad_needs_tries.specs.Traces.{trace_of}
+use Rattle.ad_needs.specs.Traces.{trace_of}
 use Rattle.ad_search.specs.Reads.{reads_of}
 use Rattle.ad_search.specs.Compared.{compared_of}
 

@@ -7,7 +7,7 @@ ghost use Rattle.cmd_audit.specs.Steps.{body_looks};
 ghost use Rattle.cmd_audit.specs.Tries.{message_tries, message_looks};
 
 use crate::events::{Stamp, lines_of};
-use crate::messages::hear;
+use crate::messages::accesses_of;
 use crate::replay::Replay;
 use ad_dir::Dir;
 use ad_frames::{Frame, FrameBody};
@@ -33,11 +33,11 @@ fn judge_message(
         (message_tries dir.now token.now bytes.now)) }
     ensures looks { IfOk result (λ judged. judged.looks ≡ message_looks bytes.now) }
 {
-    let heard = hear(alloc, dir, token, bytes)?;
-    let text = lines_of(alloc, dir, token, stamp, heard.tried.as_slice())?;
+    let accesses = accesses_of(alloc, dir, token, bytes)?;
+    let text = lines_of(alloc, dir, token, stamp, accesses.tried.as_slice())?;
     Ok(Judged {
         text,
-        looks: heard.looks,
+        looks: accesses.looks,
     })
 }
 

@@ -11,14 +11,14 @@ ghost use Rattle.cmd_audit.specs.Tries.{with_settings, change_tries, op_tries, m
 use ad_dir::Dir;
 use ad_ids::Token;
 use ad_ldap::{Compare, LdapFault, Message, Op, Search, read_message, settings};
-use ad_needs_tries::trace;
+use ad_needs::trace;
 use ad_search::{compared, reads};
 use ad_types::Tried;
 use std::alloc::{AllocError, Global};
 
 /// What a message tries, and whether it is one that only looks.
 #[derive(Drop)]
-pub(crate) struct Heard {
+pub(crate) struct Accesses {
     pub tried: Vec<Tried>,
     pub looks: bool,
 }
@@ -120,24 +120,24 @@ fn of_message(
     dir: &Dir,
     token: &Token,
     message: &Message,
-) -> Result<Heard, AllocError>
-    ensures tried { IfOk result (λ heard. tried_values heard.tried.items
+) -> Result<Accesses, AllocError>
+    ensures tried { IfOk result (λ accesses. tried_values accesses.tried.items
         ≡ op_tries dir.now token.now (message_seen message.now) (op_seen message.now.op)) }
-    ensures looks { IfOk result (λ heard. heard.looks ≡ looks (op_seen message.now.op)) }
+    ensures looks { IfOk result (λ accesses. accesses.looks ≡ looks (op_seen message.now.op)) }
 {
     let tried = of_operation(alloc, dir, token, message)?;
-    Ok(Heard {
+    Ok(Accesses {
         tried,
         looks: looks(&message.op),
     })
 }
 
 // What bytes that encode no message try.
-fn of_none(alloc: Global) -> Heard
+fn of_none(alloc: Global) -> Accesses
     ensures tried { tried_values result.tried.items ≡ [] }
     ensures looks { result.looks ≡ false }
 {
-    Heard {
+    Accesses {
         tried: Vec::new(alloc),
         looks: false,
     }
@@ -149,15 +149,15 @@ fn of_none(alloc: Global) -> Heard
 ///
 /// Out of memory.
 #[tactic(auto, unfolding(crate::specs::Tries::message_tries, crate::specs::Tries::message_looks))]
-pub(crate) fn hear(
+pub(crate) fn accesses_of(
     alloc: Global,
     dir: &Dir,
     token: &Token,
     bytes: &[u8],
-) -> Result<Heard, AllocError>
-    ensures tried { IfOk result (λ heard. tried_values heard.tried.items
+) -> Result<Accesses, AllocError>
+    ensures tried { IfOk result (λ accesses. tried_values accesses.tried.items
         ≡ message_tries dir.now token.now bytes.now) }
-    ensures looks { IfOk result (λ heard. heard.looks ≡ message_looks bytes.now) }
+    ensures looks { IfOk result (λ accesses. accesses.looks ≡ message_looks bytes.now) }
 {
     match read_message(alloc, bytes) {
         Ok(message) => of_message(alloc, dir, token, &message),

@@ -15,4 +15,6 @@ mod inherit;
 #[cfg(test)]
 mod queue;
 #[cfg(test)]
+mod rights;
+#[cfg(test)]
 mod sd;

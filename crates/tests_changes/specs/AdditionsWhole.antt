@@ -11,7 +11,7 @@ use Rattle.ad_bytes.specs.Numbers.{be_at, be_bytes, byte_at, le_at, le_bytes, pa
 use Rattle.ad_bytes.specs.Reading.{many_at}
 use Rattle.ad_change.specs.Adding.{add_later, all_held, fits_in, new_object}
 use Rattle.ad_change.specs.Effects.{effect, later_checks, made}
-use Rattle.ad_change.specs.Tree.{depth_of, depth_within, is_light_with}
+use Rattle.ad_change.specs.Tree.{depth_of, depth_within, fits_weight_limit}
 use Rattle.ad_change_values.specs.Values.{all_stored, are_repeated, stored_of, target_of}
 use Rattle.ad_dir_model.specs.Attributes.{is_single, attr_name, rule_place, syntax_at}
 use Rattle.ad_change_values.specs.Values.{value_in as value_in_of_values}
@@ -72,7 +72,7 @@ unfolding granted_as_owner granted_by_entries matches speaks has_bit entry_at fi
     list_at_of_reading list_header_at
     shape_of be_at be_bytes byte_at le_at le_bytes part_at many_at add_later all_held fits_in new_object effect
     later_checks made depth_of
-    depth_within is_light_with all_stored are_repeated is_single stored_of target_of value_in_of_values chain
+    depth_within fits_weight_limit all_stored are_repeated is_single stored_of target_of value_in_of_values chain
     chain_within first_along grown
     list_at_of_chains listed naming_by option_at set_of set_within place_of same_name folded closed dn_of step_from
     rdns_text value_text
@@ -104,7 +104,7 @@ unfolding granted_as_owner granted_by_entries matches speaks has_bit entry_at fi
     list_at_of_reading list_header_at
     shape_of be_at be_bytes byte_at le_at le_bytes part_at many_at add_later all_held fits_in new_object effect
     later_checks made depth_of
-    depth_within is_light_with all_stored are_repeated is_single stored_of target_of value_in_of_values chain
+    depth_within fits_weight_limit all_stored are_repeated is_single stored_of target_of value_in_of_values chain
     chain_within first_along grown
     list_at_of_chains listed naming_by option_at set_of set_within place_of same_name folded closed dn_of step_from
     rdns_text value_text
@@ -135,7 +135,7 @@ unfolding granted_as_owner granted_by_entries matches speaks has_bit entry_at fi
     list_at_of_reading list_header_at
     shape_of be_at be_bytes byte_at le_at le_bytes part_at many_at add_later all_held fits_in new_object effect
     later_checks made depth_of
-    depth_within is_light_with all_stored are_repeated is_single stored_of target_of value_in_of_values chain
+    depth_within fits_weight_limit all_stored are_repeated is_single stored_of target_of value_in_of_values chain
     chain_within first_along grown
     list_at_of_chains listed naming_by option_at set_of set_within place_of same_name folded closed dn_of step_from
     rdns_text value_text
@@ -167,7 +167,7 @@ unfolding granted_as_owner granted_by_entries matches speaks has_bit entry_at fi
     list_at_of_reading list_header_at
     shape_of be_at be_bytes byte_at le_at le_bytes part_at many_at add_later all_held fits_in new_object effect
     later_checks made depth_of
-    depth_within is_light_with all_stored are_repeated is_single stored_of target_of value_in_of_values chain
+    depth_within fits_weight_limit all_stored are_repeated is_single stored_of target_of value_in_of_values chain
     chain_within first_along grown
     list_at_of_chains listed naming_by option_at set_of set_within place_of same_name folded closed dn_of step_from
     rdns_text value_text
@@ -198,7 +198,7 @@ unfolding granted_as_owner granted_by_entries matches speaks has_bit entry_at fi
     list_at_of_reading list_header_at
     shape_of be_at be_bytes byte_at le_at le_bytes part_at many_at add_later all_held fits_in new_object effect
     later_checks made depth_of
-    depth_within is_light_with all_stored are_repeated is_single stored_of target_of value_in_of_values chain
+    depth_within fits_weight_limit all_stored are_repeated is_single stored_of target_of value_in_of_values chain
     chain_within first_along grown
     list_at_of_chains listed naming_by option_at set_of set_within place_of same_name folded closed dn_of step_from
     rdns_text value_text
@@ -229,7 +229,7 @@ unfolding granted_as_owner granted_by_entries matches speaks has_bit entry_at fi
     list_at_of_reading list_header_at
     shape_of be_at be_bytes byte_at le_at le_bytes part_at many_at add_later all_held fits_in new_object effect
     later_checks made depth_of
-    depth_within is_light_with all_stored are_repeated is_single stored_of target_of value_in_of_values chain
+    depth_within fits_weight_limit all_stored are_repeated is_single stored_of target_of value_in_of_values chain
     chain_within first_along grown
     list_at_of_chains listed naming_by option_at set_of set_within place_of same_name folded closed dn_of step_from
     rdns_text value_text

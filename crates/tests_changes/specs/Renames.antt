@@ -12,7 +12,7 @@ use Rattle.ad_bytes.specs.Numbers.{be_at, byte_at, le_at}
 use Rattle.ad_bytes.specs.Reading.{many_at}
 use Rattle.ad_change.specs.Effects.{effect, later_checks, made}
 use Rattle.ad_change.specs.Renaming.{rename_later}
-use Rattle.ad_change.specs.Tree.{depth_of, depth_within, is_light_with, is_shallow_with}
+use Rattle.ad_change.specs.Tree.{depth_of, depth_within, fits_weight_limit, is_shallow_with}
 use Rattle.ad_schema_classes.specs.Chains.{chain, chain_within, first_along, list_at, naming_by, option_at}
 use Rattle.ad_schema_classes.specs.Names.{place_of, same_name}
 use Rattle.ad_dn.specs.Fold.{folded}
@@ -64,7 +64,7 @@ renames token dn rdn superior = effect base token
 pub two_parts : renames admin (codes "CN=bob,OU=staff,DC=corp,DC=example") (codes "CN=a,CN=b") None ≡ answered 34 [] []
 unfolding granted_as_owner granted_by_entries matches speaks has_bit be_at byte_at le_at many_at effect later_checks
     made rename_later depth_of
-    depth_within is_light_with is_shallow_with chain chain_within first_along list_at naming_by option_at place_of
+    depth_within fits_weight_limit is_shallow_with chain chain_within first_along list_at naming_by option_at place_of
     same_name folded dn_of step_from
     rdns_text value_text header_at sid_at first_failing letters_of right_codes is_met need_text want_text wants_text
     new_parent
@@ -89,7 +89,7 @@ pub no_superior : renames admin (codes "CN=bob,OU=staff,DC=corp,DC=example") (co
     ≡ answered 32 (codes "DC=corp,DC=example") []
 unfolding granted_as_owner granted_by_entries matches speaks has_bit be_at byte_at le_at many_at effect later_checks
     made rename_later depth_of
-    depth_within is_light_with is_shallow_with chain chain_within first_along list_at naming_by option_at place_of
+    depth_within fits_weight_limit is_shallow_with chain chain_within first_along list_at naming_by option_at place_of
     same_name folded dn_of step_from
     rdns_text value_text header_at sid_at first_failing letters_of right_codes is_met need_text want_text wants_text
     new_parent
@@ -112,7 +112,7 @@ no_superior = refl
 pub another_type : renames admin (codes "CN=bob,OU=staff,DC=corp,DC=example") (codes "OU=bob") None ≡ answered 64 [] []
 unfolding granted_as_owner granted_by_entries matches speaks has_bit be_at byte_at le_at many_at effect later_checks
     made rename_later depth_of
-    depth_within is_light_with is_shallow_with chain chain_within first_along list_at naming_by option_at place_of
+    depth_within fits_weight_limit is_shallow_with chain chain_within first_along list_at naming_by option_at place_of
     same_name folded dn_of step_from
     rdns_text value_text header_at sid_at first_failing letters_of right_codes is_met need_text want_text wants_text
     new_parent
@@ -136,7 +136,7 @@ pub into_itself : renames admin (codes "OU=staff,DC=corp,DC=example") (codes "OU
     (Some (codes "OU=staff,DC=corp,DC=example")) ≡ answered 53 [] []
 unfolding granted_as_owner granted_by_entries matches speaks has_bit be_at byte_at le_at many_at effect later_checks
     made rename_later depth_of
-    depth_within is_light_with is_shallow_with chain chain_within first_along list_at naming_by option_at place_of
+    depth_within fits_weight_limit is_shallow_with chain chain_within first_along list_at naming_by option_at place_of
     same_name folded dn_of step_from
     rdns_text value_text header_at sid_at first_failing letters_of right_codes is_met need_text want_text wants_text
     new_parent
@@ -160,7 +160,7 @@ pub below_itself : renames admin (codes "OU=staff,DC=corp,DC=example") (codes "O
     (Some (codes "CN=bob,OU=staff,DC=corp,DC=example")) ≡ answered 53 [] []
 unfolding granted_as_owner granted_by_entries matches speaks has_bit be_at byte_at le_at many_at effect later_checks
     made rename_later depth_of
-    depth_within is_light_with is_shallow_with chain chain_within first_along list_at naming_by option_at place_of
+    depth_within fits_weight_limit is_shallow_with chain chain_within first_along list_at naming_by option_at place_of
     same_name folded dn_of step_from
     rdns_text value_text header_at sid_at first_failing letters_of right_codes is_met need_text want_text wants_text
     new_parent
@@ -184,7 +184,7 @@ pub without_a_need : renames ann (codes "CN=bob,OU=staff,DC=corp,DC=example") (c
     ≡ answered 50 [] (codes "missing WP 01010101-0101-0101-0101-010101010101 at CN=bob,OU=staff,DC=corp,DC=example")
 unfolding granted_as_owner granted_by_entries matches speaks has_bit be_at byte_at le_at many_at effect later_checks
     made rename_later depth_of
-    depth_within is_light_with is_shallow_with chain chain_within first_along list_at naming_by option_at place_of
+    depth_within fits_weight_limit is_shallow_with chain chain_within first_along list_at naming_by option_at place_of
     same_name folded dn_of step_from
     rdns_text value_text header_at sid_at first_failing letters_of right_codes is_met need_text want_text wants_text
     new_parent
@@ -208,7 +208,7 @@ pub unlawful_parent : renames admin (codes "CN=bob,OU=staff,DC=corp,DC=example")
     (Some (codes "DC=corp,DC=example")) ≡ answered 64 [] []
 unfolding granted_as_owner granted_by_entries matches speaks has_bit be_at byte_at le_at many_at effect later_checks
     made rename_later depth_of
-    depth_within is_light_with is_shallow_with chain chain_within first_along list_at naming_by option_at place_of
+    depth_within fits_weight_limit is_shallow_with chain chain_within first_along list_at naming_by option_at place_of
     same_name folded dn_of step_from
     rdns_text value_text header_at sid_at first_failing letters_of right_codes is_met need_text want_text wants_text
     new_parent
@@ -231,7 +231,7 @@ unlawful_parent = refl
 pub taken : renames admin (codes "CN=bob,OU=staff,DC=corp,DC=example") (codes "CN=ANN") None ≡ answered 68 [] []
 unfolding granted_as_owner granted_by_entries matches speaks has_bit be_at byte_at le_at many_at effect later_checks
     made rename_later depth_of
-    depth_within is_light_with is_shallow_with chain chain_within first_along list_at naming_by option_at place_of
+    depth_within fits_weight_limit is_shallow_with chain chain_within first_along list_at naming_by option_at place_of
     same_name folded dn_of step_from
     rdns_text value_text header_at sid_at first_failing letters_of right_codes is_met need_text want_text wants_text
     new_parent
@@ -255,7 +255,7 @@ pub in_place : renames admin (codes "OU=staff,DC=corp,DC=example") (codes "OU=ST
     (Some (codes "DC=corp,DC=example")) ≡ changes_to (changed base (record staff { name = codes "STAFF" }))
 unfolding granted_as_owner granted_by_entries matches speaks has_bit be_at byte_at le_at many_at effect later_checks
     made rename_later depth_of
-    depth_within is_light_with is_shallow_with chain chain_within first_along list_at naming_by option_at place_of
+    depth_within fits_weight_limit is_shallow_with chain chain_within first_along list_at naming_by option_at place_of
     same_name folded dn_of step_from
     rdns_text value_text header_at sid_at first_failing letters_of right_codes is_met need_text want_text wants_text
     new_parent

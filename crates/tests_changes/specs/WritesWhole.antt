@@ -13,7 +13,7 @@ use Rattle.ad_bytes.specs.Reading.{many_at}
 use Rattle.ad_change.specs.Effects.{effect, later_checks, made}
 use Rattle.ad_change_values.specs.Items.{after_item, after_items, all_item_checks, values_after, without}
 use Rattle.ad_change.specs.Modifying.{modify_later, modify_made}
-use Rattle.ad_change.specs.Tree.{is_light_with}
+use Rattle.ad_change.specs.Tree.{fits_weight_limit}
 use Rattle.ad_change_values.specs.Values.{all_stored, are_repeated, stored_of, target_of}
 use Rattle.ad_dir_model.specs.Attributes.{is_single, attr_name, rule_place, syntax_at}
 use Rattle.ad_change_values.specs.Values.{value_in as value_in_of_values}
@@ -73,7 +73,7 @@ unfolding granted_as_owner granted_by_entries matches speaks has_bit entry_at fi
     list_at_of_reading list_header_at
     shape_of be_at be_bytes byte_at le_at le_bytes part_at many_at effect later_checks made after_item after_items
     all_item_checks modify_later
-    modify_made values_after without is_light_with all_stored are_repeated is_single stored_of target_of
+    modify_made values_after without fits_weight_limit all_stored are_repeated is_single stored_of target_of
     value_in_of_values chain chain_within
     first_along grown has_guid list_at_of_chains listed naming_by option_at set_of set_within place_of same_name
     folded closed dn_of step_from
@@ -105,7 +105,7 @@ unfolding granted_as_owner granted_by_entries matches speaks has_bit entry_at fi
     list_at_of_reading list_header_at
     shape_of be_at be_bytes byte_at le_at le_bytes part_at many_at effect later_checks made after_item after_items
     all_item_checks modify_later
-    modify_made values_after without is_light_with all_stored are_repeated is_single stored_of target_of
+    modify_made values_after without fits_weight_limit all_stored are_repeated is_single stored_of target_of
     value_in_of_values chain chain_within
     first_along grown has_guid list_at_of_chains listed naming_by option_at set_of set_within place_of same_name
     folded closed dn_of step_from
@@ -137,7 +137,7 @@ unfolding granted_as_owner granted_by_entries matches speaks has_bit entry_at fi
     list_at_of_reading list_header_at
     shape_of be_at be_bytes byte_at le_at le_bytes part_at many_at effect later_checks made after_item after_items
     all_item_checks modify_later
-    modify_made values_after without is_light_with all_stored are_repeated is_single stored_of target_of
+    modify_made values_after without fits_weight_limit all_stored are_repeated is_single stored_of target_of
     value_in_of_values chain chain_within
     first_along grown has_guid list_at_of_chains listed naming_by option_at set_of set_within place_of same_name
     folded closed dn_of step_from
@@ -169,7 +169,7 @@ unfolding granted_as_owner granted_by_entries matches speaks has_bit entry_at fi
     list_at_of_reading list_header_at
     shape_of be_at be_bytes byte_at le_at le_bytes part_at many_at effect later_checks made after_item after_items
     all_item_checks modify_later
-    modify_made values_after without is_light_with all_stored are_repeated is_single stored_of target_of
+    modify_made values_after without fits_weight_limit all_stored are_repeated is_single stored_of target_of
     value_in_of_values chain chain_within
     first_along grown has_guid list_at_of_chains listed naming_by option_at set_of set_within place_of same_name
     folded closed dn_of step_from
@@ -203,7 +203,7 @@ unfolding granted_as_owner granted_by_entries matches speaks has_bit entry_at fi
     list_at_of_reading list_header_at
     shape_of be_at be_bytes byte_at le_at le_bytes part_at many_at effect later_checks made after_item after_items
     all_item_checks modify_later
-    modify_made values_after without is_light_with all_stored are_repeated is_single stored_of target_of
+    modify_made values_after without fits_weight_limit all_stored are_repeated is_single stored_of target_of
     value_in_of_values chain chain_within
     first_along grown has_guid list_at_of_chains listed naming_by option_at set_of set_within place_of same_name
     folded closed dn_of step_from
@@ -238,7 +238,7 @@ unfolding granted_as_owner granted_by_entries matches speaks has_bit entry_at fi
     list_at_of_reading list_header_at
     shape_of be_at be_bytes byte_at le_at le_bytes part_at many_at effect later_checks made after_item after_items
     all_item_checks modify_later
-    modify_made values_after without is_light_with all_stored are_repeated is_single stored_of target_of
+    modify_made values_after without fits_weight_limit all_stored are_repeated is_single stored_of target_of
     value_in_of_values chain chain_within
     first_along grown has_guid list_at_of_chains listed naming_by option_at set_of set_within place_of same_name
     folded closed dn_of step_from
@@ -270,7 +270,7 @@ unfolding granted_as_owner granted_by_entries matches speaks has_bit entry_at fi
     list_at_of_reading list_header_at
     shape_of be_at be_bytes byte_at le_at le_bytes part_at many_at effect later_checks made after_item after_items
     all_item_checks modify_later
-    modify_made values_after without is_light_with all_stored are_repeated is_single stored_of target_of
+    modify_made values_after without fits_weight_limit all_stored are_repeated is_single stored_of target_of
     value_in_of_values chain chain_within
     first_along grown has_guid list_at_of_chains listed naming_by option_at set_of set_within place_of same_name
     folded closed dn_of step_from
@@ -303,7 +303,7 @@ unfolding granted_as_owner granted_by_entries matches speaks has_bit entry_at fi
     list_at_of_reading list_header_at
     shape_of be_at be_bytes byte_at le_at le_bytes part_at many_at effect later_checks made after_item after_items
     all_item_checks modify_later
-    modify_made values_after without is_light_with all_stored are_repeated is_single stored_of target_of
+    modify_made values_after without fits_weight_limit all_stored are_repeated is_single stored_of target_of
     value_in_of_values chain chain_within
     first_along grown has_guid list_at_of_chains listed naming_by option_at set_of set_within place_of same_name
     folded closed dn_of step_from

@@ -6,7 +6,8 @@ use Rattle.ad_dir_model.specs.Changes.{new_sid}
 use Rattle.ad_dir_model.specs.Limits.{max_counter}
 use Rattle.ad_change.specs.Adding.{new_object}
 use Rattle.ad_change.specs.Effects.{later_checks}
-use Rattle.ad_change.proofs.AddMay.{addition_is, attrs_within, counters_fit, new_own, new_place, new_place_back}
+use Rattle.ad_change.proofs.AddMay.{addition_is, counters_fit, new_own, new_place, new_place_back}
+use Rattle.ad_change.proofs.Lower.{reads_back, sids_read}
 use Rattle.ad_change.proofs.ResolvedValues.{addition}
 use Rattle.ad_change.proofs.adding.add_plan.Goals as goal
 
@@ -20,7 +21,7 @@ judge_add-requires c =
       parent = is.parent_live;
       class = is.class_within;
       name = is.value;
-      attrs = attrs_within c.args.dir.now added.values.now (is.attrs c.attrs_are_bytes.ensures);
+      attrs = is.within;
     }
 
 pub new_edits-requires : goal.new_edits-requires
@@ -31,7 +32,7 @@ new_edits-requires c =
     c.requires.sound c.requires.resolved in
     let place = new_place dir c.args.token.now added.parent added.class.0 added.name.now added.values.now
     added.sd.now c.in-Ok.object
-    (is_some (new_sid dir added.class.0)) c.in-Ok.ensures.1 in
+    (is_some (new_sid dir added.class.0)) c.in-Ok.ensures.1.0 in
     let fit = counters_fit dir c.args.token.now added.parent added.class.0 added.name.now added.values.now
     added.sd.now c.in-Ok.ensures.0 in
     record {
@@ -51,16 +52,15 @@ returns-in_ok-edits-in-Ok c =
     c.requires.sound c.requires.resolved in
     let back = new_place_back dir token added.parent added.class.0 added.name.now added.values.now added.sd.now
     c.in-Ok.object
-    (is_some (new_sid dir added.class.0)) c.in-Ok.ensures.1 in
+    (is_some (new_sid dir added.class.0)) c.in-Ok.ensures.1.0 in
     let o = new_object dir token added.parent added.class.0 added.name.now added.values.now added.sd.now in
-    addition_is c.what_is_shown_reads_back.ensures.read
-    (record { read = c.a_sid_is_read_as_spelled.ensures; lengths = c.a_sid_has_8_bytes_and_4_for_each.ensures })
-    dir token added.parent added.class added.name.now added.values.now added.sd.now c.in_ok-edits-in-Ok.edits
+    addition_is reads_back sids_read dir token added.parent added.class added.name.now added.values.now added.sd.now
+    c.in_ok-edits-in-Ok.edits
     c.requires.sound c.domain_is_sid.ensures
-    is c.attrs_are_bytes.ensures c.in-Ok.ensures.0
+    is c.in-Ok.ensures.1.1 c.in-Ok.ensures.0
     (c.in_ok-edits-in-Ok.ensures o back.0 back.1
     (new_own dir token added.parent added.class.0 added.name.now added.values.now added.sd.now)
-    c.in-Ok.ensures.1.seen)
+    c.in-Ok.ensures.1.0.seen)
 
 pub returns-in_ok-code-in-Err : goal.returns-in_ok-code-in-Err
 unfolding later_checks

@@ -33,7 +33,7 @@ returns-then-not-free c =
 pub new_object-requires-clause-rise : goal.new_object-requires-clause-rise
 new_object-requires-clause-rise c =
     let added = c.args.added.now in
-    subst (AttrsRiseFrom 0) (sym c.in_ok-held.ensures.1)
+    subst (AttrsRiseFrom 0) (sym c.in_ok-held.ensures.1.0)
     (rise_all c.args.dir.now added.values.now)
 
 pub returns-then-not-fits_in : goal.returns-then-not-fits_in
@@ -45,7 +45,7 @@ returns-then-not-fits_in c =
     let new : IsNewObject dir o c.in_ok-object.object c.gets_sid-gets.result =
     made_is_new dir c.args.token.now added.parent added.class.0 added.name.now added.values.now added.sd.now
     c.in_ok-object.object
-    (map held_seen c.in_ok-held.held.items) c.gets_sid-gets.result c.in_ok-held.ensures.1 c.in_ok-object.ensures
+    (map held_seen c.in_ok-held.held.items) c.gets_sid-gets.result c.in_ok-held.ensures.1.0 c.in_ok-object.ensures
     c.gets_sid-gets.ensures in
     add_full dir c.args.token.now added.parent added.class.0 added.name.now added.values.now added.sd.now
     c.in_ok-held.ensures.0
@@ -62,14 +62,17 @@ returns c =
     let new : IsNewObject dir o c.in_ok-object.object c.gets_sid-gets.result =
     made_is_new dir c.args.token.now added.parent added.class.0 added.name.now added.values.now added.sd.now
     c.in_ok-object.object
-    (map held_seen c.in_ok-held.held.items) c.gets_sid-gets.result c.in_ok-held.ensures.1 c.in_ok-object.ensures
+    (map held_seen c.in_ok-held.held.items) c.gets_sid-gets.result c.in_ok-held.ensures.1.0 c.in_ok-object.ensures
     c.gets_sid-gets.ensures in (
       add_fine dir c.args.token.now added.parent added.class.0 added.name.now added.values.now added.sd.now
           c.in_ok-held.ensures.0
           (ap (λ (n : List ℕ). is_none (child_named dir.objects added.parent n)) (sym c.as_slice.ensures)
           ∙ sym c.in_ok-free.ensures ∙ c.if-not-free.false)
           (sym (c.fits_in.ensures o new) ∙ c.if-not-fits_in.false),
-      made_is_new dir c.args.token.now added.parent added.class.0 added.name.now added.values.now added.sd.now
-          c.in_ok-object.object
-          (map held_seen c.in_ok-held.held.items) _ c.in_ok-held.ensures.1 c.in_ok-object.ensures refl,
+      (
+        made_is_new dir c.args.token.now added.parent added.class.0 added.name.now added.values.now added.sd.now
+            c.in_ok-object.object
+            (map held_seen c.in_ok-held.held.items) _ c.in_ok-held.ensures.1.0 c.in_ok-object.ensures refl,
+        c.in_ok-held.ensures.1.1,
+      ),
     )

@@ -34,7 +34,7 @@ returns-then-repeated c =
     ∙ c.in_ok-read.ensures.0 in
     attr_twice dir attr sent none
     (ap (λ (s : List SchemaRecord). is_given_twice s attr.0 sent) (sym c.schema-schema.ensures)
-    ∙ ap are_repeated (sym (c.as_slice.ensures ∙ c.in_ok-read.ensures.1)) ∙ sym c.in_ok-repeated.ensures
+    ∙ ap are_repeated (sym (c.as_slice.ensures ∙ c.in_ok-read.ensures.1.0)) ∙ sym c.in_ok-repeated.ensures
     ∙ c.if-repeated.true)
 
 pub returns-then-too_many : goal.returns-then-too_many
@@ -47,7 +47,7 @@ returns-then-too_many c =
     ∙ c.in_ok-read.ensures.0 in
     let once : is_given_twice dir.schema attr.0 sent ≡ false =
     ap (λ (s : List SchemaRecord). is_given_twice s attr.0 sent) (sym c.schema-schema.ensures)
-    ∙ ap are_repeated (sym (c.as_slice.ensures ∙ c.in_ok-read.ensures.1)) ∙ sym c.in_ok-repeated.ensures
+    ∙ ap are_repeated (sym (c.as_slice.ensures ∙ c.in_ok-read.ensures.1.0)) ∙ sym c.in_ok-repeated.ensures
     ∙ c.if-repeated.false in
     attr_many dir attr sent none once
     (ap (λ (s : List SchemaRecord). is_single s attr.0 && nat_lt 1 (length sent)) (sym c.schema-schema.ensures)
@@ -64,7 +64,7 @@ returns-in_err-stored c =
     ∙ c.in_ok-read.ensures.0 in
     let once : is_given_twice dir.schema attr.0 sent ≡ false =
     ap (λ (s : List SchemaRecord). is_given_twice s attr.0 sent) (sym c.schema-schema.ensures)
-    ∙ ap are_repeated (sym (c.as_slice.ensures ∙ c.in_ok-read.ensures.1)) ∙ sym c.in_ok-repeated.ensures
+    ∙ ap are_repeated (sym (c.as_slice.ensures ∙ c.in_ok-read.ensures.1.0)) ∙ sym c.in_ok-repeated.ensures
     ∙ c.if-repeated.false in
     let few : (is_single dir.schema attr.0 && nat_lt 1 (length sent)) ≡ false =
     ap (λ (s : List SchemaRecord). is_single s attr.0 && nat_lt 1 (length sent)) (sym c.schema-schema.ensures)
@@ -83,7 +83,7 @@ returns-then-not-has_no_empty_password c =
     ∙ c.in_ok-read.ensures.0 in
     let once : is_given_twice dir.schema attr.0 sent ≡ false =
     ap (λ (s : List SchemaRecord). is_given_twice s attr.0 sent) (sym c.schema-schema.ensures)
-    ∙ ap are_repeated (sym (c.as_slice.ensures ∙ c.in_ok-read.ensures.1)) ∙ sym c.in_ok-repeated.ensures
+    ∙ ap are_repeated (sym (c.as_slice.ensures ∙ c.in_ok-read.ensures.1.0)) ∙ sym c.in_ok-repeated.ensures
     ∙ c.if-repeated.false in
     let few : (is_single dir.schema attr.0 && nat_lt 1 (length sent)) ≡ false =
     ap (λ (s : List SchemaRecord). is_single s attr.0 && nat_lt 1 (length sent)) (sym c.schema-schema.ensures)
@@ -102,7 +102,7 @@ returns c =
     ∙ c.in_ok-read.ensures.0 in
     let once : is_given_twice dir.schema attr.0 sent ≡ false =
     ap (λ (s : List SchemaRecord). is_given_twice s attr.0 sent) (sym c.schema-schema.ensures)
-    ∙ ap are_repeated (sym (c.as_slice.ensures ∙ c.in_ok-read.ensures.1)) ∙ sym c.in_ok-repeated.ensures
+    ∙ ap are_repeated (sym (c.as_slice.ensures ∙ c.in_ok-read.ensures.1.0)) ∙ sym c.in_ok-repeated.ensures
     ∙ c.if-repeated.false in
     let few : (is_single dir.schema attr.0 && nat_lt 1 (length sent)) ≡ false =
     ap (λ (s : List SchemaRecord). is_single s attr.0 && nat_lt 1 (length sent)) (sym c.schema-schema.ensures)
@@ -110,5 +110,5 @@ returns c =
       attr_fine dir attr sent none once few c.in_ok-stored.ensures.0
           (ap (λ (s : List SchemaRecord). list_all (is_no_empty_password s attr.0) sent) (sym c.schema-schema.ensures)
           ∙ sym c.has_no_empty_password.ensures ∙ c.if-not-has_no_empty_password.false),
-      c.in_ok-stored.ensures.1,
+      (c.in_ok-stored.ensures.1, c.in_ok-read.ensures.1.1),
     )

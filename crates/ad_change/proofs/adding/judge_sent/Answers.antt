@@ -70,6 +70,9 @@ returns c = (
       (λ (attr : ℕ). not (is_lacking s c.args.class.0 attr (is_given c.args.values.now attr))) (all_attrs s))
       (sym c.schema-schema.ensures)
       ∙ sym c.in_ok-has.ensures ∙ c.if-not-has.false),
-  c.in_ok-held.ensures ∙ ap (λ (hs : List Held). all_before hs []) c.in_ok-read.ensures.1
-      ∙ held_is c.args.dir.now c.args.values.now,
+  (
+    c.in_ok-held.ensures ∙ ap (λ (hs : List Held). all_before hs []) c.in_ok-read.ensures.1.0
+        ∙ held_is c.args.dir.now c.args.values.now,
+    c.in_ok-read.ensures.1.1,
+  ),
 )

@@ -1,5 +1,6 @@
 use Rattle.ad_change.proofs.EffectSound.{modify_keeps}
+use Rattle.ad_change.proofs.Lower.{reads_back}
 use Rattle.ad_change.proofs.laws.a_modify_keeps_a_directory_sound.Goals as goal
 
 pub returns : goal.returns
-returns c = modify_keeps c.what_is_shown_reads_back.ensures.read
+returns c = modify_keeps reads_back

@@ -8,7 +8,7 @@ use Rattle.ad_dir_model.specs.Objects.{object_at, sd_at}
 use Rattle.ad_dir_model.specs.Soundness.{AttrsRiseFrom, IsSoundObject}
 use Rattle.ad_dir_model.proofs.ScratchLaws.{sound_at}
 use Rattle.ad_needs_rules.specs.Checks.{first_failing}
-use Rattle.ad_change.specs.Tree.{is_light_with}
+use Rattle.ad_change.specs.Tree.{fits_weight_limit}
 use Rattle.ad_change_values.specs.Items.{after_items}
 use Rattle.ad_change.specs.Modifying.{modify_later, modified_object}
 use Rattle.ad_change_values.specs.Judging.{value_checks}
@@ -50,21 +50,21 @@ returns-in_err-after c =
     (ap (λ (x : Object). first_failing (value_checks dir x.class x.values c.args.items.now)) (sym seen) ∙ is))
     c.in_err-after.ensures)
 
-pub returns-then-not-is_light_with : goal.returns-then-not-is_light_with
-returns-then-not-is_light_with c =
+pub returns-then-not-fits_weight_limit : goal.returns-then-not-fits_weight_limit
+returns-then-not-fits_weight_limit c =
     let dir = c.args.dir.now in
     let own = sd_at dir.objects c.args.target in
     let before = c.in_ok-before.before in
     let seen : object_seen before own ≡ object_at dir.objects c.args.target =
     ap (λ (o : ObjectIn). object_seen o own) c.in_ok-before.ensures ∙ c.live_object.ensures in
     let made : object_seen c.in_ok-after.after own ≡ modified_object dir c.args.target c.args.items.now =
-    c.in_ok-after.ensures.1 own ∙ ap (λ (x : Object). record x { values = after_items dir x.values c.args.items.now })
+    c.in_ok-after.ensures.1.0 own ∙ ap (λ (x : Object). record x { values = after_items dir x.values c.args.items.now })
     seen in
     weight_stops dir c.args.token.now c.args.target c.args.items.now c.args.sd.now
     (sym c.is_owner_allowed.ensures ∙ c.if-not-is_owner_allowed.false)
     (ap (λ (x : Object). first_failing (value_checks dir x.class x.values c.args.items.now)) (sym seen)
     ∙ c.in_ok-after.ensures.0)
-    (sym (ap (is_light_with dir) made) ∙ sym (c.is_light_with.ensures own) ∙ c.if-not-is_light_with.true)
+    (sym (ap (fits_weight_limit dir) made) ∙ sym (c.fits_weight_limit.ensures own) ∙ c.if-not-fits_weight_limit.true)
 
 pub returns : goal.returns
 returns c =
@@ -74,12 +74,13 @@ returns c =
     let seen : object_seen before own ≡ object_at dir.objects c.args.target =
     ap (λ (o : ObjectIn). object_seen o own) c.in_ok-before.ensures ∙ c.live_object.ensures in
     let made : object_seen c.in_ok-after.after own ≡ modified_object dir c.args.target c.args.items.now =
-    c.in_ok-after.ensures.1 own ∙ ap (λ (x : Object). record x { values = after_items dir x.values c.args.items.now })
+    c.in_ok-after.ensures.1.0 own ∙ ap (λ (x : Object). record x { values = after_items dir x.values c.args.items.now })
     seen in (
       all_hold dir c.args.token.now c.args.target c.args.items.now c.args.sd.now
           (sym c.is_owner_allowed.ensures ∙ c.if-not-is_owner_allowed.false)
           (ap (λ (x : Object). first_failing (value_checks dir x.class x.values c.args.items.now)) (sym seen)
           ∙ c.in_ok-after.ensures.0)
-          (sym (ap (is_light_with dir) made) ∙ sym (c.is_light_with.ensures own) ∙ c.if-not-is_light_with.false),
-      made,
+          (sym (ap (fits_weight_limit dir) made) ∙ sym (c.fits_weight_limit.ensures own)
+          ∙ c.if-not-fits_weight_limit.false),
+      (made, c.in_ok-after.ensures.1.1),
     )

@@ -46,7 +46,7 @@ returns-in_err-judge_attrs c =
     let class = c.args.object.class.0 in
     let held : List Held = map held_seen c.args.object.values in
     let after : map held_seen c.as_slice.result.now ≡ after_items dir held items =
-    ap (map held_seen) c.as_slice.ensures.value ∙ c.in_ok-held.ensures.1
+    ap (map held_seen) c.as_slice.ensures.value ∙ c.in_ok-held.ensures.1.0
     ∙ ap (λ (xs : List HeldIn). after_items dir (map held_seen xs) items) c.into_vec.ensures in
     let none : first_failing (all_item_checks dir held items) ≡ None =
     sym (ap (λ (xs : List HeldIn). first_failing (all_item_checks dir (map held_seen xs) items)) c.into_vec.ensures)
@@ -72,7 +72,7 @@ returns c =
     let class = c.args.object.class.0 in
     let held : List Held = map held_seen c.args.object.values in
     let made : map held_seen c.in_ok-held.held.items ≡ after_items dir held items =
-    c.in_ok-held.ensures.1 ∙ ap (λ (xs : List HeldIn). after_items dir (map held_seen xs) items) c.into_vec.ensures in
+    c.in_ok-held.ensures.1.0 ∙ ap (λ (xs : List HeldIn). after_items dir (map held_seen xs) items) c.into_vec.ensures in
     let after : map held_seen c.as_slice.result.now ≡ after_items dir held items
     = ap (map held_seen) c.as_slice.ensures.value ∙ made in
     let none : first_failing (all_item_checks dir held items) ≡ None =
@@ -88,6 +88,9 @@ returns c =
           (flat_map (final_checks dir.schema class h) (filter (is_item_named items) (all_attrs dir.schema))))
           after)
           ∙ c.in_ok-judge_attrs.ensures.0,
-      λ (sd : Sd). ap (λ (vs : List Held). record (object_seen c.args.object sd) { values = vs })
-          (ap (map held_seen) c.from_vec.ensures ∙ made),
+      (
+        λ (sd : Sd). ap (λ (vs : List Held). record (object_seen c.args.object sd) { values = vs })
+            (ap (map held_seen) c.from_vec.ensures ∙ made),
+        c.in_ok-held.ensures.1.1,
+      ),
     )

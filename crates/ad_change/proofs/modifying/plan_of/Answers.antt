@@ -5,7 +5,8 @@ use Rattle.ad_dir_model.specs.Objects.{sd_at}
 use Rattle.ad_change.specs.Effects.{later_checks}
 use Rattle.ad_change.specs.Modifying.{modified_object}
 use Rattle.ad_change.specs.Judging.{AreNeeded, modify_edits}
-use Rattle.ad_change.proofs.ResolvedValues.{modification, items_within}
+use Rattle.ad_change.proofs.ResolvedValues.{modification}
+use Rattle.ad_change.proofs.Lower.{reads_back}
 use Rattle.ad_change.proofs.ModifyMade.{modified_is_put, modify_plan_is}
 use Rattle.ad_change.proofs.modifying.plan_of.Goals as goal
 
@@ -16,7 +17,7 @@ judge_modify-requires c =
     record {
       sound = c.requires.sound;
       live = is.live;
-      attrs = items_within c.args.dir.now c.args.items.now (is.attrs c.items_are_bytes.ensures);
+      attrs = is.within;
     }
 
 pub edits_of-requires : goal.edits_of-requires
@@ -26,7 +27,7 @@ edits_of-requires c =
     c.requires.resolved in
     let put = modified_is_put dir c.args.target c.args.items.now
     (object_seen c.in-Ok.object (sd_at dir.objects c.args.target)) c.requires.sound
-    is.live c.in-Ok.ensures.1 in
+    is.live c.in-Ok.ensures.1.0 in
     record { live = put.live; class = put.class; parent = put.parent }
 
 pub returns-in_ok-edits-in-Ok : goal.returns-in_ok-edits-in-Ok
@@ -38,12 +39,12 @@ returns-in_ok-edits-in-Ok c =
     let is = modification dir c.args.token.now c.args.target items c.args.sd.now c.requires.sound c.requires.resolved in
     let put = modified_is_put dir c.args.target items (object_seen object (sd_at dir.objects c.args.target))
     c.requires.sound
-    is.live c.in-Ok.ensures.1 in
+    is.live c.in-Ok.ensures.1.0 in
     let seen : object_seen object (sd_at dir.objects object.number) ≡ modified_object dir c.args.target items =
-    ap (λ (n : ℕ). object_seen object (sd_at dir.objects n)) put.same ∙ c.in-Ok.ensures.1 in
-    modify_plan_is c.what_is_shown_reads_back.ensures.read dir c.args.token.now c.args.target items c.args.sd.now
+    ap (λ (n : ℕ). object_seen object (sd_at dir.objects n)) put.same ∙ c.in-Ok.ensures.1.0 in
+    modify_plan_is reads_back dir c.args.token.now c.args.target items c.args.sd.now
     edits c.requires.sound is.live
-    (is.attrs c.items_are_bytes.ensures) c.in-Ok.ensures.0
+    (is.attrs c.in-Ok.ensures.1.1) c.in-Ok.ensures.0
     (subst (λ (o : Object). AreNeeded dir (modify_edits dir o c.args.sd.now) edits) seen c.in_ok-edits-in-Ok.ensures)
 
 pub returns-in_ok-code-in-Err : goal.returns-in_ok-code-in-Err

@@ -35,8 +35,11 @@ returns c =
     let same : stored ≡ stored_in old c.args.item.now.attr.0 = ap (map stored_seen) c.in_ok-stored.ensures
     ∙ c.take_pile-taken.ensures.taken in (
       item_decided dir old c.args.item.now stored same ∙ c.in_ok-new.ensures.0,
-      item_done dir old (by_attr c.take_pile-taken.new.rows.entries) (by_attr c.put_pile.new.rows.entries)
-          c.args.item.now (map stored_seen c.in_ok-new.new) stored
-          (map stored_seen c.in_ok-after.after) c.requires.rise same c.take_pile-taken.ensures.left
-          c.in_ok-new.ensures.1 c.in_ok-after.ensures c.in_ok-put_pile.ensures,
+      (
+        item_done dir old (by_attr c.take_pile-taken.new.rows.entries) (by_attr c.put_pile.new.rows.entries)
+            c.args.item.now (map stored_seen c.in_ok-new.new) stored
+            (map stored_seen c.in_ok-after.after) c.requires.rise same c.take_pile-taken.ensures.left
+            c.in_ok-new.ensures.1.0 c.in_ok-after.ensures c.in_ok-put_pile.ensures,
+        c.in_ok-new.ensures.1.1,
+      ),
     )

@@ -1,6 +1,7 @@
-use Rattle.std.proofs.Common.{◌≡◌, ℕ, List, [], ◌∷◌, map, sym, ap, ◌∙◌}
-use Rattle.std.specs.List.{list_all}
+use Rattle.std.proofs.Common.{◌≡◌, ℕ, List, [], ◌∷◌, map, sym, subst, ap, ◌∙◌}
+use Rattle.std.specs.List.{list_all, AllByRecursion}
 use Rattle.std.proofs.lemmas.Result.{err_from_is_err_and}
+use Rattle.ad_bytes.specs.Reading.{IsBytes}
 use Rattle.ad_schema.specs.declared.line.SchemaRecord.{SchemaRecord}
 use Rattle.ad_dir_objects.specs.Seen.{stored_seen}
 use Rattle.ad_dir_model.specs.Object.{Stored}
@@ -84,6 +85,8 @@ returns c =
     c.as_slice-sent.ensures)
     ∙ ap (λ (s : List SchemaRecord). first_failing (kept_checks s item new stored)) (sym c.schema-schema.ensures) in (
       decided ∙ c.in_ok-judge_kept.ensures.0,
-      c.in_ok-new.ensures.1 ∙ ap (all_stored dir item.attr.0)
-          c.as_slice-sent.ensures,
+      (
+        c.in_ok-new.ensures.1 ∙ ap (all_stored dir item.attr.0) c.as_slice-sent.ensures,
+        subst (AllByRecursion IsBytes) c.as_slice-sent.ensures c.in_ok-read.ensures.1.1,
+      ),
     )

@@ -10,7 +10,7 @@ use Rattle.ad_change_values.proofs.items.judge_items.Goals as goal
 pub loop-item-init : goal.loop-item-init
 loop-item-init c =
     subst (AreDoneTo c.args.dir.now (map held_seen c.args.held.items) c.args.items.now 0) (sym c.in_ok-rows.ensures)
-    (record { rise = c.requires.rise; checks = refl; after = refl })
+    (record { rise = c.requires.rise; checks = refl; after = refl; bytes = λ are. are })
 
 pub returns-in_err-apply_item : goal.returns-in_err-apply_item
 returns-in_err-apply_item c =
@@ -30,11 +30,11 @@ loop-item-preserved c =
     items_more c.args.dir.now (map held_seen c.args.held.items) c.args.items.now c.loop-item.item-index
     c.item-item.result
     (by_attr c.loop-item.rows.entries) (by_attr c.apply_item.new.rows.entries) c.loop-item-test.true c.item-item.is
-    c.in_ok-apply_item.ensures.0 c.in_ok-apply_item.ensures.1 c.loop-item.invariant
+    c.in_ok-apply_item.ensures.0 c.in_ok-apply_item.ensures.1.0 c.in_ok-apply_item.ensures.1.1 c.loop-item.invariant
 
 pub returns : goal.returns
 returns c =
     let done = items_done c.args.dir.now (map held_seen c.args.held.items) c.args.items.now c.loop-item.item-index
     (by_attr c.loop-item.rows.entries)
     c.loop-item-test.false c.loop-item.invariant in
-    (done.0, c.in_ok-after.ensures ∙ done.1)
+    (done.0, (c.in_ok-after.ensures ∙ done.1, done.2))

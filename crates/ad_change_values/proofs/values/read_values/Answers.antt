@@ -2,6 +2,7 @@ use Rattle.std.proofs.Common.{◌≡◌, ℕ, ◌+◌, Bool, List, [], ◌∷◌
 use Rattle.std.specs.Option.{option_to_list}
 use Rattle.std.specs.Result.{result_ok}
 use Rattle.std.proofs.lemmas.Result.{err_from_is_err_and}
+use Rattle.ad_bytes.specs.Reading.{IsBytes}
 use Rattle.ad_needs_rules.specs.Checks.{or_code, first_failing}
 use Rattle.ad_change_values.specs.Values.{value_in, reads, is_short}
 use Rattle.ad_change_values.specs.Judging.{reading_checks}
@@ -35,7 +36,7 @@ loop-bytes-preserved c =
     (c.in_ok-one.ensures.1.0 ∙ ap (is_short schema attr) e)
     (c.in_ok-one.ensures.1.1 ∙ ap (λ (xs : List ℕ). c.loop-bytes.read
     ++ option_to_list (result_ok (value_in schema attr xs))) e)
-    c.loop-bytes.invariant)
+    (subst IsBytes e c.in_ok-one.ensures.1.2) c.loop-bytes.invariant)
 
 pub returns-then-not-short : goal.returns-then-not-short
 returns-then-not-short c =

@@ -30,4 +30,4 @@ returns-in-None c =
     (rw c.in-None.is at c.unless_all_lawful.ensures
     ∙ lawful_at dir added.add.now c.args.rdn.now added.class.0 c.schema.result.now c.as_slice.result.now
     c.as_slice-attrs.result.now c.schema.ensures c.as_slice.ensures c.as_slice-attrs.ensures)))
-    c.unless_creates.ensures
+    c.unless_creates.ensures.refusal

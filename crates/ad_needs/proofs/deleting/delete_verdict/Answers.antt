@@ -25,11 +25,11 @@ returns-in-Some-3 c =
     delete_needed c.args.dir.now c.args.token.now c.args.text.now c.args.settings.now c.in-Some.dn c.in-Some-2.number
     c.in-Some-3.refusal (rw c.in-Some.is at c.in_ok-dn.ensures)
     (rw c.in-Some-2.is at c.in_ok-number.ensures.found) c.if-number-eq-ROOT.false
-    (rw c.in-Some-3.is at c.in_ok-refusal.ensures)
+    (rw c.in-Some-3.is at c.in_ok-refusal.ensures.refusal)
 
 pub returns : goal.returns
 returns c =
     delete_granted c.args.dir.now c.args.token.now c.args.text.now c.args.settings.now c.in-Some.dn c.in-Some-2.number
     (rw c.in-Some.is at c.in_ok-dn.ensures)
     (rw c.in-Some-2.is at c.in_ok-number.ensures.found) c.if-number-eq-ROOT.false
-    (rw c.in-None.is at c.in_ok-refusal.ensures)
+    (rw c.in-None.is at c.in_ok-refusal.ensures.refusal)

@@ -12,10 +12,10 @@ returns-in-Some c =
 pub returns-in-Some-2 : goal.returns-in-Some-2
 returns-in-Some-2 c =
     need_refused c.args.dir.now c.args.token.now c.args.number c.args.items.now c.args.flags c.in-Some-2.missing
-    (rw c.in_default.is at c.in_ok-refusal.ensures) (rw c.in-Some-2.is at c.in_ok-missing.ensures)
+    (rw c.in_default.is at c.in_ok-refusal.ensures) (rw c.in-Some-2.is at c.in_ok-missing.ensures.refusal)
 
 pub returns : goal.returns
 returns c =
     ap (λ (act : Act). Granted act) c.in_ok-act.ensures
     ∙ all_granted c.args.dir.now c.args.token.now c.args.number c.args.items.now c.args.flags
-    (rw c.in_default.is at c.in_ok-refusal.ensures) (rw c.in_default-2.is at c.in_ok-missing.ensures)
+    (rw c.in_default.is at c.in_ok-refusal.ensures) (rw c.in_default-2.is at c.in_ok-missing.ensures.refusal)

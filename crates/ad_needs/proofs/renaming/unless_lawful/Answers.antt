@@ -34,4 +34,4 @@ returns c =
     (λ found is. is ∙ rest_needs c.args.dir.now c.args.token.now c.args.number c.args.rdn.now c.args.superior
     c.new_parent-parent.result c.if-number-eq-ROOT.false (sym typed)
     (sym c.if-not-is_outside.ensures) c.new_parent-parent.ensures.parent)
-    c.unless_renames.ensures
+    c.unless_renames.ensures.refusal

@@ -2,7 +2,7 @@ use Rattle.std.proofs.Common.{List, sym, ap, ◌∙◌}
 use Rattle.ad_ldap.specs.declared.controls.Settings.{Settings}
 use Rattle.ad_ldap.specs.MessageValue.{op_seen}
 use Rattle.ad_types.specs.Tried.{TriedValue}
-use Rattle.ad_needs_tries.specs.Traces.{trace_of}
+use Rattle.ad_needs.specs.Traces.{trace_of}
 use Rattle.cmd_audit.specs.Tries.{with_settings}
 use Rattle.cmd_audit.proofs.Given.{tried_as, tried_none}
 use Rattle.cmd_audit.proofs.messages.of_change.Goals as goal

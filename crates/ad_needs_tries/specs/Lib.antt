@@ -1,4 +1,0 @@
-pub mod Tries
-pub mod Traces
--- only for private contracts, invariants and proofs
-pub mod Steps

@@ -1,0 +1,4 @@
+pub mod Holders
+pub mod Deciding
+pub mod Granting
+pub mod Unasked

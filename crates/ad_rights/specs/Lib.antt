@@ -1,0 +1,5 @@
+pub mod Holding
+pub mod Set
+-- only for private contracts, invariants and proofs
+pub mod Standing
+pub mod Entry

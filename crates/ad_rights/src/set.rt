@@ -1,0 +1,115 @@
+//! The set of the tokens that are granted a right by one descriptor.
+
+ghost use Rattle.std.specs.Prelude.{◌≡◌, ◌&&◌, ◌==◌, ◌<◌, not, ℕ, List, length, map, unwrap_or, true, false, IfOk};
+ghost use Rattle.std.specs.List.{list_any};
+ghost use Rattle.std.specs.Option.{option_copied};
+ghost use Rattle.ad_ids.specs.declared.token.Token.{Token as TokenValue};
+ghost use Rattle.ad_acl.specs.Mask.{write_owner};
+ghost use Rattle.ad_sd.specs.Seen.{seen};
+ghost use Rattle.ad_access.specs.Grant.{is_implicit_owner_right, sets_owner_rights};
+ghost use Rattle.ad_rights.specs.Entry.{granted_by};
+ghost use Rattle.ad_rights.specs.Holding.{has, listed, IsHoldingOf};
+ghost use Rattle.ad_rights.specs.Set.{granted_set, AreBare};
+ghost use Rattle.ad_rights.specs.Standing.{stand_at, decided, by_privilege};
+
+use crate::entry::{has_owner_rights, take_entry};
+use crate::holding::Holding;
+use crate::standing::{by_privilege, decide, granted_of};
+use ad_ids::{Guid, Sid};
+use ad_sd::SdView;
+use std::alloc::{AllocError, Global};
+
+// Whether the right is one that owners have, and no entry sets the owner's rights.
+fn is_owners(view: &SdView<'_>, bit: u32) -> bool
+    ensures { result ≡ (is_implicit_owner_right bit
+        && not (list_any sets_owner_rights (seen view.now).dacl.entries)) }
+{
+    (bit == 17 || bit == 18) && !has_owner_rights(view)
+}
+
+// Grants to the open tokens that hold the owner, where owners have the right.
+fn take_owner(
+    view: &SdView<'_>,
+    owner: &Sid,
+    holding: &Holding,
+    bit: u32,
+    stands: &mut [Option<bool>],
+)
+    ensures len { length stands.new ≡ length stands.old }
+    ensures each { (q : ℕ) → q < length stands.old → stand_at stands.new q
+        ≡ decided ((is_implicit_owner_right bit
+        && not (list_any sets_owner_rights (seen view.now).dacl.entries))
+        && has (listed holding.now.holders owner.now) q) true (stand_at stands.old q) }
+{
+    if !is_owners(view, bit) {
+        return;
+    }
+    decide(stands, holding.holders_of(owner), true);
+}
+
+// Goes over the entries, each of which decides for the tokens that are open.
+fn walk(
+    view: &SdView<'_>,
+    owner: &Sid,
+    holding: &Holding,
+    self_sid: Option<&Sid>,
+    path: &[Guid],
+    bit: u32,
+    stands: &mut [Option<bool>],
+)
+    requires { bit < 32 }
+    ensures len { length stands.new ≡ length stands.old }
+    ensures each { (q : ℕ) → q < length stands.old → unwrap_or (stand_at stands.new q) false
+        ≡ unwrap_or (stand_at stands.old q) (granted_by (listed holding.now.holders)
+        (seen view.now).dacl.entries (option_copied self_sid.entry) owner.now path.now bit q) }
+{
+    for ace in view.dacl_in() {
+        take_entry(&ace, self_sid, owner, holding, path, bit, stands);
+    }
+}
+
+// The set, where what stands is by privilege.
+fn judged(
+    alloc: Global,
+    view: &SdView<'_>,
+    holding: &Holding,
+    self_sid: Option<&Sid>,
+    path: &[Guid],
+    bit: u32,
+    stands: &mut [Option<bool>],
+) -> Result<Vec<bool>, AllocError>
+    requires bit { bit < 20 }
+    requires begun { stands.old ≡ map (by_privilege (bit == write_owner)) holding.now.takers.items }
+    ensures { IfOk result (λ set. (tokens : List TokenValue) → IsHoldingOf tokens holding.now → AreBare
+        tokens → set.items ≡ granted_set (seen view.now) tokens (option_copied self_sid.entry)
+        path.now bit) }
+{
+    let owner = view.owner();
+    take_owner(view, &owner, holding, bit, stands);
+    walk(view, &owner, holding, self_sid, path, bit, stands);
+    granted_of(alloc, stands)
+}
+
+/// The set of the tokens that the descriptor grants the right on the path, by its place in a mask, to an object with
+/// this identifier of its own: for each token of the index whether it is granted it ([MS-DTYP] 2.5.3.2). The right is
+/// one of those of objects and descriptors.
+///
+/// # Errors
+///
+/// Out of memory.
+pub fn granted_set(
+    alloc: Global,
+    view: &SdView<'_>,
+    holding: &Holding,
+    self_sid: Option<&Sid>,
+    path: &[Guid],
+    bit: u32,
+) -> Result<Vec<bool>, AllocError>
+    requires { bit < 20 }
+    ensures { IfOk result (λ set. (tokens : List TokenValue) → IsHoldingOf tokens holding.now → AreBare
+        tokens → set.items ≡ granted_set (seen view.now) tokens (option_copied self_sid.entry)
+        path.now bit) }
+{
+    let mut stands = by_privilege(alloc, holding.takers(), bit == 19)?;
+    judged(alloc, view, holding, self_sid, path, bit, &mut stands)
+}
