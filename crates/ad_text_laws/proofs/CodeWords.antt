@@ -9,7 +9,7 @@ use Rattle.ad_acl.specs.declared.codes.Code.{Code}
 use Rattle.ad_acl.specs.Codes.{right_codes, flag_codes}
 use Rattle.ad_acl.specs.Entry.{says}
 use Rattle.ad_ids.specs.GuidText.{guid_text}
-use Rattle.ad_sddl.specs.Canonical.{code_text, codes_text, rights_text, is_covered}
+use Rattle.ad_sddl.specs.Canonical.{code_text, codes_text, hex_text, rights_text, is_covered}
 use Rattle.ad_schema.specs.declared.info.RightInfo.{RightInfo}
 use Rattle.ad_access_dir.specs.Labels.{is_graphic, is_title, right_title}
 use Rattle.ad_dsacls.specs.Words.{or_dash, own_flag, flags_text}

@@ -1,6 +1,6 @@
 -- The names of a schema's attributes and classes are words, and so are the types of entries.
 use Rattle.std.proofs.Common.{◌≡◌, ℕ, zero, suc, Bool, inl, inr, true, false, if◌then◌else◌, List, [], ◌∷◌, ◌++◌}
-use Rattle.std.proofs.Common.{Option, Some, None, Result, Ok, Err, unwrap_or, refl, sym, subst, ap, ◌∙◌}
+use Rattle.std.proofs.Common.{Option, Some, None, Result, Ok, Err, unwrap_or, refl, sym, subst, arith}
 use Rattle.std.specs.Prelude.{slice_get, is_ok, not, nat_lt, ◌||◌, IfSome}
 use Rattle.std.specs.Option.{option_or}
 use Rattle.std.specs.List.{AllByRecursion, list_any, list_all}
@@ -28,6 +28,7 @@ use Rattle.ad_schema.specs.Attributes.{lines_of, names_of, attrs_of, rights_of}
 use Rattle.ad_schema.specs.Classes.{classes_of}
 use Rattle.ad_schema.specs.Records.{none_of, checked, added}
 use Rattle.ad_schema.specs.Sound.{all_added, MakeSchema}
+use Rattle.ad_dir_model.specs.Shown as shown
 use Rattle.ad_dir.proofs.SchemaNames.{type_at}
 use Rattle.ad_dir.proofs.ShownLaws.{class_name_at}
 use Rattle.ad_access_dir.specs.Labels.{is_title}
@@ -163,6 +164,11 @@ word_at [] place all = refl
 word_at (name ∷ names) zero all = type_is_word name all.0
 word_at (name ∷ names) (suc place) all = word_at names place all.1
 
+class_has : (schema : List SchemaRecord) → MakeSchema schema → (place : ℕ)
+    → is_word (shown.class_name schema place) ≡ true
+unfolding shown.class_name
+class_has schema makes place = word_at (names_of Class schema) place (classes_after [] schema makes.added.added)
+
 pub names_are_words : (schema : List SchemaRecord) → MakeSchema schema → HasWordNames schema
 names_are_words schema makes = record {
   attrs = λ place. attr place (slice_get (attrs_of schema) place) refl;
@@ -178,7 +184,7 @@ names_are_words schema makes = record {
         → IfSome found (λ (c : ClassInfo). is_word c.name ≡ true)
     class place None e = tt
     class place (Some c) e = subst (λ (name : List ℕ). is_word name ≡ true) (sym (class_name_at schema place c e))
-        (word_at (names_of Class schema) place (classes_after [] schema makes.added.added))
+        (class_has schema makes place)
 
 -- ---- types of entries
 
@@ -187,40 +193,42 @@ all_places : {A : Type 0} (Is : A → Type 0) (xs : List A) → ((place : ℕ) �
 all_places Is [] each = tt
 all_places Is (x ∷ xs) each = (each 0, all_places Is xs (λ place. each (suc place)))
 
+either_of : (t : Bool) (a b : Option (List ℕ)) → IfSome a (λ (name : List ℕ). is_word name ≡ true)
+    → IfSome b (λ (name : List ℕ). is_word name ≡ true)
+    → IfSome (if t then a else b) (λ (name : List ℕ). is_word name ≡ true)
+either_of true a b p q = p
+either_of false a b p q = q
+
+either_word : (t : Bool) (name : List ℕ) (rest : Option (List ℕ)) → is_word name ≡ true
+    → IfSome rest (λ (n : List ℕ). is_word n ≡ true)
+    → IfSome (if t then Some name else rest) (λ (n : List ℕ). is_word n ≡ true)
+either_word t name rest e q = either_of t (Some name) rest e q
+
 class_word : (classes : List ClassInfo) (guid : Guid) → AllByRecursion (λ (c : ClassInfo). is_word c.name ≡ true) classes
     → IfSome (class_name classes guid) (λ (name : List ℕ). is_word name ≡ true)
 unfolding class_name
 class_word [] guid all = tt
-class_word (c ∷ classes) guid all = by (same_guid c.guid guid)
-  where
-    by : (t : Bool) → IfSome (if t then Some c.name else class_name classes guid)
-        (λ (name : List ℕ). is_word name ≡ true)
-    by true = all.0
-    by false = class_word classes guid all.1
+class_word (c ∷ classes) guid all = either_word (same_guid c.guid guid) c.name (class_name classes guid) all.0
+    (class_word classes guid all.1)
 
 attr_word : (attrs : List AttrInfo) (guid : Guid) → AllByRecursion (λ (a : AttrInfo). is_word a.name ≡ true) attrs
     → IfSome (attr_name attrs guid) (λ (name : List ℕ). is_word name ≡ true)
 unfolding attr_name
 attr_word [] guid all = tt
-attr_word (a ∷ attrs) guid all = by (same_guid a.guid guid)
-  where
-    by : (t : Bool) → IfSome (if t then Some a.name else attr_name attrs guid)
-        (λ (name : List ℕ). is_word name ≡ true)
-    by true = all.0
-    by false = attr_word attrs guid all.1
+attr_word (a ∷ attrs) guid all = either_word (same_guid a.guid guid) a.name (attr_name attrs guid) all.0
+    (attr_word attrs guid all.1)
 
 right_word : (rights : List RightInfo) (guid : Guid)
     → IfSome (right_name rights guid) (λ (name : List ℕ). is_word name ≡ true)
 unfolding right_name
 right_word [] guid = tt
-right_word (r ∷ rights) guid = by (same_guid r.guid guid) (is_title r.name) refl
+right_word (r ∷ rights) guid = either_of (same_guid r.guid guid) (if is_title r.name then Some r.name else None)
+    (right_name rights guid) (own (is_title r.name) refl) (right_word rights guid)
   where
-    by : (t titled : Bool) → is_title r.name ≡ titled
-        → IfSome (if t then (if titled then Some r.name else None) else right_name rights guid)
-        (λ (name : List ℕ). is_word name ≡ true)
-    by true true e = titled_word r.name e
-    by true false e = tt
-    by false titled e = right_word rights guid
+    own : (titled : Bool) → is_title r.name ≡ titled
+        → IfSome (if titled then Some r.name else None) (λ (name : List ℕ). is_word name ≡ true)
+    own true e = titled_word r.name e
+    own false e = tt
 
 first_word : (a b : Option (List ℕ)) → IfSome a (λ (name : List ℕ). is_word name ≡ true)
     → IfSome b (λ (name : List ℕ). is_word name ≡ true)

@@ -81,15 +81,16 @@ hex_words zero n = refl
 hex_words (suc k) n = two_words (hex_digits k (n / 16)) (hex_digit (n % 16) ∷ []) (hex_words k (n / 16))
     (both (nat_lt 32 (hex_digit (n % 16))) true (hex_word (n % 16) (omega arith)) refl)
 
+unless_none : (t : Bool) (text : List ℕ) → is_word text ≡ true → is_word (if t then [] else text) ≡ true
+unless_none true text e = refl
+unless_none false text e = e
+
 pub hex_text_word : (k n : ℕ) → is_word (hex_text k n) ≡ true
 unfolding hex_text
 hex_text_word zero n = refl
-hex_text_word (suc k) n = by (n == 0)
-  where
-    by : (t : Bool) → is_word (if t then [] else hex_text k (n / 16) ++ hex_digit (n % 16) ∷ []) ≡ true
-    by true = refl
-    by false = two_words (hex_text k (n / 16)) (hex_digit (n % 16) ∷ []) (hex_text_word k (n / 16))
-        (both (nat_lt 32 (hex_digit (n % 16))) true (hex_word (n % 16) (omega arith)) refl)
+hex_text_word (suc k) n = unless_none (n == 0) (hex_text k (n / 16) ++ hex_digit (n % 16) ∷ [])
+    (two_words (hex_text k (n / 16)) (hex_digit (n % 16) ∷ []) (hex_text_word k (n / 16))
+    (both (nat_lt 32 (hex_digit (n % 16))) true (hex_word (n % 16) (omega arith)) refl))
 
 authority_word : (n : ℕ) → is_word (authority_text n) ≡ true
 authority_word n = elim (cases_lt n (2 ^ 32)) [
