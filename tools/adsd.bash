@@ -51,4 +51,4 @@ _adsd_companion() {
 }
 
 complete -F _adsd adsd
-complete -F _adsd_companion adsd-tools adsd-ask adsd-bloodhound adsd-explore adsd-import adsd-ldap adsd-names adsd-replica adsd-report adsd-whatif adsd-who
+complete -F _adsd_companion adsd-tools adsd-ask adsd-bloodhound adsd-explore adsd-export adsd-import adsd-ldap adsd-names adsd-replica adsd-report adsd-whatif adsd-who

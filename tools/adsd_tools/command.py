@@ -12,6 +12,7 @@ COMPANIONS = {
     "ask": "questions and streams as text",
     "bloodhound": "rights as edges for BloodHound",
     "explore": "an explorer of rights, in a browser",
+    "export": "what a live server has, as one file",
     "import": "an export becomes LDIF that loads",
     "ldap": "LDAP for clients",
     "names": "names of accounts behind identifiers",

@@ -12,8 +12,8 @@ from adsd_tools.shown import shown
 from . import complete, objects, output, rights, schema, text
 from .report import ENDS, Refused, Report
 
-ABOUT = """Makes LDIF that `adsd load` takes of an export of Active Directory or Samba, as ldifde, ldbsearch or
-ldapsearch write it. An export has the schema and the rights with it (CN=Schema and CN=Extended-Rights below
+ABOUT = """Makes LDIF that `adsd load` takes of an export of Active Directory or Samba, as adsd-export, ldifde,
+ldbsearch or ldapsearch write it. An export has the schema and the rights with it (CN=Schema and CN=Extended-Rights below
 CN=Configuration), and the attribute nTSecurityDescriptor; it may come in several files. The report begins with a summary,
 losses first. All that is mended or left out is told, a line each:
 

@@ -10,8 +10,9 @@ KINDS = (DENIES, MISSING, LOSS, LEFT_OUT, MENDED)
 # What an export may lack, in the order in which it is told. tools/README.md says of each what is looked at.
 SORTS = ("ends of files", "lines that can't be read", "texts that aren't UTF-8", "parts of the schema",
          "extended rights", "head of the domain", "built-in groups", "descriptors",
-         "identifiers and primary groups of accounts", "parents", "members and groups")
-ENDS, LINES, TEXTS, SCHEMA, RIGHTS, HEAD, GROUPS, DESCRIPTORS, ACCOUNTS, PARENTS, MEMBERS = SORTS
+         "identifiers and primary groups of accounts", "parents", "members and groups",
+         "what the account of the export may not read")
+ENDS, LINES, TEXTS, SCHEMA, RIGHTS, HEAD, GROUPS, DESCRIPTORS, ACCOUNTS, PARENTS, MEMBERS, READ = SORTS
 # What a reason has of one thing alone: a name of parts, and where another thing stands.
 OF_ONE = re.compile(r"\S+ \([^()]*:[0-9]+\)|\b[A-Za-z][A-Za-z0-9.-]*=.*?(?= has | isn't | is |$)")
 # So many reasons of a kind stand in the summary.

@@ -8,17 +8,20 @@ from typing import List, Set
 
 from adsd_tools.shown import brief
 
-from .report import ENDS, LINES, TEXTS
+from .report import ENDS, LINES, READ, TEXTS
 
 MOST = 1048576
 # Ranges of values (`member;range=0-1499`) stand in names too.
 NAME = re.compile(rb"[A-Za-z0-9.;=*_-]+")
 DN = re.compile(rb"dn\s*:", re.I)
 VERSION = re.compile(rb"version\s*:", re.I)
-# Where a record begins; how many there are, as ldbsearch and ldapsearch tell behind them; and what these write before.
+# Where a record begins; how many there are, as adsd-export, ldbsearch and ldapsearch tell behind them; and what these
+# write before.
 BEGUN = re.compile(rb"^dn\s*:", re.I | re.M)
 TOLD = re.compile(rb"^# (?:returned|numEntries:) ([0-9]{1,15})(?: records)?\r?$", re.M)
-TELLING = re.compile(rb"^# (?:record [0-9]+|extended LDIF|LDAPv3)\r?$", re.M)
+TELLING = re.compile(rb"^# (?:record [0-9]+|extended LDIF|LDAPv3|adsd-export: .*)\r?$", re.M)
+# What adsd-export says that its account may not read.
+UNREAD = re.compile(rb"^# missing: (.*): ([0-9]{1,15}) \((.*)\)\r?$", re.M)
 # What ldapsearch with -LL or -LLL writes behind a page of a search, with nothing behind cookie= behind the last one.
 PAGE = re.compile(rb"^# pagedresults:.*\bcookie=(\S*)\r?$", re.M)
 LF = b"\n"
@@ -222,6 +225,9 @@ def counted(data, file, report):
     begun = [found.start() for found in BEGUN.finditer(data)]
     told, pages = list(TOLD.finditer(data)), list(PAGE.finditer(data))
     where, what = f"{file}:{data.count(LF)}", f"end of {file}"
+    for found in UNREAD.finditer(data):
+        why = f"the account that exported may not read it, as of {shown(found[3], 120)}"
+        report.missing(where, READ, shown(found[1]), why, int(found[2]))
     if told:
         said = sum(int(found[1]) for found in told)
         report.file(file, len(begun), f"it says that there are {said}")
