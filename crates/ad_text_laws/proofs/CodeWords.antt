@@ -1,10 +1,9 @@
 -- The codes of rights and flags, and how a line names a right, are words.
-use Rattle.std.proofs.Common.{Bool, ◌≡◌, ℕ, zero, suc, ◌%◌, ◌/◌, ◌^◌, true, false, if◌then◌else◌, List, [], ◌∷◌, ◌++◌}
-use Rattle.std.proofs.Common.{codes, refl, arith}
-use Rattle.std.specs.Prelude.{◌&&◌, nat_lt, not, ◌==◌}
+use Rattle.std.proofs.Common.{Bool, ◌≡◌, ℕ, true, false, if◌then◌else◌, List, [], ◌∷◌, ◌++◌}
+use Rattle.std.proofs.Common.{codes, refl}
+use Rattle.std.specs.Prelude.{nat_lt, not, ◌==◌}
 use Rattle.std.specs.List.{AllByRecursion, flat_map, list_all}
 use Rattle.std.proofs.lemmas.Bool.{and_parts}
-use Rattle.std.proofs.lemmas.Bool.Decides.{nat_tests}
 use Rattle.ad_acl.specs.declared.codes.Code.{Code}
 use Rattle.ad_acl.specs.Codes.{right_codes, flag_codes}
 use Rattle.ad_acl.specs.Entry.{says}

@@ -1,5 +1,5 @@
 -- The labels of rights are lines, where the names of the schema are.
-use Rattle.std.proofs.Common.{Bool, ◌≡◌, ◌∙◌, ℕ, zero, suc, true, false, if◌then◌else◌, Option, Some, None, List, []}
+use Rattle.std.proofs.Common.{Bool, ◌≡◌, ℕ, zero, suc, true, false, if◌then◌else◌, Option, Some, None, List, []}
 use Rattle.std.proofs.Common.{◌∷◌, ◌++◌, length, codes, refl}
 use Rattle.std.specs.Prelude.{IfSome, slice_get, ◌==◌}
 use Rattle.std.specs.List.{AllByRecursion, flat_map}
@@ -16,14 +16,15 @@ use Rattle.ad_schema.specs.declared.info.ClassInfo.{ClassInfo}
 use Rattle.ad_schema.specs.declared.info.RightInfo.{RightInfo}
 use Rattle.ad_schema.specs.Attributes.{attrs_of, rights_of}
 use Rattle.ad_schema.specs.Classes.{classes_of}
+use Rattle.ad_schema.specs.Sound.{MakeSchema}
 use Rattle.ad_types.specs.TypesOf.{path_of}
 use Rattle.ad_dir_model.specs.Directory.{Directory}
 use Rattle.ad_access_dir.specs.Allowed.{allowed_attrs, applies, is_child_class}
-use Rattle.ad_access_dir.specs.Labels.{label_of}
+use Rattle.ad_access_dir.specs.Labels.{label_of, right_title}
 use Rattle.ad_diff_rights.specs.Rights.{object_codes, attribute_codes, extended_codes, validated_codes, child_codes}
 use Rattle.ad_diff_rights.specs.Rights.{labels, object_labels, attribute_labels, kind_labels, right_labels, child_labels}
 use Rattle.ad_diff_rights.specs.Rights.{children_labels, rights_by, grants_at, class_at, rights}
-use Rattle.ad_text_laws.specs.Lines.{is_line}
+use Rattle.ad_text_laws.specs.Lines.{is_line, is_word}
 use Rattle.ad_text_laws.proofs.LineLaws.{two_lines, word_is_line}
 use Rattle.ad_text_laws.proofs.CodeWords.{title_word}
 use Rattle.ad_text_laws.proofs.SchemaWords.{HasWordNames, names_are_words}

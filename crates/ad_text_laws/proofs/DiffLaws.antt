@@ -1,6 +1,6 @@
 -- The lines of diff are read back.
-use Rattle.std.proofs.Common.{◌≡◌, ℕ, ◌^◌, ◌<◌, true, Option, Some, List, ◌∷◌, ◌++◌, codes, decimal, refl, ap}
-use Rattle.std.specs.Prelude.{option_map, option_and_then}
+use Rattle.std.proofs.Common.{◌≡◌, ℕ, ◌^◌, ◌<◌, true, Option, Some, List, ◌++◌, codes, decimal, refl, ap}
+use Rattle.std.specs.Prelude.{option_map}
 use Rattle.std.specs.List.{AllByRecursion}
 use Rattle.ad_bytes.specs.Puts.{spaced}
 use Rattle.ad_ids.specs.SidValue.{SidValue}

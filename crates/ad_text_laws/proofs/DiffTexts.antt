@@ -1,8 +1,8 @@
 -- The text of diff is of the lines that its answer tells.
-use Rattle.std.proofs.Common.{Bool, ◌≡◌, ◌∙◌, ℕ, zero, suc, ◌+◌, ◌^◌, ◌<◌, true, false, if◌then◌else◌, Option, Some, None}
+use Rattle.std.proofs.Common.{Bool, ◌≡◌, ◌∙◌, ℕ, suc, ◌+◌, ◌^◌, ◌<◌, true, false, if◌then◌else◌, Option, Some, None}
 use Rattle.std.proofs.Common.{List, [], ◌∷◌, ◌++◌, length, get_or, codes, decimal, refl, sym, ap, subst, append_assoc, arith}
 use Rattle.std.proofs.Common.{inl, inr}
-use Rattle.std.specs.Prelude.{All, ◌==◌, ◌&&◌, ◌||◌, is_some, unwrap_or}
+use Rattle.std.specs.Prelude.{All, ◌==◌, ◌||◌, is_some, unwrap_or}
 use Rattle.std.specs.List.{AllByRecursion, flat_map}
 use Rattle.std.specs.Option.{option_map_or}
 use Rattle.std.proofs.lemmas.Bool.{and_parts, false≢true, cases_Bool}
@@ -18,15 +18,15 @@ use Rattle.ad_dn.specs.Text.{dn_text}
 use Rattle.ad_dir_model.specs.Directory.{Directory}
 use Rattle.ad_dir_model.specs.Objects.{is_live, numbers}
 use Rattle.ad_dir_model.specs.Identity.{self_sid}
-use Rattle.ad_dir_model.specs.Names.{name_text, rdns_of}
+use Rattle.ad_dir_model.specs.Names.{name_text}
 use Rattle.ad_dir_model.proofs.Counting.{all_numbers}
 use Rattle.ad_diff_rights.specs.declared.both.Both.{Both}
-use Rattle.ad_diff_rights.specs.Both.{counterpart, are_principals, principals_of_both, objects_of_both, IsLiveBoth}
+use Rattle.ad_diff_rights.specs.Both.{counterpart, are_principals, objects_of_both, IsLiveBoth}
 use Rattle.ad_diff_rights.specs.Rights.{rights}
 use Rattle.ad_diff_rights.specs.Changes.{has_label, line_unless, lines_without, change_lines, changes, Differs}
 use Rattle.ad_diff_rights.proofs.Live.{all_live, principals_live}
 use Rattle.ad_diff.specs.declared.numbering.Grouped.{Grouped}
-use Rattle.ad_diff.specs.Text.{members, has_member, HasNumber, cell, principal_line, object_line, cell_text, row_text}
+use Rattle.ad_diff.specs.Text.{has_member, HasNumber, cell, principal_line, object_line, cell_text, row_text}
 use Rattle.ad_diff.specs.Text.{table_text, only_line, only_text, IsDiffText}
 use Rattle.ad_diff.proofs.Whole.{all_members}
 use Rattle.ad_text_laws.specs.Lines.{is_line, facts_of}

@@ -2,14 +2,12 @@
 use Rattle.std.proofs.Common.{Bool, ◌≡◌, ℕ, zero, suc, ◌^◌, true, false, if◌then◌else◌, Option, Some, None, List, []}
 use Rattle.std.proofs.Common.{◌∷◌, ◌++◌, length, codes, refl, sym, ap, subst, ◌∙◌, append_assoc}
 use Rattle.std.specs.Prelude.{IfSome, slice_get, ◌==◌}
-use Rattle.std.specs.List.{AllByRecursion, flat_map}
+use Rattle.std.specs.List.{flat_map}
 use Rattle.std.specs.Option.{option_map_or}
 use Rattle.ad_bytes.specs.Puts.{spaced, ended}
-use Rattle.ad_ids.specs.declared.guid.Guid.{Guid}
 use Rattle.ad_ids.specs.declared.token.Token.{Token}
 use Rattle.ad_acl.specs.Codes.{right_codes}
 use Rattle.ad_sddl.specs.Canonical.{codes_text}
-use Rattle.ad_schema.specs.declared.line.SchemaRecord.{SchemaRecord}
 use Rattle.ad_schema.specs.declared.info.AttrId.{AttrId}
 use Rattle.ad_schema.specs.declared.info.AttrInfo.{AttrInfo}
 use Rattle.ad_schema.specs.declared.info.ClassId.{ClassId}
@@ -25,11 +23,11 @@ use Rattle.ad_access_dir.specs.Sight.{is_granted}
 use Rattle.ad_access_dir.specs.Labels.{label_of, right_title}
 use Rattle.ad_access_dir.specs.Allowed.{allowed_attrs, applies, is_child_class}
 use Rattle.ad_dsacls.specs.Effective.{code_of, granted_codes, object_rights, attribute_rights, set_rights, child_rights}
-use Rattle.ad_dsacls.specs.Effective.{line_of, object_line, attribute_line, set_grants, set_line, extended_line}
-use Rattle.ad_dsacls.specs.Effective.{validated_line, kind_line, right_line, child_line, child_lines, effective_of}
+use Rattle.ad_dsacls.specs.Effective.{line_of, object_line, attribute_line, set_grants}
+use Rattle.ad_dsacls.specs.Effective.{kind_line, right_line, child_line, child_lines, effective_of}
 use Rattle.ad_dsacls.specs.Effective.{effective_text, set_attrs}
 use Rattle.ad_text_laws.specs.Lines.{is_word}
-use Rattle.ad_text_laws.specs.Words.{joined, AreWords, IsOfWords}
+use Rattle.ad_text_laws.specs.Words.{joined, IsOfWords}
 use Rattle.ad_text_laws.proofs.LineLaws.{two_words}
 use Rattle.ad_text_laws.proofs.CodeWords.{if_word, codes_word, right_letters, title_word}
 use Rattle.ad_text_laws.proofs.SchemaWords.{HasWordNames, names_are_words}

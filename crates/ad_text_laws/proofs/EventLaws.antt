@@ -2,7 +2,7 @@
 use Rattle.std.proofs.Common.{Bool, nat_lt, ◌≡◌, ◌⊎◌, inl, inr, ℕ, zero, suc, ◌^◌, ◌<◌, true, false, if◌then◌else◌}
 use Rattle.std.proofs.Common.{Option, Some, None, All, List, [], ◌∷◌, ◌++◌, length, codes, decimal, refl, sym, ap, subst, ◌∙◌}
 use Rattle.std.proofs.Common.{append_assoc, arith}
-use Rattle.std.specs.Prelude.{option_map, option_and_then, IfSome}
+use Rattle.std.specs.Prelude.{option_map, IfSome}
 use Rattle.std.specs.List.{AllByRecursion, flat_map}
 use Rattle.std.specs.Str.{bytes_eq}
 use Rattle.std.proofs.lemmas.Bool.Decides.{nat_tests}
@@ -13,7 +13,6 @@ use Rattle.uuid.proofs.TextLemmas.{nibble_small}
 use Rattle.uuid.proofs.RoundTrips.{parses_hyphenated_text}
 use Rattle.ad_bytes.specs.Puts.{spaced}
 use Rattle.ad_ids.specs.SidText.{sid_text}
-use Rattle.ad_ids.specs.SidFront.{sid_of_text}
 use Rattle.ad_ids.specs.Guid.{IsGuid}
 use Rattle.ad_ids.specs.GuidText.{guid_text, guid_of_text, guid_or_hyphen, SpellsGuidText}
 use Rattle.ad_ids.specs.declared.guid.Guid.{Guid}
@@ -23,9 +22,9 @@ use Rattle.ad_acl.specs.Mask.{access_system_security}
 use Rattle.ad_acl.specs.Codes.{right_codes, letters_of}
 use Rattle.ad_audit.specs.declared.event.Event.{Event}
 use Rattle.ad_audit.specs.Line.{event_line, outcome_word}
-use Rattle.ad_text_laws.specs.Lines.{is_line, is_word, word_of, number_of, facts_of}
+use Rattle.ad_text_laws.specs.Lines.{is_line, is_word, facts_of}
 use Rattle.ad_text_laws.specs.Events.{outcome_of, right_of, guid_of, event_of, IsBitsOf, IsEvent, event_text}
-use Rattle.ad_text_laws.proofs.LineLaws.{IsRead, both, two_lines, two_words, word_is_line, facts_back}
+use Rattle.ad_text_laws.proofs.LineLaws.{IsRead, both, two_lines, two_words, facts_back}
 use Rattle.ad_text_laws.proofs.WordLaws.{word_then, decimal_word, number_back, sid_word, sid_back}
 use Rattle.ad_text_laws.proofs.FactLaws.{all_read, spaced_line}
 

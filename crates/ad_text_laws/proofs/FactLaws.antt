@@ -1,23 +1,18 @@
 -- What lines tell is read back.
-use Rattle.std.proofs.Common.{Bool, ◌≡◌, ℕ, ◌^◌, ◌<◌, true, false, if◌then◌else◌, Option, Some, None, List, [], ◌∷◌}
-use Rattle.std.proofs.Common.{◌++◌, codes, decimal, refl, ap, subst, ◌∙◌, arith}
-use Rattle.std.specs.Prelude.{option_map, option_and_then}
+use Rattle.std.proofs.Common.{Bool, ◌≡◌, ℕ, true, false, if◌then◌else◌, Option, Some, List, [], ◌∷◌}
+use Rattle.std.proofs.Common.{◌++◌, codes, decimal, refl, ap, arith}
+use Rattle.std.specs.Prelude.{option_map}
 use Rattle.std.specs.List.{AllByRecursion}
 use Rattle.std.specs.Str.{bytes_eq}
-use Rattle.std.proofs.lemmas.Slice.Eq.{bytes_eq-Decides}
 use Rattle.ad_bytes.specs.Puts.{spaced}
-use Rattle.ad_ids.specs.SidValue.{SidValue}
 use Rattle.ad_ids.specs.SidText.{sid_text}
-use Rattle.ad_ids.specs.SidFront.{sid_of_text}
-use Rattle.ad_dn.specs.declared.rdn.Dn.{Dn}
 use Rattle.ad_dn.specs.Text.{dn_text}
-use Rattle.ad_dn.specs.Reading.{dn_of}
 use Rattle.ad_who.specs.declared.decider.Decider.{Decider}
 use Rattle.ad_who.specs.declared.decider.Decider.TheVariants.{Privilege, Owner, Allowed, Refused, Nothing}
 use Rattle.ad_who.specs.Lines.{decider_text}
-use Rattle.ad_text_laws.specs.Lines.{is_line, is_word, word_of, number_of, facts_of}
+use Rattle.ad_text_laws.specs.Lines.{is_line, is_word, number_of, facts_of}
 use Rattle.ad_text_laws.specs.Facts.{decider_of, HasGranted}
-use Rattle.ad_text_laws.specs.Facts.{Holder, holder_line, holder_by, holder_of, IsHolder, Held, held_line, held_by}
+use Rattle.ad_text_laws.specs.Facts.{Holder, holder_line, holder_of, IsHolder, Held, held_line}
 use Rattle.ad_text_laws.specs.Facts.{held_of, IsHeld, holders_text, helds_text}
 use Rattle.ad_text_laws.proofs.LineLaws.{IsRead, two_lines, word_is_line, facts_back}
 use Rattle.ad_text_laws.proofs.WordLaws.{word_then, decimal_word, decimal_other, number_back, sid_word, sid_back, name_line, name_back}

@@ -1,15 +1,12 @@
 -- What is written line by line is read back line by line, and word by word.
-use Rattle.std.proofs.Common.{Bool, eqb, nat_lt, ◌≡◌, ℕ, ◌^◌, ◌<◌, true, false, if◌then◌else◌, Option, Some, None}
-use Rattle.std.proofs.Common.{List, [], ◌∷◌, ◌++◌, refl, sym, ap, ◌∙◌, append_assoc, arith, lt-ltb}
-use Rattle.std.specs.Prelude.{◌&&◌, not, option_map, option_and_then, decimal}
-use Rattle.std.specs.List.{AllByRecursion, flat_map, list_all}
-use Rattle.std.specs.Str.{bytes_eq}
-use Rattle.std.specs.Str.Parse.{digits_value}
+use Rattle.std.proofs.Common.{Bool, eqb, nat_lt, ◌≡◌, ℕ, true, false, if◌then◌else◌, Option, Some, None}
+use Rattle.std.proofs.Common.{List, [], ◌∷◌, ◌++◌, refl, ap, ◌∙◌, append_assoc, arith}
+use Rattle.std.specs.Prelude.{◌&&◌, not, option_map, option_and_then}
+use Rattle.std.specs.List.{AllByRecursion, flat_map}
 use Rattle.std.proofs.lemmas.Bool.{and_parts}
 use Rattle.std.proofs.lemmas.Bool.Decides.{nat_tests}
 use Rattle.std.proofs.lemmas.List.Folds.{list_all-append}
-use Rattle.std.proofs.lemmas.Fmt.{decimal_is_IsNumeral}
-use Rattle.ad_text_laws.specs.Lines.{is_line, is_word, with_first, lines_of, word_of, number_if, number_of, each_of}
+use Rattle.ad_text_laws.specs.Lines.{is_line, is_word, with_first, lines_of, word_of, each_of}
 use Rattle.ad_text_laws.specs.Lines.{facts_of}
 
 pub both : (x y : Bool) → x ≡ true → y ≡ true → (x && y) ≡ true

@@ -2,32 +2,28 @@
 use Rattle.std.proofs.Common.{Bool, ◌≡◌, ℕ, true, false, if◌then◌else◌, Option, Some, List, [], ◌∷◌, ◌++◌, codes, refl}
 use Rattle.std.proofs.Common.{sym, ap, subst, ◌∙◌, append_assoc}
 use Rattle.std.proofs.lemmas.List.{append-nil}
-use Rattle.std.specs.Prelude.{option_map, option_and_then}
+use Rattle.std.specs.Prelude.{option_map}
 use Rattle.std.specs.List.{AllByRecursion, flat_map}
 use Rattle.ad_bytes.specs.Puts.{spaced}
 use Rattle.ad_ids.specs.SidValue.{SidValue}
 use Rattle.ad_ids.specs.Sid.{IsSid}
 use Rattle.ad_ids.specs.SidText.{sid_text}
-use Rattle.ad_ids.specs.SidFront.{sid_of_text}
 use Rattle.ad_acl.specs.declared.kind.AceKind.{AceKind}
 use Rattle.ad_acl.specs.declared.kind.AceKind.TheVariants.{Allow, Deny, Audit}
 use Rattle.ad_dn.specs.declared.rdn.Dn.{Dn}
 use Rattle.ad_dn.specs.Text.{dn_text}
-use Rattle.ad_dn.specs.Reading.{dn_of}
-use Rattle.ad_acl.specs.Entry.{Entry, says}
-use Rattle.ad_sd.specs.declared.parts.AceList.{AceList}
+use Rattle.ad_acl.specs.Entry.{Entry}
 use Rattle.ad_sd.specs.declared.parts.Sd.{Sd}
-use Rattle.ad_sddl.specs.Canonical.{rights_text}
 use Rattle.ad_schema.specs.declared.line.SchemaRecord.{SchemaRecord}
 use Rattle.ad_schema.specs.Sound.{MakeSchema}
-use Rattle.ad_dsacls.specs.Words.{or_dash, kind_text, flags_text, type_text, origin_text}
+use Rattle.ad_dsacls.specs.Words.{kind_text}
 use Rattle.ad_dsacls.specs.Listing.{entry_line, list_lines, lines_of}
 use Rattle.ad_text_laws.specs.Lines.{is_line, is_word, word_of, facts_of}
 use Rattle.ad_text_laws.specs.Listings.{EntryWords, ListLine, object, owned_by, grouped_by, dacl, sacl, entry, entry_text}
 use Rattle.ad_text_laws.specs.Listings.{list_line, protection_of, origin_of, entry_of, list_line_of, IsEntryWords}
 use Rattle.ad_text_laws.specs.Listings.{IsListLine, list_text, protection_word, origin_word, words_at, entries_at}
 use Rattle.ad_text_laws.specs.Listings.{lines_at, IsListed}
-use Rattle.ad_text_laws.proofs.LineLaws.{IsRead, two_lines, word_is_line, facts_back}
+use Rattle.ad_text_laws.proofs.LineLaws.{IsRead, two_lines, facts_back}
 use Rattle.ad_text_laws.proofs.WordLaws.{word_then, sid_word, sid_back, name_line, name_back}
 use Rattle.ad_text_laws.proofs.FactLaws.{all_read, spaced_line}
 use Rattle.ad_text_laws.proofs.TokenLaws.{sid_line}

@@ -1,6 +1,6 @@
 -- The texts of who and can are of such lines.
-use Rattle.std.proofs.Common.{Bool, ◌≡◌, ◌∙◌, ℕ, zero, suc, ◌+◌, ◌^◌, ◌<◌, ◌≤◌, true, false, if◌then◌else◌, Option, Some, List, []}
-use Rattle.std.proofs.Common.{◌∷◌, ◌++◌, length, refl, sym, ap, subst, append_assoc, arith, inl, inr, All}
+use Rattle.std.proofs.Common.{Bool, ◌≡◌, ◌∙◌, ℕ, ◌+◌, ◌^◌, ◌<◌, ◌≤◌, true, false, if◌then◌else◌, Option, List, []}
+use Rattle.std.proofs.Common.{◌∷◌, ◌++◌, length, refl, sym, ap, append_assoc, arith}
 use Rattle.std.specs.Prelude.{◌&&◌, ◌==◌, filter, is_some}
 use Rattle.std.specs.List.{AllByRecursion, flat_map}
 use Rattle.std.proofs.lemmas.Bool.{false≢true}
@@ -8,7 +8,6 @@ use Rattle.std.proofs.lemmas.List.{append-nil}
 use Rattle.std.proofs.lemmas.Grind.{flat_map-append}
 use Rattle.ad_bytes.specs.Puts.{spaced, ended}
 use Rattle.ad_ids.specs.SidValue.{SidValue}
-use Rattle.ad_ids.specs.Sid.{IsSid}
 use Rattle.ad_ids.specs.SidText.{sid_text}
 use Rattle.ad_ids.specs.declared.guid.Guid.{Guid}
 use Rattle.ad_ids.specs.declared.token.Token.{Token}
@@ -19,12 +18,11 @@ use Rattle.ad_acl.specs.Mask.{has_bit, write_owner, access_system_security}
 use Rattle.ad_access.specs.Holder.{Holder as AccessHolder, first_holder}
 use Rattle.ad_access.specs.Grant.{decides, granted_as_owner}
 use Rattle.ad_dn.specs.declared.rdn.Dn.{Dn}
-use Rattle.ad_dn.specs.Value.{AreRdns}
 use Rattle.ad_dn.specs.Text.{dn_text}
 use Rattle.ad_dir_model.specs.Directory.{Directory}
 use Rattle.ad_dir_model.specs.Objects.{is_live, numbers, sd_at}
 use Rattle.ad_dir_model.specs.Identity.{self_sid}
-use Rattle.ad_dir_model.specs.Names.{rdns_of, name_text}
+use Rattle.ad_dir_model.specs.Names.{name_text}
 use Rattle.ad_dir_model.specs.Changes.{goes_with}
 use Rattle.ad_dir_model.proofs.Counting.{all_numbers}
 use Rattle.ad_access_dir.specs.Sight.{is_granted}
@@ -40,7 +38,7 @@ use Rattle.ad_who.proofs.Deciding.{decided_granted}
 use Rattle.ad_text_laws.specs.Lines.{facts_of}
 use Rattle.ad_text_laws.specs.Facts.{HasGranted, Holder, holder_line, holder_by, holder_of, IsHolder, holders_text}
 use Rattle.ad_text_laws.specs.Facts.{Held, held_by, held_of, IsHeld, helds_text}
-use Rattle.ad_text_laws.specs.Printed.{HasForms, name_at, holder_at, AreHolders, IsOfHolders, held_at, helds_at, IsOfHeld}
+use Rattle.ad_text_laws.specs.Printed.{HasForms, name_at, holder_at, IsOfHolders, held_at, helds_at, IsOfHeld}
 use Rattle.ad_text_laws.proofs.FactLaws.{holders_back, helds_back}
 
 -- ---- what decides, where it grants

@@ -1,17 +1,17 @@
 -- The lines of a token are read back.
-use Rattle.std.proofs.Common.{◌≡◌, ℕ, ◌^◌, ◌<◌, true, Option, Some, List, [], ◌∷◌, ◌++◌, codes, decimal, refl, sym, ap, map}
+use Rattle.std.proofs.Common.{◌≡◌, ℕ, true, Option, Some, List, [], ◌∷◌, ◌++◌, codes, decimal, refl, sym, ap, map}
 use Rattle.std.proofs.Common.{◌∙◌, append_assoc, arith}
-use Rattle.std.specs.Prelude.{option_map, option_and_then}
+use Rattle.std.specs.Prelude.{option_map}
 use Rattle.std.specs.List.{AllByRecursion, flat_map}
 use Rattle.std.proofs.lemmas.List.{append-nil}
-use Rattle.ad_bytes.specs.Puts.{ended, labelled}
+use Rattle.ad_bytes.specs.Puts.{labelled}
 use Rattle.ad_ids.specs.SidValue.{SidValue}
 use Rattle.ad_ids.specs.Sid.{IsSid}
 use Rattle.ad_ids.specs.SidText.{sid_text}
 use Rattle.ad_ids.specs.SidFront.{sid_of_text}
 use Rattle.ad_ids.specs.declared.token.Token.{Token}
 use Rattle.ad_who.specs.Lines.{group_line, token_text}
-use Rattle.ad_text_laws.specs.Lines.{is_line, word_of, number_of, facts_of}
+use Rattle.ad_text_laws.specs.Lines.{is_line, word_of, facts_of}
 use Rattle.ad_text_laws.specs.Tokens.{Part, user, owned_by, primary, group, privileges, part_line, part_of, IsPart}
 use Rattle.ad_text_laws.specs.Tokens.{parts_of, HasForm}
 use Rattle.ad_text_laws.proofs.LineLaws.{IsRead, two_lines, word_is_line, facts_back}

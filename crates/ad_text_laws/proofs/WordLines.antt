@@ -1,5 +1,5 @@
 -- Lines of words are read back, and what is put together of them is one.
-use Rattle.std.proofs.Common.{Bool, eqb, nat_lt, ◌≡◌, ℕ, true, false, if◌then◌else◌, Option, Some, List, [], ◌∷◌, ◌++◌}
+use Rattle.std.proofs.Common.{Bool, eqb, nat_lt, ◌≡◌, ℕ, true, false, if◌then◌else◌, Some, List, [], ◌∷◌, ◌++◌}
 use Rattle.std.proofs.Common.{refl, sym, ap, ◌∙◌, append_assoc, arith}
 use Rattle.std.specs.List.{AllByRecursion, flat_map}
 use Rattle.std.proofs.lemmas.Bool.{and_parts}

@@ -1,7 +1,7 @@
 -- What the lines of diff tell, and how they are read back.
 use Rattle.std.specs.Prelude.{◌≡◌, ℕ, ◌^◌, ◌<◌, true, Option, Some, None, option_map, option_and_then, List, ◌++◌}
 use Rattle.std.specs.Prelude.{if◌then◌else◌, codes, decimal}
-use Rattle.std.specs.List.{AllByRecursion, flat_map}
+use Rattle.std.specs.List.{flat_map}
 use Rattle.std.specs.Str.{bytes_eq}
 use Rattle.ad_bytes.specs.Puts.{spaced, ended}
 use Rattle.ad_ids.specs.SidValue.{SidValue}

@@ -1,6 +1,6 @@
 -- What the lines of audit tell, and how they are read back.
 use Rattle.std.specs.Prelude.{◌≡◌, ◌⊎◌, ℕ, ◌^◌, ◌<◌, Bool, true, false, Option, Some, None, option_map, option_and_then}
-use Rattle.std.specs.Prelude.{List, [], ◌∷◌, ◌++◌, ◌==◌, if◌then◌else◌, codes, decimal, IfSome}
+use Rattle.std.specs.Prelude.{List, [], ◌∷◌, if◌then◌else◌, codes, IfSome}
 use Rattle.std.specs.List.{flat_map}
 use Rattle.std.specs.Str.{bytes_eq}
 use Rattle.ad_ids.specs.SidValue.{SidValue}

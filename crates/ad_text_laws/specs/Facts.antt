@@ -1,6 +1,6 @@
 -- What a line of an answer tells, and how it is read back.
-use Rattle.std.specs.Prelude.{ℕ, Option, Some, None, option_map, option_and_then, List, [], ◌∷◌, ◌++◌, codes, decimal}
-use Rattle.std.specs.Prelude.{if◌then◌else◌, Bool, true, false, ◌≡◌, ◌<◌, ◌^◌}
+use Rattle.std.specs.Prelude.{ℕ, Option, Some, option_map, option_and_then, List, ◌++◌, codes}
+use Rattle.std.specs.Prelude.{if◌then◌else◌, ◌<◌, ◌^◌}
 use Rattle.std.specs.List.{flat_map}
 use Rattle.std.specs.Str.{bytes_eq}
 use Rattle.ad_bytes.specs.Puts.{spaced, ended}

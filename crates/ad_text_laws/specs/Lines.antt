@@ -1,6 +1,6 @@
 -- How a text in lines is read back: its lines, and the words of a line.
 use Rattle.std.specs.Prelude.{ℕ, ◌^◌, nat_lt, Bool, not, ◌==◌, ◌&&◌, if◌then◌else◌, Option, Some, None, option_map}
-use Rattle.std.specs.Prelude.{option_and_then, List, [], ◌∷◌, decimal, IsTrue}
+use Rattle.std.specs.Prelude.{option_and_then, List, [], ◌∷◌, decimal}
 use Rattle.std.specs.List.{list_all}
 use Rattle.std.specs.Str.{bytes_eq}
 use Rattle.std.specs.Str.Parse.{digits_value}

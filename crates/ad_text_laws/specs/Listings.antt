@@ -1,5 +1,5 @@
 -- What the lines of list tell, and how they are read back.
-use Rattle.std.specs.Prelude.{◌≡◌, ℕ, Bool, true, false, Option, Some, None, option_map, option_and_then, List, [], ◌∷◌, ◌++◌}
+use Rattle.std.specs.Prelude.{◌≡◌, ℕ, Bool, true, false, Option, Some, None, option_map, option_and_then, List, ◌∷◌, ◌++◌}
 use Rattle.std.specs.Prelude.{if◌then◌else◌, codes, map}
 use Rattle.std.specs.List.{AllByRecursion, flat_map}
 use Rattle.std.specs.Str.{bytes_eq}
@@ -16,7 +16,6 @@ use Rattle.ad_dn.specs.Text.{dn_text}
 use Rattle.ad_dn.specs.Reading.{dn_of}
 use Rattle.ad_text_laws.specs.Lines.{is_word, word_of}
 use Rattle.ad_acl.specs.Entry.{Entry, says}
-use Rattle.ad_sd.specs.declared.parts.AceList.{AceList}
 use Rattle.ad_sd.specs.declared.parts.Sd.{Sd}
 use Rattle.ad_sddl.specs.Canonical.{rights_text}
 use Rattle.ad_schema.specs.declared.line.SchemaRecord.{SchemaRecord}
