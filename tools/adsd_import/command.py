@@ -8,6 +8,7 @@ import adsd_incomplete
 from adsd_files import makes_file, write
 
 from . import complete, names, objects, output, rights, schema, text
+from .opened import lines_of
 from .report import ENDS, Refused, Report, seen
 
 ABOUT = """Makes LDIF that `adsd load` takes of an export of Active Directory or Samba, as adsd-export, ldifde,
@@ -45,7 +46,7 @@ class Words(argparse.ArgumentParser):
 def words(arguments):
     parser = Words(prog="adsd-import", description=ABOUT, epilog=STATUSES,
                    formatter_class=argparse.RawDescriptionHelpFormatter)
-    parser.add_argument("exports", nargs="+", metavar="EXPORT", help="a file of LDIF, or - for standard input")
+    parser.add_argument("exports", nargs="+", metavar="EXPORT", help="a file of LDIF, as it stands or compressed by gzip, or - for standard input")
     parser.add_argument("-o", "--output", metavar="FILE", help="where the LDIF goes (standard output)")
     parser.add_argument("-r", "--report", metavar="FILE", help="where the report goes (standard error)")
     parser.add_argument("--base", metavar="DN", help="take the objects at and below this name alone")
@@ -68,10 +69,13 @@ def read_exports(files, report):
     made = []
     for file in files:
         if file == "-":
-            made += text.records(sys.stdin.buffer.read(), "stdin", report)
-        else:
-            with open(file, "rb") as opened:
-                made += text.records(opened.read(), file, report)
+            made += text.records(lines_of(sys.stdin.buffer, "stdin", report), "stdin", report)
+            continue
+        with open(file, "rb") as opened:
+            try:
+                made += text.records(lines_of(opened, file, report), file, report)
+            except OSError as fault:
+                raise OSError(fault.errno, fault.strerror, file) from None
     return made
 
 
@@ -88,7 +92,7 @@ def counted(options, report):
 
 
 def imported(options, report):
-    """The text that is written, how many objects it has, and what the export lacks (empty for nothing)."""
+    """The pieces of the text that is written, how many objects it has, and what the export lacks (empty for nothing)."""
     base = None
     if options.base is not None:
         try:
@@ -98,8 +102,10 @@ def imported(options, report):
     records = read_exports(options.exports, report)
     counted(options, report)
     before = complete.told_before(records)
-    of_schema = [one for one in records if schema.kind_of(one) is not None]
-    others = [one for one in records if schema.kind_of(one) is None]
+    of_schema, others = [], []
+    for one in records:
+        (others if schema.kind_of(one) is None else of_schema).append(one)
+    del records
     made = schema.read(of_schema, report)
     kept = objects.read(others, base, made, report)
     root = next(iter(kept.values()))
@@ -144,7 +150,7 @@ def put_beside(file, report, lacked):
 
 
 def put(file, data, report, lacked):
-    """Writes the text, and what its export lacks beside it first, so that it never stands without that. Where the text
+    """Writes the pieces of the text, and what its export lacks beside it first, so that it never stands without that. Where the text
     can't be written, what stood beside it stands there as before."""
     beside, before = file + adsd_incomplete.SUFFIX, None
     if makes_file(file) and os.path.isfile(beside):
@@ -177,7 +183,8 @@ def finish(options, report, made):
     if status is not None:
         return status
     if options.output is None:
-        sys.stdout.buffer.write(data)
+        for piece in data:
+            sys.stdout.buffer.write(piece)
         sys.stdout.buffer.flush()
     else:
         put(options.output, data, report, lacked)
