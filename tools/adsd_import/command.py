@@ -12,8 +12,8 @@ from .opened import lines_of
 from .report import ENDS, Refused, Report, seen
 
 ABOUT = """Makes LDIF that `adsd load` takes of an export of Active Directory or Samba, as adsd-export, ldifde,
-ldbsearch or ldapsearch write it. An export has the schema and the rights with it (CN=Schema and CN=Extended-Rights below
-CN=Configuration), and the attribute nTSecurityDescriptor; it may come in several files. The report begins with a summary,
+ldbsearch or ldapsearch write it. An export has the schema and the rights with it (CN=Schema and CN=Extended-Rights
+below CN=Configuration), and the attribute nTSecurityDescriptor; it may come in several files. The report begins with a summary,
 losses first. All that is mended or left out is told, a line each:
 
     FILE:LINE: mended: ..       stands otherwise in the output, and grants nothing more
@@ -46,7 +46,8 @@ class Words(argparse.ArgumentParser):
 def words(arguments):
     parser = Words(prog="adsd-import", description=ABOUT, epilog=STATUSES,
                    formatter_class=argparse.RawDescriptionHelpFormatter)
-    parser.add_argument("exports", nargs="+", metavar="EXPORT", help="a file of LDIF, as it stands or compressed by gzip, or - for standard input")
+    parser.add_argument("exports", nargs="+", metavar="EXPORT",
+                        help="a file of LDIF, as it stands or compressed by gzip, or - for standard input")
     parser.add_argument("-o", "--output", metavar="FILE", help="where the LDIF goes (standard output)")
     parser.add_argument("-r", "--report", metavar="FILE", help="where the report goes (standard error)")
     parser.add_argument("--base", metavar="DN", help="take the objects at and below this name alone")
@@ -92,7 +93,7 @@ def counted(options, report):
 
 
 def imported(options, report):
-    """The pieces of the text that is written, how many objects it has, and what the export lacks (empty for nothing)."""
+    """The pieces of the text that is written, how many objects it has, and what the export lacks (empty: nothing)."""
     base = None
     if options.base is not None:
         try:
@@ -150,8 +151,8 @@ def put_beside(file, report, lacked):
 
 
 def put(file, data, report, lacked):
-    """Writes the pieces of the text, and what its export lacks beside it first, so that it never stands without that. Where the text
-    can't be written, what stood beside it stands there as before."""
+    """Writes the pieces of the text, and what its export lacks beside it first, so that it never stands without that.
+    Where the text can't be written, what stood beside it stands there as before."""
     beside, before = file + adsd_incomplete.SUFFIX, None
     if makes_file(file) and os.path.isfile(beside):
         with open(beside, "rb") as opened:

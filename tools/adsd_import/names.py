@@ -45,7 +45,7 @@ def folded(part):
 
 @lru_cache(maxsize=65536)
 def plain_part(text):
-    """The part of a text in which nothing is escaped, quoted or to be mended, as nearly all are; None of another one."""
+    """The part of a text in which nothing is escaped, quoted or to be mended, as in nearly all; None of another."""
     kind, equals, value = text.partition(b"=")
     if not equals or not TYPE.fullmatch(kind) or not 1 <= len(value) <= 1024 or value[0] in b" #" or value[-1] == 0x20:
         return None

@@ -4,8 +4,8 @@ Loading drops what an object inherited and computes it from the root again. Wher
 the export, the list is kept entry by entry, as one of the object's own, and protected. (What an object inherited is
 written nevertheless: without it the text, imported again, would say that the object hasn't these rights.)
 
-What becomes of a descriptor hangs on its bytes, the list of the parent, the class, and whether the object heads a naming
-context. So it is decided once for all objects that have these in common; what is reported is told of each.
+What becomes of a descriptor hangs on its bytes, the list of the parent, the class, and whether the object heads a
+naming context. So it is decided once for all objects that have these in common; what is reported is told of each.
 """
 
 from dataclasses import dataclass, replace
