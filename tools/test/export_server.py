@@ -6,7 +6,7 @@ import sys
 import time
 
 PASSWORD = "Passw0rd-x1"
-SYSTEM, START_SECONDS = "/usr/bin/python3", 300
+SYSTEM, START_SECONDS = "/usr/bin/python3", 1800
 # Samba's databases aren't synced: they are thrown away.
 SURROUNDINGS = {**os.environ, "TDB_NO_FSYNC": "1", "PATH": "/usr/bin:/usr/sbin:" + os.environ["PATH"]}
 # Makes the user bob, so many users and a group of them, or nothing; prints how many objects there are.

@@ -1,1 +1,1 @@
-"""What `tools/adsd-export` is made of: a domain of a live server becomes a file that `adsd-import` takes. Not proved."""
+"""What `tools/adsd-export` is made of: a domain of a server becomes a file that `adsd-import` takes. Not proved."""

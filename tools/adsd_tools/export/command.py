@@ -24,9 +24,9 @@ passwords, keys or their hashes aren't asked for; deleted objects aren't there. 
 and its owner's alone (0600). Where the connection is lost a new one goes on where it was.
 
 This script is not proved. It needs Debian's python3-ldap."""
-STATUSES = """status: 0 written; 1 the server refuses, or is none of Active Directory or Samba; 2 usage; 4 stopped, since
-the account may not read what matters; 5 the file can't be written; 6 the server can't be reached, or its certificate
-isn't taken, or the connection was lost for good. Where it isn't 0, no file is written."""
+STATUSES = """status: 0 written; 1 the server refuses, or is none of Active Directory or Samba; 2 usage; 4 stopped,
+since the account may not read what matters; 5 the file can't be written; 6 the server can't be reached, or its
+certificate isn't taken, or the connection was lost for good. Where it isn't 0, no file is written."""
 SYSTEM = "/usr/bin/python3"
 
 

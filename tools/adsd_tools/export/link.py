@@ -141,7 +141,7 @@ class Link:
         if isinstance(fault, (ldap.STRONG_AUTH_REQUIRED, ldap.CONFIDENTIALITY_REQUIRED)):
             return Fault(1, f"{url}: the server takes no password without TLS: leave --plain out, or ask ldaps://")
         if isinstance(fault, ldap.AUTH_UNKNOWN):
-            return Fault(1, f"{url}: there is no GSSAPI here (Debian: libsasl2-modules-gssapi-mit), or not at the server")
+            return Fault(1, f"{url}: no GSSAPI here (Debian: libsasl2-modules-gssapi-mit), or not at the server")
         if isinstance(fault, (ldap.LOCAL_ERROR, ldap.AUTH_METHOD_NOT_SUPPORTED)) and self.who is None:
             return Fault(1, f"{url}: GSSAPI fails: {told_of(fault)}")
         if self.has_tls and isinstance(fault, (*LOST, ldap.PROTOCOL_ERROR, ldap.OPERATIONS_ERROR)):
@@ -162,7 +162,8 @@ class Link:
         held = {name.lower(): [value.decode("utf-8", "replace") for value in values] for name, values in found.items()}
         able = held.get("supportedcapabilities", [])
         if AD not in able or not held.get("defaultnamingcontext") or not held.get("schemanamingcontext"):
-            what = "is one of AD LDS, which has no domain" if AD_LDS in able else "isn't one of Active Directory or Samba"
+            is_lds = "is one of AD LDS, which has no domain"
+            what = is_lds if AD_LDS in able else "isn't one of Active Directory or Samba"
             raise Fault(1, f"{self.where.url()}: the server {what}")
         for control, name in ((PAGES, "pages"), (SD_FLAGS, "flags of descriptors")):
             if control not in held.get("supportedcontrol", []):

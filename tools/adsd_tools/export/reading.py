@@ -55,7 +55,7 @@ class Reader:
         return False
 
     def listed(self, base):
-        """The names of the objects at and below a name that weren't listed yet, and of the attributes that they have."""
+        """The names of the objects at and below a name that weren't listed yet, and of their attributes."""
         found, attributes = {}, {"nTSecurityDescriptor"}
 
         def work():

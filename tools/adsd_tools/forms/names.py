@@ -2,6 +2,7 @@
 
 import re
 from dataclasses import dataclass
+from functools import lru_cache
 from typing import Tuple
 
 from adsd_tools.shown import shown_bytes
@@ -10,6 +11,7 @@ TYPE = re.compile(rb"[A-Za-z][A-Za-z0-9-]*")
 BLANKS = re.compile(rb" *")
 ESCAPED = b'"+,;<>\\ #='
 HEX = re.compile(rb"[0-9A-Fa-f]{2}")
+UNPLAIN = re.compile(rb'["+;<>\\\0]')
 
 
 class NoName(Exception):
@@ -29,10 +31,33 @@ class Name:
 
     def key(self):
         """What two texts of one name have in common: types, and values after case folding."""
-        return tuple((kind, value.decode().casefold()) for kind, value in self.parts)
+        return tuple(map(folded, self.parts))
 
     def text(self):
         return b",".join(kind.encode() + b"=" + value_text(value) for kind, value in self.parts)
+
+
+@lru_cache(maxsize=65536)
+def folded(part):
+    """A part with its value after case folding; the parts above an object are those of many."""
+    return part[0], part[1].decode().casefold()
+
+
+@lru_cache(maxsize=65536)
+def plain_part(text):
+    """The part of a text in which nothing is escaped, quoted or to be mended, as in nearly all; None of another."""
+    kind, equals, value = text.partition(b"=")
+    if not equals or not TYPE.fullmatch(kind) or not 1 <= len(value) <= 1024 or value[0] in b" #" or value[-1] == 0x20:
+        return None
+    return (kind.decode().upper(), value) if value.isascii() else None
+
+
+def plain(text):
+    """The name of a text in which nothing is escaped, quoted or to be mended; None of another one."""
+    if not text or UNPLAIN.search(text):
+        return None
+    parts = tuple(map(plain_part, text.split(b",")))
+    return None if None in parts else Name(parts)
 
 
 def value_text(value):
@@ -90,6 +115,9 @@ def value_at(text, at):
 
 def read(text):
     """The name of a text; the empty text is the name without parts."""
+    name = plain(text)
+    if name is not None:
+        return name
     parts, mended = [], text != text.strip(b" ") and not text.endswith(b"\\ ")
     at, text = BLANKS.match(text).end(), text if text.endswith(b"\\ ") else text.rstrip(b" ")
     while at < len(text) or parts:

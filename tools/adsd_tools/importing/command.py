@@ -10,11 +10,12 @@ from adsd_tools.forms import names
 from adsd_tools.shown import shown
 
 from . import complete, objects, output, rights, schema, text
+from .opened import lines_of
 from .report import ENDS, Refused, Report
 
 ABOUT = """Makes LDIF that `adsd load` takes of an export of Active Directory or Samba, as adsd-export, ldifde,
-ldbsearch or ldapsearch write it. An export has the schema and the rights with it (CN=Schema and CN=Extended-Rights below
-CN=Configuration), and the attribute nTSecurityDescriptor; it may come in several files. The report begins with a summary,
+ldbsearch or ldapsearch write it. An export has the schema and the rights with it (CN=Schema and CN=Extended-Rights
+below CN=Configuration), and the attribute nTSecurityDescriptor; it may come in several files. The report begins with a summary,
 losses first. All that is mended or left out is told, a line each:
 
     FILE:LINE: mended: ..       stands otherwise in the output, and grants nothing more
@@ -47,7 +48,8 @@ class Words(argparse.ArgumentParser):
 def words(arguments):
     parser = Words(prog="adsd-import", description=ABOUT, epilog=STATUSES,
                    formatter_class=argparse.RawDescriptionHelpFormatter)
-    parser.add_argument("exports", nargs="+", metavar="EXPORT", help="a file of LDIF, or - for standard input")
+    parser.add_argument("exports", nargs="+", metavar="EXPORT",
+                        help="a file of LDIF, as it stands or compressed by gzip, or - for standard input")
     parser.add_argument("-o", "--output", metavar="FILE", help="where the LDIF goes (standard output)")
     parser.add_argument("-r", "--report", metavar="FILE", help="where the report goes (standard error)")
     parser.add_argument("--base", metavar="DN", help="take the objects at and below this name alone")
@@ -70,10 +72,13 @@ def read_exports(files, report):
     made = []
     for file in files:
         if file == "-":
-            made += text.records(sys.stdin.buffer.read(), "stdin", report)
-        else:
-            with open(file, "rb") as opened:
-                made += text.records(opened.read(), file, report)
+            made += text.records(lines_of(sys.stdin.buffer, "stdin", report), "stdin", report)
+            continue
+        with open(file, "rb") as opened:
+            try:
+                made += text.records(lines_of(opened, file, report), file, report)
+            except OSError as fault:
+                raise OSError(fault.errno, fault.strerror, file) from None
     return made
 
 
@@ -90,7 +95,7 @@ def counted(options, report):
 
 
 def imported(options, report):
-    """The text that is written, how many objects it has, and what the export lacks (empty for nothing)."""
+    """The pieces of the text that is written, how many objects it has, and what the export lacks (empty: nothing)."""
     base = None
     if options.base is not None:
         try:
@@ -100,8 +105,10 @@ def imported(options, report):
     records = read_exports(options.exports, report)
     counted(options, report)
     before = complete.told_before(records)
-    of_schema = [one for one in records if schema.kind_of(one) is not None]
-    others = [one for one in records if schema.kind_of(one) is None]
+    of_schema, others = [], []
+    for one in records:
+        (others if schema.kind_of(one) is None else of_schema).append(one)
+    del records
     made = schema.read(of_schema, report)
     kept = objects.read(others, base, made, report)
     root = next(iter(kept.values()))
@@ -146,8 +153,8 @@ def put_beside(file, report, lacked):
 
 
 def put(file, data, report, lacked):
-    """Writes the text, and what its export lacks beside it first, so that it never stands without that. Where the text
-    can't be written, what stood beside it stands there as before."""
+    """Writes the pieces of the text, and what its export lacks beside it first, so that it never stands without that.
+    Where the text can't be written, what stood beside it stands there as before."""
     beside, before = file + incomplete.SUFFIX, None
     if makes_file(file) and os.path.isfile(beside):
         with open(beside, "rb") as opened:
@@ -179,7 +186,8 @@ def finish(options, report, made):
     if status is not None:
         return status
     if options.output is None:
-        sys.stdout.buffer.write(data)
+        for piece in data:
+            sys.stdout.buffer.write(piece)
         sys.stdout.buffer.flush()
     else:
         put(options.output, data, report, lacked)

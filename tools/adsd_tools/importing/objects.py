@@ -110,6 +110,8 @@ def whole_ranges(one, report):
     """Reports attributes of which an object has ranges (`member;range=0-1499`), but not all from 0 to the end (`*`)."""
     found = {}
     for line in one.record.lines:
+        if ";" not in line.name:
+            continue
         name, _, option = line.name.partition(";")
         told = RANGE.fullmatch(option)
         if told:
@@ -163,24 +165,26 @@ class Values:
 
     def take(self, one, line, low, seen):
         """Whether a line with a value of its own is kept."""
-        what = f"{line.name} {brief(line.value, 40)} of {one.words()}"
+        def what():
+            return f"{line.name} {brief(line.value, 40)} of {one.words()}"
+
         try:
             value, key, mend = values.read(low, self.schema.syntax(low), line.value)
         except values.NoText as why:
-            self.report.missing(line.where, TEXTS, what, str(why))
+            self.report.missing(line.where, TEXTS, what(), str(why))
             return False
         except values.NoValue as why:
             if low == "member":
-                self.report.missing(line.where, MEMBERS, what, str(why))
+                self.report.missing(line.where, MEMBERS, what(), str(why))
             else:
-                self.report.loss(line.where, what, str(why))
+                self.report.loss(line.where, what(), str(why))
             return False
         if seen.get(low) and (self.schema.is_single(low) or key in seen[low]):
             why = "the object has it already" if key in seen[low] else "a second value where one is meant"
-            self.report.loss(line.where, what, why)
+            self.report.loss(line.where, what(), why)
             return False
         if mend:
-            self.report.mended(line.where, what, mend)
+            self.report.mended(line.where, what(), mend)
         line.value = value
         seen.setdefault(low, set()).add(key)
         if low == "objectsid" and one.sid is None and self.schema.syntax(low) == "2.5.5.17":

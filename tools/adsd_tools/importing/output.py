@@ -1,6 +1,8 @@
 """The LDIF that is written, and its limit."""
 
 import base64
+import re
+from functools import lru_cache
 
 from adsd_tools import incomplete
 from adsd_tools.shown import shown
@@ -15,17 +17,37 @@ NEEDED = {"objectclass", "ntsecuritydescriptor", "objectsid", "samaccountname", 
           "objectcategory"}
 
 
+DESCRIPTOR = "nTSecurityDescriptor"
+PLAIN = re.compile(rb"[!-9;=-~](?:[ -~]*[!-~])?")
+
+
 def is_plain(value):
     """Whether a value stands as text: letters of ASCII that are seen, and blanks neither first nor last."""
-    return (all(0x20 <= byte < 0x7F for byte in value) and value[:1] not in (b" ", b":", b"<") and value[-1:] != b" "
-            and value != b"")
+    return PLAIN.fullmatch(value) is not None
 
 
 def line_text(name, value):
     """One line, without its end."""
     if value == b"" or is_plain(value):
         return name.encode() + b": " + value
-    return name.encode() + b":: " + base64.b64encode(value)
+    return name.encode() + b":: " + (encoded if name == DESCRIPTOR else base64.b64encode)(value)
+
+
+@lru_cache(maxsize=1024)
+def encoded(value):
+    """A descriptor in base64: objects have them in common."""
+    return base64.b64encode(value)
+
+
+def line_size(name, value):
+    """How many bytes a line has, with its end."""
+    if value == b"" or is_plain(value):
+        return len(name) + len(value) + 3
+    return len(name) + 4 * ((len(value) + 2) // 3) + 4
+
+
+def record_size(record):
+    return line_size("dn", record.dn) + 1 + sum(line_size(line.name, line.value) for line in record.lines)
 
 
 def record_text(record):
@@ -66,12 +88,12 @@ def may_go(schema, objects):
 
 
 def size_of(lines):
-    return sum(len(line_text(line.name, line.value)) + 1 for _, line in lines)
+    return sum(line_size(line.name, line.value) for _, line in lines)
 
 
 def fit(schema, objects, limit, lacked, report):
     """Takes attributes out until the text has at most `limit` bytes: by groups, and in a group the greatest first."""
-    total = len(comment(lacked)) + sum(len(record_text(one.record)) for one in [*schema.records, *objects])
+    total = len(comment(lacked)) + sum(record_size(one.record) for one in [*schema.records, *objects])
     if total <= limit:
         return
     found = {key: (size_of(lines), lines) for key, lines in may_go(schema, objects).items()}
@@ -90,5 +112,7 @@ def fit(schema, objects, limit, lacked, report):
 
 
 def text_of(schema, objects, lacked):
-    """The whole text; `lacked` is what is missing of the export, empty where nothing is."""
-    return comment(lacked) + b"".join(record_text(one.record) for one in [*schema.records, *objects])
+    """The whole text, piece by piece; `lacked` is what is missing of the export, empty where nothing is."""
+    yield comment(lacked)
+    for one in [*schema.records, *objects]:
+        yield record_text(one.record)

@@ -1,10 +1,15 @@
 """What becomes of the objects' descriptors, so that nobody gets a right that the export didn't give.
 
 Loading drops what an object inherited and computes it from the root again. Where that would give more than the list of
-the export, the list is kept entry by entry, as one of the object's own, and protected.
+the export, the list is kept entry by entry, as one of the object's own, and protected. (What an object inherited is
+written nevertheless: without it the text, imported again, would say that the object hasn't these rights.)
+
+What becomes of a descriptor hangs on its bytes, the list of the parent, the class, and whether the object heads a
+naming context. So it is decided once for all objects that have these in common; what is reported is told of each.
 """
 
-from dataclasses import replace
+from dataclasses import dataclass, replace
+from typing import List, Optional
 
 from adsd_tools.forms.descriptor import ALLOW, DENY, INHERIT_ONLY, INHERITED, Acl, Descriptor, Unreadable, written
 from adsd_tools.forms.descriptor import read as read_bytes
@@ -78,12 +83,34 @@ def behind(all_effects):
     return all_effects[first:]
 
 
+@dataclass
+class Read:
+    """What a descriptor's bytes or text say: the descriptor or why it can't be read, what is lost, what was mended."""
+
+    made: Optional[Descriptor]
+    lost: List
+    mends: Optional[List]
+    fault: str = ""
+
+
+@dataclass
+class Decision:
+    """What becomes of a descriptor at an object: why its list was changed, why it can't be written (empty where it
+    wasn't, or can), the bytes that are written, and the list that loading makes of it."""
+
+    why: str
+    fault: str
+    value: bytes
+    whole: List
+
+
 class Rights:
     """Goes over the objects, parents first, and gives each the line of its descriptor."""
 
     def __init__(self, schema, domain, defaults, report):
         self.schema, self.domain, self.defaults, self.report = schema, domain, defaults, report
-        self.lists = {}
+        # The lists that loading makes, by object; what was read of each text or bytes, and what was decided of it.
+        self.lists, self.known, self.decided = {}, {}, {}
 
     def closes(self, where, what, why):
         """Reports a descriptor that grants nothing now."""
@@ -95,17 +122,25 @@ class Rights:
         for line in one.descriptors[1:]:
             self.report.loss(line.where, what, "a second one")
         line = one.descriptors[0]
-        try:
-            if line.value[:1] == b"\x01":
-                made, lost = read_bytes(line.value)
-            else:
-                made, lost, mends = sddl.read(line.value.decode("latin-1"), self.domain)
-                self.report.mended(line.where, what, ", ".join(["a text, written as bytes"] + mends))
-        except Unreadable as why:
-            self.closes(line.where, what, why)
+        found = self.known.get(line.value)
+        if found is None:
+            found = self.known[line.value] = self.read(line.value)
+        if found.made is None:
+            self.closes(line.where, what, found.fault)
             return closed(), line
-        lost_entries(lost, line.where, one.words(), self.report)
-        return self.filled(made, line, what), line
+        if found.mends is not None:
+            self.report.mended(line.where, what, ", ".join(["a text, written as bytes"] + found.mends))
+        lost_entries(found.lost, line.where, one.words(), self.report)
+        return self.filled(replace(found.made), line, what), line
+
+    def read(self, value):
+        """What some bytes or a text say."""
+        try:
+            if value[:1] == b"\x01":
+                return Read(*read_bytes(value), None)
+            return Read(*sddl.read(value.decode("latin-1"), self.domain))
+        except Unreadable as why:
+            return Read(None, [], None, str(why))
 
     def filled(self, made, line, what):
         """A descriptor with all parts that it has to have."""
@@ -122,8 +157,15 @@ class Rights:
 
     def fitted(self, one, made, line):
         """A descriptor whose lists, as loading makes them, give nothing more than those of the export."""
+        made, why = self.fit(one, made)
+        if why:
+            self.report.mended(line.where, f"the list of {one.words()}", why)
+        return made
+
+    def fit(self, one, made):
+        """The same, and why its list was changed; empty where it wasn't."""
         parent = self.lists.get(one.key[1:])
-        what = f"the list of {one.words()}"
+        made = replace(made, dacl=replace(made.dacl), sacl=made.sacl and replace(made.sacl))
         acls = [made.dacl] if made.sacl is None else [made.dacl, made.sacl]
         inherited = any(entry.flags & INHERITED for acl in acls for entry in acl.entries)
         why = ""
@@ -134,11 +176,10 @@ class Rights:
         elif may_differ(made.dacl.entries, self.whole(one, made, parent)):
             why = "what is above gives it other rights; the list is its own now, and protected"
         if why:
-            self.report.mended(line.where, what, why)
             frozen(made.dacl, parent is not None)
             if made.sacl is not None and (parent is None or one.is_head):
                 frozen(made.sacl, parent is not None)
-        return made
+        return made, why
 
     def whole(self, one, made, parent):
         return whole(made.dacl, parent, self.schema.guid(one.of_class), made.owner, made.group)
@@ -150,13 +191,28 @@ class Rights:
         made.owner = made.group = sid_of_text("S-1-5-32-544")
         return made
 
-    def bytes_of(self, one, made, line):
+    def decide(self, one, made):
+        """What becomes of a descriptor at an object."""
+        parent = self.lists.get(one.key[1:], [])
+        made, why = self.fit(one, made)
         try:
-            return written(made), made
-        except Unreadable as why:
-            what = f"the descriptor of {one.words()}"
-            self.closes(line.where, what, why)
-            return written(closed()), closed()
+            return Decision(why, "", written(made), self.whole(one, made, parent))
+        except Unreadable as fault:
+            return Decision(why, str(fault), written(closed()), self.whole(one, closed(), parent))
+
+    def settled(self, one, made, line):
+        """The bytes of an object's descriptor, and the list that loading makes of it, after it was reported."""
+        # (Each list of a parent is kept, so that its number is its own.)
+        parent = self.lists.get(one.key[1:])
+        common = line.value, id(parent), one.of_class, one.is_head
+        found = self.decided.get(common)
+        if found is None:
+            found = self.decided[common] = self.decide(one, made)
+        if found.why:
+            self.report.mended(line.where, f"the list of {one.words()}", found.why)
+        if found.fault:
+            self.closes(line.where, f"the descriptor of {one.words()}", found.fault)
+        return found.value, found.whole
 
     def give(self, one):
         """Gives an object its descriptor, as the last of its lines."""
@@ -172,9 +228,7 @@ class Rights:
             made, line = closed(), Line(one.record.where, "nTSecurityDescriptor", b"")
         else:
             made, line = self.told(one)
-            made = self.fitted(one, made, line)
-        value, made = self.bytes_of(one, made, line)
-        self.lists[one.key] = self.whole(one, made, self.lists.get(one.key[1:], []))
+        value, self.lists[one.key] = self.settled(one, made, line)
         one.record.lines.append(Line(line.where, "nTSecurityDescriptor", value))
 
 

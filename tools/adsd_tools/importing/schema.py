@@ -54,6 +54,24 @@ class SchemaRecord:
         self.told[line.name.lower()].remove(line)
 
 
+@dataclass(frozen=True)
+class Facts:
+    """What is asked of an attribute for each of its values."""
+
+    syntax: str
+    is_link: bool
+    is_back_link: bool
+    is_single: bool
+
+
+def facts_of(name, one):
+    """The facts of an attribute's record."""
+    syntax, number = one.value("attributeSyntax").decode("latin-1"), one.value("linkID")
+    odd = None if number is None or name in UNTOLD else int(number) % 2
+    return Facts(syntax, odd == 0 and syntax == "2.5.5.1", odd == 1,
+                 one.value("isSingleValued", b"").upper() == b"TRUE")
+
+
 @dataclass
 class Schema:
     """The records that are taken, in order, and the attributes and classes among them by name in lower case."""
@@ -62,24 +80,26 @@ class Schema:
     attributes: Dict[str, SchemaRecord]
     classes: Dict[str, SchemaRecord]
     dropped: Dict[str, str] = field(default_factory=dict)
+    facts: Dict[str, "Facts"] = field(default_factory=dict)
+
+    def of(self, name):
+        """The facts of an attribute, by its name in lower case; they are worked out once."""
+        found = self.facts.get(name)
+        if found is None:
+            found = self.facts[name] = facts_of(name, self.attributes[name])
+        return found
 
     def syntax(self, name):
-        return self.attributes[name].value("attributeSyntax").decode("latin-1")
-
-    def link_id(self, name):
-        value = self.attributes[name].value("linkID")
-        return None if value is None else int(value)
+        return self.of(name).syntax
 
     def is_link(self, name):
-        number = self.link_id(name)
-        return number is not None and number % 2 == 0 and self.syntax(name) == "2.5.5.1" and name not in UNTOLD
+        return self.of(name).is_link
 
     def is_back_link(self, name):
-        number = self.link_id(name)
-        return number is not None and number % 2 == 1 and name not in UNTOLD
+        return self.of(name).is_back_link
 
     def is_single(self, name):
-        return self.attributes[name].value("isSingleValued", b"").upper() == b"TRUE"
+        return self.of(name).is_single
 
     def above(self, name):
         """The class above a class, by name in lower case; None where there is none."""

@@ -2,7 +2,10 @@
 
 import base64
 import binascii
+import io
+import itertools
 import re
+import sys
 from dataclasses import dataclass, field
 from typing import List, Set
 
@@ -11,20 +14,19 @@ from adsd_tools.shown import brief
 from .report import ENDS, LINES, READ, TEXTS
 
 MOST = 1048576
+# Values above so many bytes are kept once: descriptors are, which objects have in common.
+SHARED = 64
 # Ranges of values (`member;range=0-1499`) stand in names too.
 NAME = re.compile(rb"[A-Za-z0-9.;=*_-]+")
 DN = re.compile(rb"dn\s*:", re.I)
 VERSION = re.compile(rb"version\s*:", re.I)
-# Where a record begins; how many there are, as adsd-export, ldbsearch and ldapsearch tell behind them; and what these
-# write before.
-BEGUN = re.compile(rb"^dn\s*:", re.I | re.M)
-TOLD = re.compile(rb"^# (?:returned|numEntries:) ([0-9]{1,15})(?: records)?\r?$", re.M)
-TELLING = re.compile(rb"^# (?:record [0-9]+|extended LDIF|LDAPv3|adsd-export: .*)\r?$", re.M)
+# How many records there are, as adsd-export, ldbsearch and ldapsearch tell behind them; and what these write before.
+TOLD = re.compile(rb"^# (?:returned|numEntries:) ([0-9]{1,15})(?: records)?\r?$")
+TELLING = re.compile(rb"^# (?:record [0-9]+|extended LDIF|LDAPv3|adsd-export: .*)\r?$")
 # What adsd-export says that its account may not read.
-UNREAD = re.compile(rb"^# missing: (.*): ([0-9]{1,15}) \((.*)\)\r?$", re.M)
+UNREAD = re.compile(rb"^# missing: (.*): ([0-9]{1,15}) \((.*)\)\r?$")
 # What ldapsearch with -LL or -LLL writes behind a page of a search, with nothing behind cookie= behind the last one.
-PAGE = re.compile(rb"^# pagedresults:.*\bcookie=(\S*)\r?$", re.M)
-LF = b"\n"
+PAGE = re.compile(rb"^# pagedresults:.*\bcookie=(\S*)\r?$")
 TRAILERS = (b"ref", b"search", b"result", b"matcheddn", b"text", b"control")
 
 
@@ -35,6 +37,7 @@ class Line:
     where: str
     name: str
     value: bytes
+    __slots__ = ("where", "name", "value")
 
 
 @dataclass
@@ -50,86 +53,141 @@ class Record:
     broken: Set[str] = field(default_factory=set)
 
 
-def unmarked(data, where, report):
-    """The bytes of an export as UTF-8 without a byte order mark."""
-    if data[:3] == b"\xef\xbb\xbf":
+def unmarked(opened, where, report):
+    """The lines of an open export in UTF-8 without a byte order mark, each with its end."""
+    first = opened.readline()
+    if first[:3] == b"\xef\xbb\xbf":
         report.mended(where, "byte order mark", "taken off")
-        return data[3:]
+        return itertools.chain([first[3:]], opened)
     for mark, coding in ((b"\xff\xfe", "utf-16-le"), (b"\xfe\xff", "utf-16-be")):
-        if data[:2] == mark:
+        if first[:2] == mark:
             report.mended(where, "text in UTF-16", "written in UTF-8")
+            data = first[2:] + opened.read()
             try:
-                return data[2:].decode(coding).encode()
+                return io.BytesIO(data.decode(coding).encode())
             except UnicodeDecodeError as why:
                 report.missing(where, TEXTS, "text in UTF-16", f"at byte {why.start + 2} it is none, or cut off")
-                return data[2:].decode(coding, "replace").encode()
-    return data
+                return io.BytesIO(data.decode(coding, "replace").encode())
+    return itertools.chain([first], opened) if first else iter(())
 
 
-def logical(data, file, report):
-    """The logical lines in order, each (where, bytes), and (where, None) for what parts records. Comments go."""
-    made, in_comment, number = [], False, 0
-    for number, line in enumerate(data.split(b"\n"), 1):
-        line = line[:-1] if line.endswith(b"\r") else line
-        where = f"{file}:{number}"
-        begins = line[:1]
-        if not line:
-            made.append((where, None))
-            in_comment = False
-        elif begins == b"#":
-            in_comment = True
-        elif begins in (b" ", b"\t"):
-            if in_comment:
+class Ends:
+    """What the lines of a file say of its end, as they go by: how many records began, and what its tool tells."""
+
+    def __init__(self):
+        self.begun, self.last, self.told, self.pages, self.tells, self.unread = 0, 0, [], [], False, []
+
+    def look(self, number, line):
+        """Looks at a line, without its end."""
+        if line[:2] in (b"dn", b"DN", b"Dn", b"dN"):
+            if DN.match(line):
+                self.begun, self.last = self.begun + 1, number
+        elif line[:2] == b"# ":
+            self.comment(number, line)
+
+    def comment(self, number, line):
+        told, page, unread = TOLD.match(line), PAGE.match(line), UNREAD.match(line)
+        if told:
+            self.told.append((number, int(told[1])))
+        elif page:
+            self.pages.append((number, page[1]))
+        elif unread:
+            self.unread.append(unread)
+        elif TELLING.match(line):
+            self.tells = True
+
+
+class Logical:
+    """The logical lines of an export in order, each (where, bytes), and (where, None) for what parts records. Comments
+    go. What the lines say of the end is in `ends`, and `number` has the number of line ends that there were."""
+
+    def __init__(self, file, report):
+        self.file, self.report, self.ends, self.number = file, report, Ends(), 0
+        self.pieces, self.at = None, ""
+
+    def lines(self, opened):
+        """The physical lines without their ends, numbered from 1; behind a last end of line stands an empty one."""
+        line, number = b"\n", 0
+        for number, line in enumerate(opened, 1):
+            yield number, line.rstrip(b"\n") if line.endswith(b"\n") else line
+        self.number = number if line.endswith(b"\n") else number - 1
+        if line.endswith(b"\n"):
+            yield number + 1, b""
+
+    def read(self, opened):
+        in_comment = False
+        for number, line in self.lines(opened):
+            self.ends.look(number, line)
+            line = line[:-1] if line.endswith(b"\r") else line
+            begins = line[:1]
+            if begins == b" " or begins == b"\t":
+                if not in_comment:
+                    yield from self.joined(f"{self.file}:{number}", line)
                 continue
-            joined(made, where, line, report)
-        else:
-            made.append((where, [line]))
+            if begins == b"#":
+                in_comment = True
+                continue
             in_comment = False
-    return [(where, b"".join(pieces) if pieces is not None else None) for where, pieces in made]
+            yield from self.flushed()
+            if line:
+                self.at, self.pieces = f"{self.file}:{number}", [line]
+            else:
+                yield f"{self.file}:{number}", None
+        yield from self.flushed()
 
+    def flushed(self):
+        """The line that was being joined, where there is one."""
+        if self.pieces is not None:
+            pieces, self.pieces = self.pieces, None
+            yield self.at, pieces[0] if len(pieces) == 1 else b"".join(pieces)
 
-def joined(made, where, line, report):
-    """Joins a continuation to the line before it, where one stands."""
-    if made and made[-1][1] is not None:
-        if line[:1] == b"\t":
-            report.mended(where, "continuation", "it begins with a tab")
-        made[-1][1].append(line[1:])
-    elif line.strip(b" \t"):
-        report.denies(where, f"line `{brief(line)}`", "it continues no line, so one before it may be cut off")
-    else:
-        report.mended(where, "line of blanks", "taken as an empty one")
-        made.append((where, None))
+    def joined(self, where, line):
+        """Joins a continuation to the line before it, where one stands."""
+        if self.pieces is not None:
+            if line[:1] == b"\t":
+                self.report.mended(where, "continuation", "it begins with a tab")
+            self.pieces.append(line[1:])
+        elif line.strip(b" \t"):
+            self.report.denies(where, f"line `{brief(line)}`", "it continues no line, so one before it may be cut off")
+        else:
+            self.report.mended(where, "line of blanks", "taken as an empty one")
+            yield where, None
 
 
 def decoded(where, name, text, report):
     """The bytes of base64, also with blanks in it or without its padding; None where it is none."""
+    try:
+        value = base64.b64decode(text, validate=True)
+        if base64.b64encode(value) == text:
+            return value
+    except (binascii.Error, ValueError):
+        pass
     tidy = re.sub(rb"\s", b"", text)
     try:
         value = base64.b64decode(tidy + b"=" * (-len(tidy) % 4), validate=True)
     except (binascii.Error, ValueError):
         return None
     if base64.b64encode(value) != text:
-        report.mended(where, name, "its base64 isn't strict")
+        report.mended(where, brief(name), "its base64 isn't strict")
     return value
 
 
 def line_of(where, text, report):
     """The line of an attribute that a logical line is; None where it can't be read, which is reported."""
     name, colon, rest = text.partition(b":")
-    word = brief(name)
     if not colon or not NAME.fullmatch(name) or b"\0" in text:
         report.missing(where, LINES, f"line `{brief(text)}`", "it has no colon, a NUL, or a name that is none")
         return None
     if rest[:1] == b"<":
-        report.missing(where, LINES, word, "its value would be fetched from a URL")
+        report.missing(where, LINES, brief(name), "its value would be fetched from a URL")
         return None
     if rest[:1] != b":":
-        return Line(where, name.decode(), rest.lstrip(b" \t"))
-    value = decoded(where, word, rest[1:].lstrip(b" \t"), report)
+        return Line(where, sys.intern(name.decode()), rest.lstrip(b" \t"))
+    value = decoded(where, name, rest[1:].lstrip(b" \t"), report)
     if value is None:
-        report.missing(where, LINES, word, "its base64 can't be read")
+        report.missing(where, LINES, brief(name), "its base64 can't be read")
         return None
-    return Line(where, name.decode(), value)
+    return Line(where, sys.intern(name.decode()), value)
 
 
 def trailer(lines, report):
@@ -186,11 +244,19 @@ def record_of(lines, report):
     return record
 
 
-def records(data, file, report):
-    """The records of an export, in order. `file` is its name in the report."""
-    made, block, last, data = [], [], None, unmarked(data, f"{file}:1", report)
-    lines = logical(data, file, report)
-    for where, text in lines + [("", None)]:
+def shared(record, values):
+    """Has the objects of one descriptor share its bytes."""
+    for line in record.lines:
+        if len(line.value) > SHARED:
+            line.value = values.setdefault(line.value, line.value)
+    return record
+
+
+def records(opened, file, report):
+    """The records of an open export, in order. `file` is its name in the report."""
+    made, block, last, values = [], [], None, {}
+    logical, tail = Logical(file, report), []
+    for where, text in itertools.chain(logical.read(unmarked(opened, f"{file}:1", report)), [("", None)]):
         starts = text is not None and DN.match(text) and any(not VERSION.match(line) for _, line in block)
         if starts:
             report.mended(where, f"`{brief(text)}`", "no empty line stands before it")
@@ -198,12 +264,14 @@ def records(data, file, report):
             record, last = record_of(block, report), block
             block = []
             if record is not None:
-                made.append(record)
+                made.append(shared(record, values))
         if text is not None:
             block.append((where, text))
+        if where:
+            tail = [*tail[-1:], (where, text)]
     if last is not None and any(DN.match(text) for _, text in last):
-        ended(lines, last, report)
-    counted(data, file, report)
+        ended(tail, last, report)
+    counted(logical, file, report)
     return made
 
 
@@ -220,31 +288,29 @@ def ended(lines, last, report):
         report.denies(where, f"the descriptor of `{brief(name)}`", "the export ends in it, so it may be cut")
 
 
-def counted(data, file, report):
+def counted(logical, file, report):
     """Reports an export that has other records than it says, or that doesn't end as the tool ends it that made it."""
-    begun = [found.start() for found in BEGUN.finditer(data)]
-    told, pages = list(TOLD.finditer(data)), list(PAGE.finditer(data))
-    where, what = f"{file}:{data.count(LF)}", f"end of {file}"
-    for found in UNREAD.finditer(data):
-        why = f"the account that exported may not read it, as of {shown(found[3], 120)}"
-        report.missing(where, READ, shown(found[1]), why, int(found[2]))
-    if told:
-        said = sum(int(found[1]) for found in told)
-        report.file(file, len(begun), f"it says that there are {said}")
-        if said != len(begun):
-            report.missing(where, ENDS, what, f"it says that it has {said} records, and {len(begun)} are there")
-        elif begun and told[-1].start() < begun[-1]:
+    ends, where, what = logical.ends, f"{file}:{logical.number}", f"end of {file}"
+    for found in ends.unread:
+        why = f"the account that exported may not read it, as of {brief(found[3], 120)}"
+        report.missing(where, READ, brief(found[1]), why, int(found[2]))
+    if ends.told:
+        said = sum(count for _, count in ends.told)
+        report.file(file, ends.begun, f"it says that there are {said}")
+        if said != ends.begun:
+            report.missing(where, ENDS, what, f"it says that it has {said} records, and {ends.begun} are there")
+        elif ends.begun and ends.told[-1][0] < ends.last:
             report.missing(where, ENDS, what, "nothing behind its last records says how many they are")
-    elif begun and pages and not TELLING.search(data):
-        report.file(file, len(begun), "it says where its last page ends, or should")
-        if pages[-1][1] or pages[-1].start() < begun[-1]:
+    elif ends.begun and ends.pages and not ends.tells:
+        report.file(file, ends.begun, "it says where its last page ends, or should")
+        if ends.pages[-1][1] or ends.pages[-1][0] < ends.last:
             report.missing(where, ENDS, what, "its last page is missing, or the end of that")
-    elif begun and TELLING.search(data):
-        report.file(file, len(begun), "it should say how many there are, and doesn't")
+    elif ends.begun and ends.tells:
+        report.file(file, ends.begun, "it should say how many there are, and doesn't")
         report.missing(where, ENDS, what, "the last lines are missing that its tool writes, so it is cut off")
-    elif begun:
-        report.untold.append((file, len(begun)))
-        report.file(file, len(begun), "it doesn't say how many there should be, so a cut between two isn't seen")
+    elif ends.begun:
+        report.untold.append((file, ends.begun))
+        report.file(file, ends.begun, "it doesn't say how many there should be, so a cut between two isn't seen")
     else:
         report.file(file, 0, "it is empty")
         report.missing(f"{file}:1", ENDS, what, "no record is in it")
