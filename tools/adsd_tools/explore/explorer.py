@@ -133,7 +133,12 @@ class Explorer:
                 "objects": len(self.world.objects),
                 "accounts": len(self.views.accounts.numbers), "protected": len(self.protected),
                 "stale": len(self.world.stale), "pending": len(self.world.queue), "write": self.may_write,
-                "root": self.views.brief(1, self.now)}
+                "root": self.views.brief(1, self.now), "everybody": self.everybody()}
+
+    def everybody(self):
+        """Who everybody is who has an account: the domain's users, where there is such a group."""
+        users = tokens.users_of(self.world)
+        return self.world.principal(users if users in self.world.who.of_sid else tokens.AUTHENTICATED)
 
     # ---- what-ifs
 

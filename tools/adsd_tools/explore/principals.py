@@ -4,10 +4,12 @@ out in the whole directory."""
 from adsd_tools.report.harms import HARMS
 
 from .answers import worst
+from .many import many
+from .ruling import rulers, ruling
 from .texts import told
 from .views import MOST_ROWS, count_of, each, on_words
 
-MOST_OBJECTS, MOST_FINDINGS = 8, 40
+MOST_OBJECTS, MOST_FINDINGS, MOST_WAYS = 8, 40, 3
 PRIVILEGES = ((1, "security"), (2, "take ownership"), (4, "restore"))
 
 
@@ -114,21 +116,27 @@ class Principals:
                 "ranks": [self.views.rank(place) for place in range(len(HARMS)) if ranks >> place & 1]}
 
     def exposed(self, moment):
-        """Who besides those who are protected has dangerous rights on what is protected, the worst first."""
+        """Who besides those who are meant to rule has dangerous rights on what is protected or rules the domain, the
+        worst first; and who has dangerous rights on many objects."""
         accounts, made = self.views.accounts, []
-        inside = 0
-        for number in self.views.protected:
-            place = accounts.place.get(self.world.own(number))
-            inside |= 1 << place if place is not None else 0
-        for number in sorted(self.views.protected):
+        inside, heads = rulers(self.world, accounts), ruling(self.world, accounts)
+        for number in sorted(self.views.protected | heads.keys()):
             on = self.answers.object(number, moment)
-            by_rank = {}
+            by_rank, names, itself = {}, {}, 1 << accounts.place[on.own] if on.own in accounts.place else 0
             for mask, token in self.answers.split(on, accounts):
-                first = worst(self.answers.ranks(on, token, True))
-                if first < len(HARMS) and mask & ~inside:
-                    by_rank[first] = by_rank.get(first, 0) | mask & ~inside
-            made += [(place, number, mask) for place, mask in by_rank.items()]
+                first, mask = worst(self.answers.ranks(on, token, True)), mask & ~inside & ~itself
+                if first < len(HARMS) and mask:
+                    by_rank[first] = by_rank.get(first, 0) | mask
+                    names.setdefault(first, {}).update(self.names(on, token, first))
+            made += [(place, number, mask, list(names[place])) for place, mask in by_rank.items()]
         made.sort(key=lambda row: (row[0], -count_of(row[2]), row[1]))
-        return {"count": len(made), "rows": [
+        return {"count": len(made), "heads": len(heads), "many": many(self, moment, inside), "rows": [
             {**self.views.rank(place), **self.views.brief_name(number), "class": self.world.class_name(number),
-             "accounts": count_of(mask), "first": self.views.few(mask)} for place, number, mask in made[:MOST_FINDINGS]]}
+             "is": heads.get(number), "accounts": count_of(mask), "first": self.views.few(mask),
+             "names": names[:MOST_WAYS], "more": len(names) > MOST_WAYS}
+            for place, number, mask, names in made[:MOST_FINDINGS]]}
+
+    def names(self, on, token, place):
+        """The attributes by which somebody has a right of a rank on an object, in a dictionary's keys."""
+        rights = self.answers.dangers(on, token).get(HARMS[place].key, [])
+        return {told(question.name, 200): None for question, _ in rights if question.kind == "attribute"}

@@ -10,6 +10,7 @@ NO_ACCOUNTS = {"group", "domaindns", "domain", "builtindomain"}
 # How the identifiers of somebody go on behind their number of parts: S-1-5-21.
 OF_A_DOMAIN = bytes([0, 0, 0, 0, 0, 5, 21, 0, 0, 0])
 SYSTEM, ADMINISTRATORS = sid_of_text("S-1-5-18"), bridge.ADMINISTRATORS
+AUTHENTICATED, USERS = sid_of_text("S-1-5-11"), 513
 # Who makes changes, where nobody else is named.
 OPERATOR_PRIVILEGES = 7
 
@@ -20,6 +21,11 @@ class Token:
     def __init__(self, data, sid):
         self.data, self.sid, self.privileges = data, sid, data[1]
         self.held = frozenset([sid, *groups_of(data)])
+
+
+def users_of(world):
+    """The identifier of the domain's group of users, or None where the domain has none."""
+    return bridge.below(world.own_sid(1), USERS) if world.own(1) else None
 
 
 def size_at(data, at):
