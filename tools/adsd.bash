@@ -29,7 +29,7 @@ _adsd_companion() {
     case ${name##*/} in
         adsd-ask) words="access frames replies" ;;
         adsd-ldap) words="serve name" ;;
-        adsd-replica) words="begin copy serve status forget upgrade compare" ;;
+        adsd-replica) words="begin copy serve status health forget upgrade compare skip key" ;;
         adsd-who) words="token who can diff" ;;
     esac
     if [ "$COMP_CWORD" -eq 1 ] && [ -n "$words" ] && [[ $word != -* ]]; then

@@ -58,8 +58,8 @@ class Applying:
         self.lane, self.writing, self.fault = ThreadPoolExecutor(1), None, ""
         # Who waits until an entry is answered, by rising numbers; and who is told of each entry with its answer.
         self.waiting, self.tells = deque(), []
-        # What named requests were answered, and which of it isn't written yet; where the last entries left the store, by
-        # their numbers; when entries came that wait; and what is asked of an entry that the program doesn't take.
+        # What named requests were answered, and which of it isn't written yet; where the last entries left the store,
+        # by their numbers; when entries came that wait; and what is asked of an entry that the program doesn't take.
         self.answers, self.unwritten, self.places, self.came, self.may_skip = None, [], {}, deque(), None
 
     def open(self, slots, positions, answers, news, program):

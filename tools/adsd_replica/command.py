@@ -44,7 +44,7 @@ def user_of(asked):
 def warn_of_etcd(asked):
     """Says that etcd is open, where nothing is shown to it."""
     if not asked.etcd_user and not asked.etcd_cert:
-        print(f"adsd-replica: warning: etcd at {shown(asked.etcd[0])} is asked without a user or a certificate: whoever "
+        print(f"adsd-replica: warning: etcd at {shown(asked.etcd[0])} is asked without a user or a certificate: who "
               "reaches it may change the directory and read what is changed; docs/replicas.md, Who has to be trusted",
               file=sys.stderr, flush=True)
 

@@ -96,8 +96,8 @@ class Cutter:
             _, since = self.seen.setdefault(name, (value, now))
             after = self.options.forget_after
             if time.time() - value >= after and now - since >= min(after, SEEN):
-                self.say(f"forgets replica {name.decode('ascii', 'replace')}, which has told nothing for {after} seconds: "
-                         "the log is no longer kept for it, and it needs a new copy")
+                self.say(f"forgets replica {name.decode('ascii', 'replace')}, which has told nothing for {after} "
+                         "seconds: the log is no longer kept for it, and it needs a new copy")
                 log.forget(name)
 
     def close(self):

@@ -32,8 +32,8 @@ UNKNOWN = 17
 
 @dataclass(frozen=True)
 class Question:
-    """What the program is asked: which codes say nothing of the change, or which alone do; and where a missing right may
-    be one of the question's own alone, the question about that."""
+    """What the program is asked: which codes say nothing of the change, or which alone do; and where a missing right
+    may be one of the question's own alone, the question about that."""
 
     data: bytes
     nothing: FrozenSet[int] = frozenset()

@@ -242,15 +242,15 @@ class Ordered(Roster):
             raise Other(f"the log begins at {first}, and entry {number} is wanted: take a new copy")
 
     def compact(self, first, revision):
-        """Lets the log begin at a later entry, where no replica has said anything since a revision; whether it does. What
-        stands before is removed by `sweep`."""
+        """Lets the log begin at a later entry, where no replica has said anything since a revision; whether it does.
+        What stands before is removed by `sweep`."""
         asked = [*self.is_own(), self.none_told_since(revision)]
         done, _, _ = self.txn(asked, [put_of(self.key(b"first"), b"%d" % first)])
         return done
 
     def sweep(self):
-        """Removes some of the entries below the first that is kept, and has etcd forget them; whether there were as many
-        as are removed at once."""
+        """Removes some of the entries below the first that is kept, and has etcd forget them; whether there were as
+        many as are removed at once."""
         first = self.read(0, 0).first
         below = {"key": encoded(self.entry(0)), "range_end": encoded(self.entry(first))}
         found = self.etcd.call("kv/range", {**below, "keys_only": True, "limit": str(PIECE), "sort_order": "ASCEND",

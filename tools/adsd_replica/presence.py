@@ -21,8 +21,8 @@ class Twice(Other):
 
     def __init__(self, name, other):
         where = f"{other.get('host', '?')}, {other.get('store', '?')}"
-        super().__init__(f"replica {name} runs already, at {where}: two stores would tell of themselves by one name; end "
-                         "that one, or make this one's copy anew under a name of its own: adsd-replica copy")
+        super().__init__(f"replica {name} runs already, at {where}: two stores would tell of themselves by one name; "
+                         "end that one, or make this one's copy anew under a name of its own: adsd-replica copy")
 
 
 def id_of(store):

@@ -24,7 +24,8 @@ class Rates:
         if size > left and left < self.most:
             self.left[user] = left, now
             wait = (min(size, self.most) - left) * MINUTE / self.most
-            return f"this user has changed {self.most} bytes a minute; in {wait:.0f} seconds more are taken; nothing was changed"
+            return (f"this user has changed {self.most} bytes a minute; in {wait:.0f} seconds more are taken; nothing "
+                    "was changed")
         self.left[user] = left - size, now
         if len(self.left) > MOST:
             self.trim(now)

@@ -1,7 +1,7 @@
 """Whether etcd has room: how full it is by its quota, what it complains of, and what is done against it.
 
-At half of the quota it is warned, and the keeper keeps no entry longer than some replica wants it; at nine tenths changes
-are refused, so that what frees room can be done still. The keeper gives room back that etcd has freed inside its files
+At half of the quota it is warned, and the keeper keeps no entry longer than some replica wants it; at nine tenths
+changes are refused, so that what frees room can be done still. The keeper gives room back that etcd has freed inside its files
 (`defrag`), one member after the other and the leader last, and takes an alarm away (`disarm`) once there is room; or it
 says that an operator has to."""
 
@@ -103,8 +103,8 @@ class Room:
         self.members = found or self.members
         self.alarms = await self.lane.call(lambda log: alarms(log.etcd))
         if self.is_half() and not self.is_warned:
-            self.say(f"warning: etcd is full to {self.fullness():.0%} of its quota of {self.members[0].quota} bytes; at "
-                     f"{FULL:.0%} no change is taken")
+            self.say(f"warning: etcd is full to {self.fullness():.0%} of its quota of {self.members[0].quota} bytes; "
+                     f"at {FULL:.0%} no change is taken")
         self.is_warned = self.is_half()
         for _, alarm in self.alarms:
             if alarm not in self.told:

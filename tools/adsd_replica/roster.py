@@ -1,5 +1,5 @@
-"""What replicas tell of themselves in etcd, below /adsd/NAME/: `replica/` and a name (how far it is), `told/` and a name
-(when it said so, in seconds since 1970), `alive/` and a name (which process runs it, under a lease), `keeper` (who puts
+"""What replicas tell of themselves in etcd, below /adsd/NAME/: `replica/` and a name (how far it is), `told/` and a
+name (when it said so, in seconds since 1970), `alive/` and a name (which process runs it, under a lease), `keeper` (who puts
 steps and runs, under one), `request/` and the number of a named request (which entry it was, under one), and `compare/`
 (which entry the stores are compared at, and the sums of their rows).
 

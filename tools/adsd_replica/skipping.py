@@ -40,8 +40,8 @@ def skip(log, program, store, position, number):
     """Notes in the log that an entry is passed over: only one that no replica takes, and that comes next for the store
     of one that ended there."""
     if position.entry + 1 != number:
-        raise Other(f"{store} stands at {position.entry}: the entry that comes next is {position.entry + 1}; nothing is "
-                    "passed over")
+        raise Other(f"{store} stands at {position.entry}: the entry that comes next is {position.entry + 1}; nothing "
+                    "is passed over")
     found, _ = log.replicas()
     ahead = sorted(name.decode("ascii", "replace") for name, at in found.items() if at >= number)
     if ahead:

@@ -51,7 +51,8 @@ class LogTurns(Turns):
         if self.closed or self.drains or self.appender is None:
             raise Stopped
         message, token = messages.read(body), self.program.tokens.get(connection, b"")
-        refused = await self.refused(connection, message) if message else None
+        # (what a named request was answered is known again by its entry)
+        refused = await self.refused(connection, message) if message and connection not in self.names else None
         if refused is not None:
             self.counts.refused += 1
             return refused
@@ -68,8 +69,8 @@ class LogTurns(Turns):
     # ---- what would be refused
 
     async def refused(self, connection, message):
-        """The answer to a change that the directory refuses, as it is at an entry that the log had when the change came,
-        or at a later one; None where the log has to say. A refused message leaves the directory: so the answer is that
+        """The answer to a change that the directory refuses, as it is at an entry that the log had when the change
+        came, or at a later one; None where the log has to say. A refused message leaves the directory: so the answer is that
         of a log in which the change stands just there."""
         if await self.asked(connection, message) is None:
             return None
@@ -138,8 +139,8 @@ class LogTurns(Turns):
     def look_at_age(self):
         age = self.heads.age(self.applying.number()) if self.heads and self.max_age else 0
         if age > self.max_age:
-            raise Refused(messages.BUSY, f"what this replica has is {age:.0f} seconds old, more than {self.max_age}: it "
-                                         "doesn't reach the log, or is too far behind it; ask another one")
+            raise Refused(messages.BUSY, f"what this replica has is {age:.0f} seconds old, more than {self.max_age}: "
+                                         "it doesn't reach the log, or is too far behind it; ask another one")
 
     async def reached(self):
         """Waits for the head, and until it is reached; true."""

@@ -91,8 +91,8 @@ def words_of_etcd(form, has_log=True):
     form.add_argument("--etcd-clear", action="store_true",
                       help="speak with etcd in the clear also elsewhere than on a loopback address")
     form.add_argument("--etcd-user", metavar="NAME", help="by whom etcd is asked, where its auth is enabled")
-    form.add_argument("--etcd-password", metavar="FILE", help="the file that has the user's password in its first line, and "
-                                                              "that nobody else may read")
+    form.add_argument("--etcd-password", metavar="FILE",
+                      help="the file that has the user's password in its first line, and that nobody else may read")
     if has_log:
         form.add_argument("--log", metavar="NAME", type=name, default="adsd",
                           help="the log's name in etcd (%(default)s)")
@@ -119,8 +119,8 @@ def words_of_log(form):
     form.add_argument("--user-bytes", metavar="BYTES", type=BYTES, default=64 << 20,
                       help="how many bytes of changes each user may put into the log in a minute; 0 any (64M)")
     form.add_argument("--keep", metavar="BYTES", type=BYTES, default=256 << 20,
-                      help="how many bytes of entries that all replicas have taken the log keeps, and a quarter of etcd's "
-                           "quota at most (256M)")
+                      help="how many bytes of entries that all replicas have taken the log keeps, and a quarter of "
+                           "etcd's quota at most (256M)")
     form.add_argument("--forget-after", metavar="TIME", type=SECONDS, default=3 * 86400,
                       help="forget a replica that has told nothing for so long, as 12h or 3d; 0 never (3d)")
     form.add_argument("--remember", metavar="TIME", type=SECONDS, default=3600,
@@ -128,8 +128,8 @@ def words_of_log(form):
     form.add_argument("--check-every", metavar="TIME", type=SECONDS, default=3600,
                       help="look through the whole log so often; 0 never (1h)")
     form.add_argument("--etcd-upkeep", choices=("keeper", "told"), default="keeper",
-                      help="whether the keeper has etcd free room in its files and takes its alarms away, or says that it "
-                           "has to be done (%(default)s)")
+                      help="whether the keeper has etcd free room in its files and takes its alarms away, or says that "
+                           "it has to be done (%(default)s)")
     form.add_argument("--metrics", metavar="[HOST:]PORT", type=near,
                       help="tell Prometheus on this loopback address how the replica is; port 0 is any free one")
 
@@ -137,7 +137,8 @@ def words_of_log(form):
 def words_of_keys(form, signs=True):
     if signs:
         form.add_argument("--sign", metavar="FILE", help="sign the entries that this replica puts, by this key")
-    form.add_argument("--keys", metavar="FILE", help="take entries alone that are signed by one of these replicas' keys")
+    form.add_argument("--keys", metavar="FILE",
+                      help="take entries alone that are signed by one of these replicas' keys")
     form.add_argument("--seal", metavar="FILE", help="seal entries by this key, and take sealed ones alone")
 
 
@@ -150,15 +151,30 @@ def parsed(arguments):
     def word(called, told):
         return of_word.add_parser(called, help=told, description=told[0].upper() + told[1:] + ".")
 
+    words_of_stores(word)
+    words_of_logs(word)
+    words_of_entries(word)
+    asked = form.parse_args(arguments)
+    check(of_word.choices[asked.word], asked)
+    return asked
+
+
+def words_of_stores(word):
+    """The words about a store."""
     begin = word("begin", "begins a log with a store")
     begin.add_argument("store", metavar="STORE", type=ldap.store)
     begin.add_argument("--name", type=name, required=True, help="the replica's name")
+    words_of_etcd(begin)
     copy = word("copy", "makes a copy of a replica's store for a new replica")
     copy.add_argument("store", metavar="STORE", type=ldap.store)
     copy.add_argument("new", metavar="NEW", type=ldap.store)
     copy.add_argument("--name", type=name, required=True, help="the new replica's name")
-    serve = word("serve", "runs a replica")
-    words_of_serve(serve)
+    words_of_etcd(copy, has_log=False)
+    words_of_serve(word("serve", "runs a replica"))
+
+
+def words_of_logs(word):
+    """The words about a log and its replicas."""
     status = word("status", "tells how far the log and the replicas are")
     status.add_argument("--json", action="store_true", help="as JSON")
     health = word("health", "tells what isn't well: status 0, 1 or 3")
@@ -167,26 +183,25 @@ def parsed(arguments):
     forget = word("forget", "no longer keeps the log for a replica")
     forget.add_argument("name", metavar="NAME", type=name)
     upgrade = word("upgrade", "takes the log to the release of the program here, once all replicas are at its head")
-    upgrade.add_argument("--wait", metavar="SECONDS", type=ldap.count(1, 3600), default=30,
-                         help="how long replicas are waited for (%(default)s)")
     compare = word("compare", "tells whether all replicas that run hold the same rows, or two stores do")
     compare.add_argument("stores", metavar="STORE", nargs="*", type=ldap.store)
-    compare.add_argument("--wait", metavar="SECONDS", type=ldap.count(1, 3600), default=60,
+    for one, seconds in ((upgrade, 30), (compare, 60)):
+        one.add_argument("--wait", metavar="SECONDS", type=ldap.count(1, 3600), default=seconds,
                          help="how long replicas are waited for (%(default)s)")
+    for one in (status, health, forget, upgrade, compare):
+        words_of_etcd(one)
+
+
+def words_of_entries(word):
+    """The words about entries and their keys."""
     skip = word("skip", "has all replicas pass over an entry that none of them takes")
     skip.add_argument("entry", metavar="ENTRY", type=ldap.count(1, 10**16 - 1))
     skip.add_argument("store", metavar="STORE", type=ldap.store, help="of a replica that has ended at this entry")
     words_of_keys(skip, signs=False)
+    words_of_etcd(skip, has_log=False)
     key = word("key", "makes a key to seal entries by, or to sign them by, and prints the line for --keys")
     key.add_argument("file", metavar="FILE")
     key.add_argument("--name", type=name, help="whose key it is, to sign by")
-    for one in (begin, status, health, forget, upgrade, compare):
-        words_of_etcd(one)
-    for one in (copy, skip):
-        words_of_etcd(one, has_log=False)
-    asked = form.parse_args(arguments)
-    check(of_word.choices[asked.word], asked)
-    return asked
 
 
 def check(form, asked):

@@ -1,5 +1,5 @@
-"""What befalls etcd: its auth is enabled, it gets full, its bytes are changed on the disk; and large entries, entries by
-keys, and a replica that is stopped under load."""
+"""What befalls etcd: its auth is enabled, it gets full, its bytes are changed on the disk; and large entries, entries
+by keys, and a replica that is stopped under load."""
 
 import os
 import shutil
@@ -8,7 +8,7 @@ import time
 
 from adsd_ask import ber
 from adsd_replica import entries
-from adsd_replica.etcd import encoded
+from adsd_replica.etcd import Denied, encoded
 from replica_asked import put_by_hand
 from replica_cases import DONE, READ, WRITE, has, same, shown, written
 from replica_checks import all_entries, differences
@@ -17,6 +17,8 @@ from replica_world import MANY, World
 
 PASSWORD = "the password of etcd"
 QUOTA = 24 << 20
+# So long one call of etcd is waited for, in seconds.
+LONG = 60
 SECRET = "nobody reads this in etcd"
 
 
@@ -60,16 +62,16 @@ class Small(Known):
 def enabled(world):
     """Etcd's auth is enabled while replicas run: by the user's password all goes on, and nothing does without."""
     etcd, wrong = world.log().etcd, []
-    etcd.call("auth/role/add", {"name": "adsd"})
+    etcd.call("auth/role/add", {"name": "adsd"}, LONG)
     etcd.call("auth/role/grant", {"name": "adsd", "perm": {"key": encoded(b"/adsd/"), "range_end": encoded(b"/adsd0"),
-                                                           "permType": "READWRITE"}})
+                                                           "permType": "READWRITE"}}, LONG)
     for name, role in (("adsd", "adsd"), ("adsd", "root"), ("root", "root")):
         try:
-            etcd.call("auth/user/add", {"name": name, "password": PASSWORD})
-        except Exception:
+            etcd.call("auth/user/add", {"name": name, "password": PASSWORD}, LONG)
+        except Denied:
             pass  # (it is there by now)
-        etcd.call("auth/user/grant", {"user": name, "role": role})
-    etcd.call("auth/enable", {})
+        etcd.call("auth/user/grant", {"user": name, "role": role}, LONG)
+    etcd.call("auth/enable", {}, LONG)
     a, b = (one.client() for one in world.replicas)
     world.wait("changes go on", lambda: a.ask(WRITE + "known") == DONE)
     wrong += same(b.ask(READ), shown("known"))
