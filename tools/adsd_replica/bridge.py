@@ -86,6 +86,8 @@ class Replica(Bridge):
     def make_parts(self):
         """What works beside the program and clients."""
         position, asked, say = self.applying.position, self.options, self.log.timed
+        if asked.etcd_warning:
+            self.log.say(asked.etcd_warning)
         etcd = Etcd(asked.etcd, asked.etcd_tls, asked.etcd_user_known)
         log = Ordered(etcd, position.log, position.own, asked.release, asked.known_keys)
         age = time.time() - os.stat(asked.store + ".position").st_mtime

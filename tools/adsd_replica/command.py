@@ -41,12 +41,12 @@ def user_of(asked):
     return etcd.User(asked.etcd_user, seal.password_of(asked.etcd_password)) if asked.etcd_user else None
 
 
-def warn_of_etcd(asked):
-    """Says that etcd is open, where nothing is shown to it."""
-    if not asked.etcd_user and not asked.etcd_cert:
-        print(f"adsd-replica: warning: etcd at {shown(asked.etcd[0])} is asked without a user or a certificate: who "
-              "reaches it may change the directory and read what is changed; docs/replicas.md, Who has to be trusted",
-              file=sys.stderr, flush=True)
+def warning_of_etcd(asked):
+    """That etcd is open, where nothing is shown to it; else nothing."""
+    if asked.etcd_user or asked.etcd_cert:
+        return ""
+    return (f"warning: etcd at {asked.etcd[0]} is asked without a user or a certificate: who reaches it may change the "
+            "directory and read what is changed; docs/replicas.md, Who has to be trusted")
 
 
 def log_of(asked, name, own=None, release=None):
@@ -76,7 +76,8 @@ def answering(log):
 
 def do_begin(asked):
     adsd_incomplete.warn(asked.store)
-    warn_of_etcd(asked)
+    if warning_of_etcd(asked):
+        print(f"adsd-replica: {shown(warning_of_etcd(asked))}", file=sys.stderr, flush=True)
     log = log_of(asked, asked.log, release=release_of(ADSD))
     begin(ADSD, asked.store, answering(log), asked.name)
     print(shown(f"log {asked.log} begins with {asked.store}, replica {asked.name}"))
@@ -159,8 +160,8 @@ def compare_running(asked):
 
 
 def do_serve(asked):
-    warn_of_etcd(asked)
-    asked.etcd_tls, asked.release = tls_of(asked), release_of(ADSD)
+    asked.etcd_warning, asked.etcd_tls = warning_of_etcd(asked), tls_of(asked)
+    asked.release = release_of(ADSD)
     asked.etcd_user_known, asked.known_keys = user_of(asked), seal.keys_of(asked)
     status = ldap.serve(asked, Replica, "adsd-replica")
     sys.stderr.flush()

@@ -6,10 +6,11 @@ import json
 import socket
 import ssl
 from dataclasses import dataclass
+from typing import Optional
 from urllib.parse import urlsplit
 
 # So long one member is waited for, in seconds, and so long at most where a wait grows.
-PATIENCE, LONGEST = 3.0, 60.0
+PATIENCE, LONGEST, LOG_IN = 3.0, 60.0, 10.0
 USUAL_PORT = 2379
 # What etcd answers while it has no leader, or is overloaded: another member, or a later moment, may do better.
 NOT_NOW = (4, 8, 10, 14)
@@ -31,12 +32,14 @@ class Denied(Exception):
         return NO_SPACE in str(self)
 
 
-@dataclass(frozen=True)
+@dataclass
 class User:
-    """By whom etcd is asked, where its `auth enable` wants one."""
+    """By whom etcd is asked, where its `auth enable` wants one, and what it gave for the password: nothing yet, or that
+    it wants none. All connections of one process have it in common, since a password is dear to check."""
 
     name: str
     password: str
+    token: Optional[str] = None
 
 
 class Waits:
@@ -85,8 +88,7 @@ class Etcd:
 
     def __init__(self, urls, tls=None, user=None):
         self.urls, self.tls, self.at, self.open = [urlsplit(one) for one in urls], tls, 0, None
-        # By whom it is asked, and what etcd gave for the name and the password: nothing yet, or that it wants none.
-        self.user, self.token = user, None
+        self.user = user
 
     def other(self):
         """The same members, by a connection of its own."""
@@ -133,40 +135,39 @@ class Etcd:
         """The answer of one member, to whom etcd knows: what it gave for the password may have run out."""
         if self.user is None:
             return self.once(path, asked, patience)
-        self.log_in()
+        token = self.log_in()
         try:
-            return self.once(path, asked, patience)
+            return self.once(path, asked, patience, token)
         except Denied as why:
             if not any(one in str(why) for one in ANEW):
                 raise
-        self.token = None
-        self.log_in()
-        return self.once(path, asked, patience)
+        if self.user.token == token:
+            self.user.token = None
+        return self.once(path, asked, patience, self.log_in())
 
     def log_in(self):
-        if self.token is None:
-            asked, self.token = {"name": self.user.name, "password": self.user.password}, ""
+        """What etcd gives for the password."""
+        if self.user.token is None:
             try:
-                self.token = self.once("auth/authenticate", asked)["token"]
+                asked = {"name": self.user.name, "password": self.user.password}
+                self.user.token = self.once("auth/authenticate", asked, LOG_IN)["token"]
             except Denied as why:
                 if UNASKED not in str(why):
-                    self.token = None
                     raise
-            except BaseException:
-                self.token = None
-                raise
+                self.user.token = ""
+        return self.user.token
 
-    def head(self):
+    def head(self, token):
         """What stands before what is asked."""
-        return {"Content-Type": "application/json", **({"Authorization": self.token} if self.token else {})}
+        return {"Content-Type": "application/json", **({"Authorization": token} if token else {})}
 
-    def once(self, path, asked, patience=PATIENCE):
+    def once(self, path, asked, patience=PATIENCE, token=""):
         if self.open is None:
             self.open = self.connection(patience)
         self.open.timeout = patience
         if self.open.sock is not None:
             self.open.sock.settimeout(patience)
-        self.open.request("POST", "/v3/" + path, json.dumps(asked), self.head())
+        self.open.request("POST", "/v3/" + path, json.dumps(asked), self.head(token))
         response = self.open.getresponse()
         said = json.loads(response.read())
         if response.status == 200 and "error" not in said:
@@ -181,12 +182,14 @@ class Etcd:
         waited for so long, but the first one as any answer."""
         opened = self.connection()
         try:
-            opened.request("POST", "/v3/" + path, json.dumps(asked), self.head())
+            token = self.log_in() if self.user else ""
+            opened.request("POST", "/v3/" + path, json.dumps(asked), self.head(token))
             response = opened.getresponse()
         except http.client.HTTPException as fault:
             raise OSError(type(fault).__name__) from None
         if response.status != 200:
-            self.token = None
+            if self.user:
+                self.user.token = None
             raise OSError(f"status {response.status}")
         opened.sock.settimeout(patience)
         return opened, response

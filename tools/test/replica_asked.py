@@ -14,7 +14,7 @@ from adsd_ask import answers, ber, requests
 from adsd_ask.requests import Line
 from adsd_ldap import words
 from adsd_ldap.program import DROP, HEADER, MESSAGE, TOKEN
-from adsd_replica import entries, naming, rates
+from adsd_replica import entries, naming
 from replica_cases import DONE, READ, WRITE, has, same, shown, written
 from replica_checks import all_entries
 from replica_world import LOW, MANY, ROOT
@@ -105,11 +105,7 @@ def bounded(world):
     for _ in range(5):
         said = written(admin, MANY, 900_000 * "x") if said == DONE else said
     wrong += has(said, "# modify: 51") + has(said, "nothing was changed")
-    wrong += same(other.ask(WRITE + "other"), DONE) + same(b.client().ask(READ), shown("other"))
-    some = rates.Rates(600)
-    given = ((500, 0), (200, 1), (100, 1), (700, 61), (1, 61), (1, 122))
-    told = [bool(some.over(b"u", size, now)) for size, now in given]
-    return wrong + same(told, [False, True, False, False, True, False])
+    return wrong + same(other.ask(WRITE + "other"), DONE) + same(b.client().ask(READ), shown("other"))
 
 
 def control(name, critical=True):

@@ -288,6 +288,7 @@ def page():
                           env={**os.environ, "ADSD": PROGRAM}, stdin=subprocess.DEVNULL, timeout=600)
     shutil.rmtree(place)
     wrong = has(done.stdout, "description: on three machines") + has(done.stdout, "log adsd from 1 to ")
+    wrong += same(done.stdout.count("is asked without a user or a certificate"), 4)
     wrong += same(sum(done.stdout.count(f"replica {name} at ") for name in "abc"), 3)
     return [f"{one}; all that was said: {done.stdout[-1500:]}" for one in wrong]
 

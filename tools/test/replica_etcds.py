@@ -53,7 +53,7 @@ class Small(Known):
         begin = member.start
         member.kill()
         shutil.rmtree(os.path.join(self.place, member.name + ".data"))
-        member.start = lambda words: begin([*words, "--quota-backend-bytes", str(QUOTA)])
+        member.start = lambda words: begin([*words, "--quota-backend-bytes", str(QUOTA), "--bcrypt-cost", "4"])
         member.begin()
         self.wait("a leader of etcd", self.leader)
         super().make_stores(more)
