@@ -101,11 +101,12 @@ def judged(world):
 def bounded(world):
     """A user that changes too many bytes is refused with 51, and others aren't."""
     wrong, (a, b) = [], world.replicas
-    admin, other, said = a.client(), a.client("second", "sec0nd"), DONE
-    for _ in range(5):
-        said = written(admin, MANY, 900_000 * "x") if said == DONE else said
+    admin, other, said = a.client(), a.client("second", "sec0nd"), ""
+    for _ in range(20):
+        said = written(admin, MANY, 900_000 * "x") if not said.startswith("# modify: 51") else said
     wrong += has(said, "# modify: 51") + has(said, "nothing was changed")
-    return wrong + same(other.ask(WRITE + "other"), DONE) + same(b.client().ask(READ), shown("other"))
+    world.wait("another user's change", lambda: other.ask(WRITE + "other") == DONE)
+    return wrong + same(b.client().ask(READ), shown("other"))
 
 
 def control(name, critical=True):
@@ -125,7 +126,7 @@ def named(world):
     for at, client in enumerate((one, other, one, b.client())):
         wrong += same(ask(client, b"first", line, critical=at % 2 > 0), "# add: 0 success")
     wrong += has(ask(other, b"second", line), "# add: 68")
-    wrong += has(ask(other, b"first", WRITE + "1"), "# modify: 53, another request had this name")
+    wrong += has(ask(other, b"first", WRITE + "1"), "another request had this name; nothing was changed")
     wrong += has(ask(low, b"first", WRITE + "1"), "# modify: 50")
     wrong += has(ask(one, b"", WRITE + "1"), "# modify: 2")
     said, ready = [], threading.Barrier(6)
