@@ -16,7 +16,7 @@ from replica_faults import begun, ended
 from replica_world import MANY, World
 
 PASSWORD = "the password of etcd"
-QUOTA = 24 << 20
+QUOTA = 12 << 20
 # So long one call of etcd is waited for, in seconds.
 LONG = 60
 SECRET = "nobody reads this in etcd"
@@ -93,8 +93,8 @@ def filled(world):
     etcd refuses them. Once that one is forgotten the keeper makes room, and changes go on."""
     (a, b), etcd, wrong = world.replicas, world.etcd_words(), []
     b.kill()
-    client, said, end = a.client(), DONE, time.monotonic() + 240
-    while said == DONE and time.monotonic() < end:
+    client, said, end = a.client(), "", time.monotonic() + 240
+    while not said.startswith("# modify: 51") and time.monotonic() < end:
         said = written(client, MANY, 400_000 * "x")
     wrong += has(said, "# modify: 51, etcd is full to ") + has(a.said(), "warning: etcd is full to ")
     status, lines = world.command("health", *etcd, good=False)
