@@ -8,7 +8,7 @@ import time
 
 from adsd_ask import ber
 from adsd_replica import entries
-from adsd_replica.etcd import Denied, encoded
+from adsd_replica.etcd import Away, Denied, encoded
 from replica_asked import put_by_hand
 from replica_cases import DONE, READ, WRITE, has, same, shown, written
 from replica_checks import all_entries, differences
@@ -121,12 +121,19 @@ def large(world):
     log = world.log()
     body = of_message(f"CN=no,{MANY}", 900_000 * "x")
     for _ in range(60):
-        head, done = log.head(), False
-        while not done:
-            done, head, _ = log.put(head, *entries.chained(head, [entries.of_message(b"", body)]))
+        world.wait("an entry is put", lambda: put(log, entries.of_message(b"", body)))
     world.serves(b)
     world.wait("level", world.is_level)
     return wrong + same(len(log.some(1).found) < 60, True)
+
+
+def put(log, content):
+    """Whether an entry is put. (One that was put without an answer is put once more, as another one.)"""
+    try:
+        head = log.head()
+        return log.put(head, *entries.chained(head, [content]))[0]
+    except Away:
+        return False
 
 
 def of_message(dn, value):
