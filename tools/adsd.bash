@@ -34,7 +34,7 @@ _adsd_companion() {
         adsd-tools) words="ask bloodhound explore import ldap names replica report whatif who" ;;
         adsd-ask) words="access frames replies" ;;
         adsd-ldap) words="serve name" ;;
-        adsd-replica) words="begin copy serve status forget upgrade compare" ;;
+        adsd-replica) words="begin copy serve status health forget upgrade compare skip key" ;;
         adsd-who) words="token who can diff" ;;
     esac
     if [ "$COMP_CWORD" -eq "$at" ] && [ -n "$words" ] && [[ $word != -* ]]; then

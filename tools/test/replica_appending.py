@@ -6,6 +6,7 @@ import random
 
 from adsd_tools.replica import appending, entries
 from adsd_tools.replica.etcd import Away
+from adsd_tools.replica.seal import PLAIN
 
 CHANGES, CLIENTS = 400, 8
 START = entries.beginning(b"a log")
@@ -13,6 +14,8 @@ START = entries.beginning(b"a log")
 
 class Fickle:
     """A log that says now and then nothing of what was asked, and into which others put entries too."""
+
+    own, keys = b"a log", PLAIN
 
     def __init__(self, draw):
         self.draw, self.held, self.late, self.tries, self.head = draw, [], [], 0, START
@@ -29,7 +32,7 @@ class Fickle:
         self.head = then
         return True, then, None
 
-    def put(self, head, data, then):
+    def put(self, head, data, then, more=((), ())):
         self.tries += 1
         for one in self.late:
             self.made(*one)
@@ -108,5 +111,5 @@ async def run(draw):
 
 
 def tried(seed=46):
-    appending.PAUSE = 0.001
+    appending.PAUSE = appending.PAUSED = 0.001
     return asyncio.run(run(random.Random(seed)))

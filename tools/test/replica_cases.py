@@ -33,6 +33,12 @@ def shown(value):
     return f"dn: {MANY}\ndescription: {value}\n\n# search: 0 success"
 
 
+def written(client, dn, value):
+    """What is answered to a large value. (A line of adsd-ask would be read letter by letter.)"""
+    item = ber.sequence(ber.number(2, ber.ENUMERATED), ber.attribute("description", [value.encode()]))
+    return client.reply(client.send(ber.sequence(ber.octets(dn.encode()), ber.sequence(item), tag=0x66)))
+
+
 def resting(world):
     """The log's head, once the keeper has put steps for the last change, and nothing is put any more."""
 
@@ -87,9 +93,7 @@ def clients(world):
     wrong += same(ones[0].ask(f"compare dn='{MANY}' attr=description value=11"), "# compare: 6 compare true")
     wrong += has(ones[1].ask(f"modify dn='CN=no,{MANY}' replace:description=1"), "# modify: 32")
     large = 1_048_000 * "x"
-    item = ber.sequence(ber.number(2, ber.ENUMERATED), ber.attribute("description", [large.encode()]))
-    asked = ber.sequence(ber.octets(MANY.encode()), ber.sequence(item), tag=0x66)
-    wrong += same(ones[2].reply(ones[2].send(asked)), DONE) + has(ones[1].ask(READ), large)
+    wrong += same(written(ones[2], MANY, large), DONE) + has(ones[1].ask(READ), large)
     head, nobody = resting(world), world.replicas[0].client(None)
     wrong += has(nobody.ask(READ), "# search: 32")
     nobody.socket.sendall(bytes.fromhex("3003020100"))
@@ -101,7 +105,7 @@ def clients(world):
 
 
 def away(world):
-    """A replica that doesn't reach etcd: what it may still say, and what not. Then all is as before."""
+    """A replica that doesn't reach etcd: what it may still say, and for how long. Then all is as before."""
     a, b = world.by_name["a"], world.by_name["b"]
     one, other, wrong = a.client(), b.client(), []
     wrong += same(other.ask(WRITE + "before"), DONE)
@@ -113,6 +117,7 @@ def away(world):
     wrong += same(one.ask(READ), shown("before"))
     wrong += has(other.ask(READ), "# search: 52, the log doesn't tell how far it goes")
     wrong += has(one.ask(WRITE + "away"), "# modify: 52, the log doesn't answer; ")
+    wrong += has(one.ask(READ), "# search: 51, what this replica has is ")
     for member in world.members:
         member.join()
     world.wait("changes go on", lambda: other.ask(WRITE + "behind") == DONE)
@@ -283,6 +288,7 @@ def page():
                           env={**os.environ, "ADSD": PROGRAM}, stdin=subprocess.DEVNULL, timeout=600)
     shutil.rmtree(place)
     wrong = has(done.stdout, "description: on three machines") + has(done.stdout, "log adsd from 1 to ")
+    wrong += same(done.stdout.count("is asked without a user or a certificate"), 4)
     wrong += same(sum(done.stdout.count(f"replica {name} at ") for name in "abc"), 3)
     return [f"{one}; all that was said: {done.stdout[-1500:]}" for one in wrong]
 
@@ -302,7 +308,7 @@ def with_local(case):
 
     def run():
         with World(members=3, replicas=("a", "b")) as world:
-            world.by_name["a"].words = ("--reads", "local")
+            world.by_name["a"].words = ("--reads", "local", "--max-age", "15")
             world.begin()
             return case(world)
 

@@ -1,5 +1,6 @@
 """What has to be so after all faults: the stores hold the same rows, those that one plain `adsd serve` makes of the
-entries; each change that was answered stands in the log once, with the answer that the plain run gives."""
+entries; each change that was answered stands in the log once, with the answer that the plain run gives, or was refused
+without an entry."""
 
 import os
 import re
@@ -103,7 +104,7 @@ def marked(found, answers, notes):
         codes = places.get(mark, [])
         if len(codes) > 1:
             wrong.append(f"{mark} stands {len(codes)} times in the log")
-        elif code is not None and codes != [code]:
+        elif code is not None and codes != [code] and (codes or not code):
             wrong.append(f"{mark} was answered by {code}, and the log has {codes}")
     return wrong + notes.faults
 

@@ -20,7 +20,9 @@ from ldap_client import PROGRAM, TOP, Client
 
 COMMAND = os.path.join(TOP, "tools", "adsd-replica")
 ETCD = shutil.which("etcd")
-NAMES = "admin password=adm1n user=BA privileges=security\n'' user=AN groups=WD\n"
+LOW, SECOND = "user=S-1-5-21-1-2-3-1001 groups=AU,WD", "user=S-1-5-21-1-2-3-1099 groups=BA,AU,WD privileges=security"
+NAMES = ("admin password=adm1n user=BA privileges=security\n'' user=AN groups=WD\n"
+         f"low password=l0w {LOW}\nsecond password=sec0nd {SECOND}\n")
 ROOT = "DC=corp,DC=example"
 MANY = f"OU=many,{ROOT}"
 SECONDS = 240

@@ -19,11 +19,11 @@ LARGE = 0.02
 
 class Notes:
     """What was answered: by mark the code, or None where it isn't known; and of each writer the last number that was
-    written, and the last that anybody read."""
+    written, and the last that anybody read. `lost` has the marks that were answered by nothing, or by 51 or 52."""
 
     def __init__(self):
         self.lock, self.answers, self.faults = threading.Lock(), {}, []
-        self.written, self.read, self.reads = {}, {}, 0
+        self.written, self.read, self.reads, self.lost = {}, {}, 0, set()
 
     def fault(self, what):
         with self.lock:
@@ -104,6 +104,8 @@ class Writer(Worker):
         code = None if said is None else code_of(said)
         with self.notes.lock:
             self.notes.answers[mark] = None if code in (UNKNOWN, BUSY) else code
+            if code in (None, UNKNOWN, BUSY):
+                self.notes.lost.add(mark)
         if code not in (None, UNKNOWN, BUSY, *wanted) and self.at > 1:
             self.notes.fault(f"{line}: {said}")
         return code

@@ -10,13 +10,15 @@ from collections import deque
 from adsd_tools.ldap.turns import Stopped, refuse
 
 from . import entries
-from .etcd import Away, Denied
+from .etcd import Away, Denied, Waits
 from .lane import Lane
+from .naming import Repeated
 from .ordered import Other, Parted
 
 # So many entries, of so many bytes, are put at once: etcd takes 128 operations, and 1.5 MB.
 MANY, MANY_BYTES = 100, entries.MOST
-PAUSE = 0.3
+# So long one waits where no member answers, the first time and at most.
+PAUSE, PAUSED = 0.2, 1.0
 
 
 class NotPut(Exception):
@@ -29,29 +31,30 @@ class Overtaken(Exception):
 
 class Waiting:
     """The content of an entry that waits to be put or to be answered. `behind` is the number of the entry that it has
-    to follow."""
+    to follow, and `named` the request's number and digest, where it is put only once."""
 
-    def __init__(self, data, behind):
-        self.data, self.behind, self.id = data, behind, entries.request_of(data)
+    def __init__(self, data, behind, named=None):
+        self.data, self.behind, self.named, self.id = data, behind, named, entries.request_of(data)
         self.answer, self.is_sent = asyncio.get_running_loop().create_future(), False
 
 
 class Appender:
     """The changes of one replica."""
 
-    def __init__(self, log, applying, heads, patience):
+    def __init__(self, log, applying, heads, patience, remembered=None, counts=None):
         self.lane, self.applying, self.heads, self.patience = Lane(log), applying, heads, patience
         self.queue, self.sent, self.news, self.closed = deque(), {}, asyncio.Event(), False
+        self.remembered, self.counts, self.pause = remembered, counts, Waits(PAUSE, PAUSED)
         applying.tells.append(self.applied)
 
-    async def put(self, data, behind=None):
+    async def put(self, data, behind=None, named=None):
         """The program's answer to an entry, once the log has it and the program has taken it. NotPut where that takes
         too long, Overtaken where it has to follow an entry and can't."""
         if self.closed:
             raise Stopped
         if len(data) > entries.MOST:
             raise NotPut(f"an entry of {len(data)} bytes is more than the log takes; nothing was changed")
-        one = Waiting(data, behind)
+        one = Waiting(data, behind, named)
         self.queue.append(one)
         self.news.set()
         try:
@@ -85,7 +88,7 @@ class Appender:
             if one.answer.done():
                 self.queue.popleft()
                 continue
-            if found and (one.behind is not None or size + len(one.data) > MANY_BYTES):
+            if found and (one.behind is not None or one.named or size + len(one.data) > MANY_BYTES):
                 break
             self.queue.popleft()
             if one.behind is not None and one.behind != self.heads.known.number:
@@ -93,6 +96,8 @@ class Appender:
                 continue
             found.append(one)
             size += len(one.data)
+            if one.named:
+                break
         return found
 
     async def append(self, some):
@@ -100,31 +105,81 @@ class Appender:
         follow an entry which isn't the head any more."""
         while some:
             for one in some:
-                one.is_sent, self.sent[one.id] = True, one
+                one.is_sent = True
+                self.sent.setdefault(one.id, one)
             if await self.landed(some):
                 return
             for one in some:
-                self.sent.pop(one.id, None)
+                self.leave(one)
                 one.is_sent = False
                 if one.behind is not None and not one.answer.done():
                     one.answer.set_exception(Overtaken())
             some = [one for one in some if not one.answer.done()]
 
+    def leave(self, one):
+        """Nothing is awaited any more for an entry. (Another one may have the same name.)"""
+        if self.sent.get(one.id) is one:
+            del self.sent[one.id]
+
     async def landed(self, some):
-        """Whether entries were put: True, or False where they weren't and never will be by what was asked here."""
-        head = self.heads.known
-        data, then = entries.chained(head, [one.data for one in some])
+        """Whether entries were put, or answered otherwise: True, or False where they weren't put and never will be by
+        what was asked here."""
+        head, log, is_sure = self.heads.known, self.lane.log, True
+        data, then = entries.chained(head, [one.data for one in some], log.own, log.keys)
         while True:
             try:
-                done, now, behind = await self.lane.call(lambda log: log.put(head, data, then))
+                if self.sent.get(some[0].id) is not some[0] and await self.repeated(some[0]):
+                    return True
+                more = await self.once(some[0], then)
+                done, now, behind = await self.lane.call(lambda log: log.put(head, data, then, more))
+                if not done and now == head and some[0].named:
+                    if await self.repeated(some[0]):
+                        return True
+                    continue
             except (Away, Denied) as why:
-                self.heads.missed(why)
-                await asyncio.sleep(PAUSE)
+                is_sure = is_sure and isinstance(why, Denied)
+                if is_sure and why.is_full():
+                    return self.full(some)
+                self.missed(why)
+                await asyncio.sleep(self.pause.grow())
                 continue
+            self.pause.again()
             if not done:
                 self.look(head, now, behind)
             self.heads.seen(now)
+            if done and self.counts:
+                self.counts.batch(len(some), sum(map(len, data)))
             return done or entries.id_of(behind) == entries.id_of(data[0])
+
+    def full(self, some):
+        """Tells that etcd has no room for some entries."""
+        for one in some:
+            self.leave(one)
+            if not one.answer.done():
+                one.answer.set_exception(NotPut("etcd has no room left; nothing was changed"))
+        return True
+
+    def missed(self, why):
+        """Nothing was put, or it isn't known."""
+        self.heads.missed(why)
+        if self.remembered:
+            self.remembered.denied(why)
+
+    async def once(self, one, then):
+        """What has to be so, and what is put besides, where a request is made only once."""
+        if not one.named:
+            return (), ()
+        lease = await self.remembered.current(self.lane)
+        return self.lane.log.is_new(one.named[0], (then.number, one.named[1]), lease)
+
+    async def repeated(self, one):
+        """Whether the log has a named request already; who waits for it is told so."""
+        found = await self.lane.call(lambda log: log.entry_of(one.named[0])) if one.named else None
+        if found:
+            self.leave(one)
+            if not one.answer.done():
+                one.answer.set_exception(Repeated(*found))
+        return bool(found)
 
     def look(self, head, now, behind):
         """Looks whether the log goes on after a head that isn't its own any more, with the entry behind it."""
@@ -136,6 +191,10 @@ class Appender:
         if before != head.id:
             raise Parted(f"entry {head.number + 1} of the log follows {before.hex()}, and the replica knows "
                          f"{head.told()}")
+
+    def is_idle(self):
+        """Whether nobody waits for an answer."""
+        return not self.queue and all(one.answer.done() for one in self.sent.values())
 
     def refuse(self):
         """Nobody is answered any more."""

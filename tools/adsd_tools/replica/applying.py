@@ -4,6 +4,7 @@ It stands in the place of a bridge's upkeep (ldap/upkeep.py): an entry has its t
 the one before is on the disk. Meanwhile clients' frames have theirs."""
 
 import asyncio
+import time
 from collections import deque
 from concurrent.futures import ThreadPoolExecutor
 
@@ -11,6 +12,8 @@ from adsd_tools.ldap.program import DROP, MESSAGE, TOKEN, Ended
 from adsd_tools.ldap.turns import refuse
 
 from . import replay
+from .answers import Answer
+from .entries import is_named
 from .position import taken
 from .slots import Unfit
 
@@ -18,6 +21,8 @@ from .slots import Unfit
 CONNECTION = 1023
 # As many entries, and as many bytes, wait here before no more are taken.
 MOST, MOST_BYTES = 1000, 16 << 20
+# What the program ends with where a frame isn't one, and of so many entries it is kept in mind where they stand.
+NO_FRAME, LAST = 1, 20_000
 
 
 class Spoilt(Ended):
@@ -30,6 +35,14 @@ class Spoilt(Ended):
         return self.said
 
 
+class Unsuited(Ended):
+    """An entry whose frames the program doesn't take, whatever the directory is."""
+
+    def __init__(self, entry):
+        super().__init__(NO_FRAME, f"entry {entry.number} has a frame that the program doesn't take")
+        self.entry = entry
+
+
 def size_of(entry):
     return sum(len(body) for _, body in entry.frames)
 
@@ -39,21 +52,26 @@ class Applying:
 
     def __init__(self):
         self.slots, self.positions, self.position, self.place = None, None, None, None
-        # Whether the next entry was taken before a crash, so that it isn't given again.
-        self.skips, self.program = False, None
+        # Whether the next entry was taken before a crash, so that it isn't given again, with what it was answered then.
+        self.skips, self.program, self.once = False, None, None
         self.queue, self.bytes, self.room, self.news = deque(), 0, None, None
         self.lane, self.writing, self.fault = ThreadPoolExecutor(1), None, ""
         # Who waits until an entry is answered, by rising numbers; and who is told of each entry with its answer.
         self.waiting, self.tells = deque(), []
+        # What named requests were answered, and which of it isn't written yet; where the last entries left the store,
+        # by their numbers; when entries came that wait; and what is asked of an entry that the program doesn't take.
+        self.answers, self.unwritten, self.places, self.came, self.may_skip = None, [], {}, deque(), None
 
-    def open(self, slots, positions, news, program):
+    def open(self, slots, positions, answers, news, program):
         """Finds out where the store stands, which the program has opened and synced by now."""
         self.slots, self.positions, self.news, self.room = slots, positions, news, asyncio.Event()
-        self.program = program
+        self.program, self.answers = program, answers
         self.position, self.place = positions.read(), slots.look()
         if self.position is None:
             raise Unfit(f"{slots.store} is no replica's store: {positions.path} isn't there")
         self.skips = taken(self.position, self.place) == 1
+        answers.open(self.position.entry)
+        self.places = {self.position.entry: (self.position.generation, self.position.records)}
         self.room.set()
 
     def number(self):
@@ -67,7 +85,9 @@ class Applying:
     async def took(self, entry):
         """Whether the change that was taken before a crash is that of an entry."""
         loop = asyncio.get_running_loop()
-        return await loop.run_in_executor(self.lane, replay.took, self.program, self.slots.store, self.position, entry)
+        given = self.program, self.slots.store, self.position, entry
+        took, self.once = await loop.run_in_executor(self.lane, replay.took, *given)
+        return took
 
     # ---- as an upkeep
 
@@ -86,20 +106,42 @@ class Applying:
         """One entry; whether it changed the directory."""
         if self.fault:
             raise Spoilt(self.fault)
-        entry, reply = self.pulled(), None
+        entry = self.pulled()
         try:
-            if self.skips:
-                self.skips, changed = False, True
-            else:
-                self.look(0)
-                reply = await self.given(program, entry)
-                changed = self.look(1)
+            reply, changed = await self.done(program, entry)
         except (Unfit, OSError) as why:
             raise Spoilt(f"{self.slots.store}: {why}") from None
         self.position = self.position.behind(entry, self.place)
+        self.keep(entry, reply)
         self.write()
         self.tell(entry, reply, changed)
         return changed
+
+    async def done(self, program, entry):
+        """The program's answer to an entry, None where that isn't known; and whether it changed the directory."""
+        if self.skips:
+            self.skips = False
+            return self.once, True
+        self.look(0)
+        try:
+            reply = await self.given(program, entry)
+        except Ended as why:
+            if why.status != NO_FRAME:
+                raise
+            if not await self.may_skip(entry):
+                raise Unsuited(entry) from None
+            await program.anew()
+            reply = b""
+        return reply, self.look(1)
+
+    def keep(self, entry, reply):
+        """Keeps in mind where the entry left the store, and what it was answered where its request has a name."""
+        self.places[entry.number] = self.position.generation, self.position.records
+        self.places.pop(entry.number - LAST, None)
+        if is_named(entry.request) and reply and entry.frames:
+            made = Answer(entry.number, entry.request, reply)
+            self.answers.note(made)
+            self.unwritten.append(made)
 
     def look(self, most):
         """Whether the store has taken a change since the last look, of so many that it may have."""
@@ -110,7 +152,9 @@ class Applying:
         return found > 0
 
     async def given(self, program, entry):
-        """The program's answer to the last frame of an entry."""
+        """The program's answer to the last frame of an entry; nothing where it is passed over."""
+        if not entry.frames:
+            return b""
         held = program.tokens.get(CONNECTION, b"")
         frames = dict(entry.frames)
         wanted = frames.pop(TOKEN, b"")
@@ -124,6 +168,7 @@ class Applying:
     def push(self, entry):
         """Takes an entry, the one after the last that was taken."""
         self.queue.append(entry)
+        self.came.append(time.monotonic())
         self.bytes += size_of(entry)
         if len(self.queue) >= MOST or self.bytes >= MOST_BYTES:
             self.room.clear()
@@ -131,6 +176,7 @@ class Applying:
 
     def pulled(self):
         entry = self.queue.popleft()
+        self.came.popleft()
         self.bytes -= size_of(entry)
         if len(self.queue) < MOST // 2 and self.bytes < MOST_BYTES // 2:
             self.room.set()
@@ -159,9 +205,15 @@ class Applying:
             await done
 
     def write(self):
-        """Writes the position beside; the next entry waits for it."""
-        self.writing = asyncio.get_running_loop().run_in_executor(self.lane, self.positions.write, self.position)
+        """Writes the position beside, behind what has to be written before; the next entry waits for it."""
+        some, self.unwritten = self.unwritten, []
+        self.writing = asyncio.get_running_loop().run_in_executor(self.lane, self.noted, some, self.position)
         self.writing.add_done_callback(self.written)
+
+    def noted(self, some, position):
+        if some:
+            self.answers.write(some)
+        self.positions.write(position)
 
     def written(self, done):
         self.writing = None
@@ -178,3 +230,9 @@ class Applying:
             self.positions.close()
         if self.slots:
             self.slots.close()
+        if self.answers:
+            self.answers.close()
+
+    def delay(self):
+        """For how long the entry whose turn is next has been here, in seconds."""
+        return time.monotonic() - self.came[0] if self.came else 0.0

@@ -1,20 +1,30 @@
 """A replica: a bridge whose changes go by way of the log, and whose program takes the entries of the log."""
 
 import asyncio
+import os
+import time
 
 from adsd_tools.ldap.bridge import Bridge
-from adsd_tools.ldap.program import Program
+from adsd_tools.ldap.program import TOKEN, Program
 from adsd_tools.ldap.turns import Stopped
 
+from .answers import Answers
 from .appending import Appender
-from .applying import Applying, Spoilt
+from .applying import Applying, Spoilt, Unsuited
+from .client import Client
 from .etcd import Away, Denied, Etcd
-from .following import Follower, Heads
+from .following import Follower, NotTaken
+from .heads import Heads
 from .keeper import Keeper
+from .metrics import Counts, served
+from .naming import Remembered, within
 from .ordered import Ordered, Other
 from .position import Old, Positions
+from .presence import WAITS, Presence
 from .release import release_of
+from .room import Room
 from .slots import Slots, Unfit
+from .sums import Sums
 from .turns import LogTurns
 
 STORE, PROGRAM, LOG = 3, 5, 6
@@ -22,6 +32,8 @@ STORE, PROGRAM, LOG = 3, 5, 6
 FIRST = 5.0
 # So often it is said how far the replica is, before clients come.
 SAID = 10.0
+# So often it is looked, while the replica is being stopped, whether all that it took is answered.
+SOON = 0.02
 
 
 class OneProgram(Program):
@@ -37,43 +49,117 @@ class OneProgram(Program):
             raise Spoilt(f"the program here is of {now.decode()} by now, and this replica of {self.release.decode()}")
         await super().again()
 
+    async def anew(self):
+        """Starts it after it has ended by itself, where nothing was lost by that."""
+        await self.start()
+        for connection, token in self.tokens.items():
+            await self.exchange(TOKEN, connection, token)
+
 
 class Replica(Bridge):
     """One replica of a store."""
 
     def made_turns(self):
-        self.program = OneProgram(self.options)
-        self.applying, self.tasks, self.parts = Applying(), [], []
-        return LogTurns(self.program, self.applying, self.options.reads == "linear", self.options.patience)
+        self.program, self.counts = OneProgram(self.options), Counts()
+        self.applying, self.tasks, self.parts, self.servers_beside = Applying(), [], [], []
+        return LogTurns(self.program, self.applying, self.options, self.counts)
 
     async def ready(self):
         """Finds out where the store stands, and follows the log until its end as of now."""
         try:
             slots, positions = Slots(self.options.store), Positions(self.options.store)
-            self.applying.open(slots, positions, self.turns.news, self.options.program)
+            self.applying.open(slots, positions, Answers(self.options.store), self.turns.news, self.options.program)
         except Old as why:
             self.fault(LOG, str(why))
             raise Stopped from None
         except Unfit as why:
             self.fault(STORE, str(why))
             raise Stopped from None
-        position = self.applying.position
-        etcd = Etcd(self.options.etcd, self.options.etcd_tls)
-        log = Ordered(etcd, position.log, position.own, self.options.release)
-        self.heads = self.turns.heads = Heads(log, position.head(), self.log.timed, self.parted)
-        appender = self.turns.appender = Appender(log, self.applying, self.heads, self.options.patience)
-        self.follower = Follower(log, self.applying, self.heads)
-        self.keeper = Keeper(log, self.applying, appender, self.options, self.log.timed)
-        self.parts = [self.follower, self.heads, appender]
-        self.tasks = [asyncio.ensure_future(one.work()) for one in (self.follower, appender)] + self.keeper.tasks()
-        for task in self.tasks:
-            task.add_done_callback(self.task_ended)
         try:
-            await self.until_stopped(self.caught_up())
+            self.make_parts()
+            await self.until_stopped(self.begun())
         except Other as why:
             self.parted(why)
         if self.stop.is_set():
             raise Stopped
+
+    def make_parts(self):
+        """What works beside the program and clients."""
+        position, asked, say = self.applying.position, self.options, self.log.timed
+        if asked.etcd_warning:
+            self.log.say(asked.etcd_warning)
+        etcd = Etcd(asked.etcd, asked.etcd_tls, asked.etcd_user_known)
+        log = Ordered(etcd, position.log, position.own, asked.release, asked.known_keys)
+        age = time.time() - os.stat(asked.store + ".position").st_mtime
+        self.heads = self.turns.heads = Heads(log, position.head(), say, self.parted, max(0.0, age))
+        remembered = Remembered(asked.remember)
+        appender = self.turns.appender = Appender(log, self.applying, self.heads, asked.patience, remembered,
+                                                  self.counts)
+        self.room = self.turns.room = Room(log, asked, say)
+        self.follower = Follower(log, self.applying, self.heads, asked.check_every)
+        self.keeper = Keeper(log, self.applying, appender, asked, say, self.room)
+        self.presence, self.sums = Presence(log, asked, position, asked.release), Sums(log, self.applying)
+        self.parts = [self.follower, self.heads, appender, self.room, self.sums]
+        self.applying.may_skip = self.may_skip
+        self.applying.tells.append(self.counts.applied)
+
+    async def begun(self):
+        """Takes the replica's name, and follows the log until its end."""
+        await within(FIRST + WAITS, self.presence.first())
+        ones = (self.follower.work, self.turns.appender.work, self.presence.work, self.room.work, self.sums.work,
+                self.follower.checks)
+        self.tasks = [asyncio.ensure_future(one()) for one in ones] + self.keeper.tasks()
+        for task in self.tasks:
+            task.add_done_callback(self.task_ended)
+        await self.caught_up()
+
+    async def may_skip(self, entry):
+        """Whether an operator has said that all pass over an entry that the program doesn't take."""
+        while True:
+            try:
+                return await self.follower.beside.call(lambda log: log.is_skipped(entry.number, entry.id, entry.before))
+            except (Away, Denied) as why:
+                self.heads.missed(why)
+                await asyncio.sleep(1)
+
+    async def listen(self):
+        await super().listen()
+        if self.options.metrics:
+            server = await served(self, self.options.metrics)
+            self.servers_beside.append(server)
+            host, port = server.sockets[0].getsockname()[:2]
+            self.log.say(f"metrics on http://{host}:{port}/metrics")
+
+    async def session(self, session):
+        await super().session(Client(session))
+
+    async def serve(self, work):
+        work.add_done_callback(self.work_ended)
+        return await super().serve(work)
+
+    def work_ended(self, work):
+        """Tells where the program doesn't take an entry."""
+        fault = None if work.cancelled() else work.exception()
+        if isinstance(fault, Unsuited):
+            one = fault.entry
+            self.parted(NotTaken(one.number, one.id, one.before, fault.said))
+
+    async def ended(self, work):
+        """Drains first, where the replica is stopped: what it took is answered, and no more is taken."""
+        if not work.done() and not self.status and self.tasks:
+            self.turns.drains = True
+            await self.keeper.hand_on()
+            end = time.monotonic() + self.options.patience
+            while not work.done() and not self.status and self.signals < 2 and time.monotonic() < end:
+                for session in self.sessions:
+                    session.stop()
+                if self.turns.appender.is_idle():
+                    break
+                await asyncio.sleep(SOON)
+            # (what was answered by now is sent to clients before they are let go)
+            await asyncio.sleep(SOON)
+        status = await super().ended(work)
+        return self.status if self.status == LOG else status
 
     async def caught_up(self):
         """Waits until the replica stands where the log ends, if the log tells that."""
@@ -114,10 +200,14 @@ class Replica(Bridge):
 
     async def closing(self):
         """Ends what goes on beside; what was put is put."""
+        for server in self.servers_beside:
+            server.close()
         if self.tasks:
             await self.keeper.close()
         for task in self.tasks:
             task.cancel()
+        if self.parts:
+            await self.presence.close()
         for part in self.parts:
             part.close()
         if self.applying.room is not None:

@@ -1,5 +1,6 @@
 """The command: what its words ask for is done."""
 
+import json
 import os
 import ssl
 import sys
@@ -12,12 +13,13 @@ from adsd_tools.rows import store as rows
 from adsd_tools.run import ADSD
 from adsd_tools.shown import shown, text_of
 
-from . import etcd
+from . import etcd, seal, skipping, state, sums
 from .bridge import Replica
 from .copying import begin, copied
 from .ordered import Ordered, Other
 from .release import release_of
 from .slots import Unfit
+from .state import told
 from .words import parsed
 
 
@@ -35,8 +37,21 @@ def tls_of(asked):
         raise Wrong(f"the certificates for etcd: {fault.strerror or fault}") from None
 
 
+def user_of(asked):
+    """By whom etcd is asked; None where it wants nobody."""
+    return etcd.User(asked.etcd_user, seal.password_of(asked.etcd_password)) if asked.etcd_user else None
+
+
+def warning_of_etcd(asked):
+    """That etcd is open, where nothing is shown to it; else nothing."""
+    if asked.etcd_user or asked.etcd_cert:
+        return ""
+    return (f"warning: etcd at {asked.etcd[0]} is asked without a user or a certificate: who reaches it may change the "
+            "directory and read what is changed; docs/replicas.md, Who has to be trusted")
+
+
 def log_of(asked, name, own=None, release=None):
-    return Ordered(etcd.Etcd(asked.etcd, tls_of(asked)), name, own, release)
+    return Ordered(etcd.Etcd(asked.etcd, tls_of(asked), user_of(asked)), name, own, release)
 
 
 def known_log(asked):
@@ -45,11 +60,6 @@ def known_log(asked):
     if log.own is None:
         raise Other(f"etcd has no log {asked.log}")
     return log
-
-
-def told(data):
-    """What etcd has of a replica or a release, as it is shown."""
-    return shown(text_of(data))
 
 
 def answering(log):
@@ -67,6 +77,8 @@ def answering(log):
 
 def do_begin(asked):
     incomplete.warn(asked.store)
+    if warning_of_etcd(asked):
+        print(f"adsd-replica: {shown(warning_of_etcd(asked))}", file=sys.stderr, flush=True)
     log = log_of(asked, asked.log, release=release_of(ADSD))
     begin(ADSD, asked.store, answering(log), asked.name)
     print(shown(f"log {asked.log} begins with {asked.store}, replica {asked.name}"))
@@ -79,13 +91,27 @@ def do_copy(asked):
 
 
 def do_status(asked):
-    log = known_log(asked)
-    release, part, (found, _), keeper = log.its_release(), log.read(0, 0), log.replicas(), log.keeper()
-    head = part.head.number
-    print(shown(f"log {asked.log} from {part.first} to {head}, of {text_of(release)}"))
-    for name, number in sorted(found.items()):
-        kept, how = ", keeper" if name == keeper else "", f"{head - number} behind"
-        print(f"replica {told(name)} at {number}, {how if number <= head else 'parted: it has more'}{kept}")
+    found = state.of_log(known_log(asked))
+    print(json.dumps(found, indent=1) if asked.json else "\n".join(map(shown, state.lines(found))))
+
+
+def do_health(asked):
+    status, lines = state.health(lambda: known_log(asked), asked.behind)
+    print("\n".join(map(shown, lines)))
+    return status
+
+
+def do_key(asked):
+    line = seal.make_key(asked.file, asked.name)
+    if line:
+        print(line)
+
+
+def do_skip(asked):
+    position = skipping.position_of(asked.store)
+    log = log_of(asked, position.log, position.own)
+    log.keys = seal.keys_of(asked)
+    print(shown(skipping.skip(log, ADSD, asked.store, position, asked.entry)))
 
 
 def do_upgrade(asked):
@@ -112,6 +138,8 @@ def do_forget(asked):
 
 
 def do_compare(asked):
+    if not asked.stores:
+        return compare_running(asked)
     incomplete.warn(*asked.stores)
     first, second = (rows.table(one) for one in asked.stores)
     other = [one for one in sorted({*first, *second}) if first.get(one) != second.get(one)]
@@ -121,15 +149,28 @@ def do_compare(asked):
     return 1 if other else 0
 
 
+def compare_running(asked):
+    """Whether all replicas that run hold the same rows at one entry."""
+    found = sums.compared(known_log(asked), asked.wait)
+    for name, value in sorted(found.items()):
+        number, _, what = told(value or b"").partition(" ")
+        print(f"replica {told(name)} at {number}: {what}" if value else f"replica {told(name)} has told nothing")
+    alike = len(set(found.values())) == 1 and None not in found.values() and b" - " not in next(iter(found.values()))
+    print(f"{len(found)} replicas, " + ("all alike" if alike else "not all alike" if found else "none runs"))
+    return 0 if alike else 1
+
+
 def do_serve(asked):
-    asked.etcd_tls, asked.release = tls_of(asked), release_of(ADSD)
+    asked.etcd_warning, asked.etcd_tls = warning_of_etcd(asked), tls_of(asked)
+    asked.release = release_of(ADSD)
+    asked.etcd_user_known, asked.known_keys = user_of(asked), seal.keys_of(asked)
     status = ldap.serve(asked, Replica, "adsd-replica")
     sys.stderr.flush()
     os._exit(status)  # A call of etcd that isn't answered doesn't hold up the end.
 
 
-WORDS = {"begin": do_begin, "copy": do_copy, "serve": do_serve, "status": do_status, "forget": do_forget,
-         "upgrade": do_upgrade, "compare": do_compare}
+WORDS = {"begin": do_begin, "copy": do_copy, "serve": do_serve, "status": do_status, "health": do_health,
+         "forget": do_forget, "upgrade": do_upgrade, "compare": do_compare, "skip": do_skip, "key": do_key}
 
 
 def main(arguments):
@@ -143,4 +184,4 @@ def main(arguments):
     except OSError as why:
         fault = f"{why.filename or ''}: {why.strerror or why}".lstrip(": ")
     print(f"adsd-replica: {shown(fault)}", file=sys.stderr)
-    return 1
+    return 3 if asked.word == "health" else 1

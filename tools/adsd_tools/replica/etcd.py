@@ -5,13 +5,19 @@ import http.client
 import json
 import socket
 import ssl
+from dataclasses import dataclass
+from typing import Optional
 from urllib.parse import urlsplit
 
-# So long one member is waited for, in seconds.
-PATIENCE = 3.0
+# So long one member is waited for, in seconds, and so long at most where a wait grows.
+PATIENCE, LONGEST, LOG_IN = 3.0, 60.0, 10.0
 USUAL_PORT = 2379
 # What etcd answers while it has no leader, or is overloaded: another member, or a later moment, may do better.
 NOT_NOW = (4, 8, 10, 14)
+# What it answers where it knows the user no longer, or not yet.
+ANEW = ("invalid auth token", "user name is empty", "revision in header is old")
+UNASKED = "authentication is not enabled"
+NO_SPACE = "database space exceeded"
 
 
 class Away(Exception):
@@ -20,6 +26,35 @@ class Away(Exception):
 
 class Denied(Exception):
     """A member answered that it won't do what was asked."""
+
+    def is_full(self):
+        """Whether etcd has no room for what was asked."""
+        return NO_SPACE in str(self)
+
+
+@dataclass
+class User:
+    """By whom etcd is asked, where its `auth enable` wants one, and what it gave for the password: nothing yet, or that
+    it wants none. All connections of one process have it in common, since a password is dear to check."""
+
+    name: str
+    password: str
+    token: Optional[str] = None
+
+
+class Waits:
+    """A wait that grows from one try to the next that comes to nothing, and is short again after one that does."""
+
+    def __init__(self, first, most):
+        self.first, self.most, self.now = first, most, first
+
+    def grow(self):
+        """How long to wait, this time."""
+        now, self.now = self.now, min(2 * self.now, self.most)
+        return now
+
+    def again(self):
+        self.now = self.first
 
 
 def encoded(data):
@@ -51,21 +86,28 @@ def context(certificate, key, authority):
 class Etcd:
     """The members of one etcd, by one connection at a time. Each thread has its own."""
 
-    def __init__(self, urls, tls=None):
+    def __init__(self, urls, tls=None, user=None):
         self.urls, self.tls, self.at, self.open = [urlsplit(one) for one in urls], tls, 0, None
+        self.user = user
 
     def other(self):
         """The same members, by a connection of its own."""
-        made = Etcd([], self.tls)
+        made = Etcd([], self.tls, self.user)
         made.urls, made.at = self.urls, self.at
         return made
 
-    def connection(self):
+    def only(self, url):
+        """One member alone, by a connection of its own."""
+        made = self.other()
+        made.urls, made.at = [urlsplit(url)], 0
+        return made
+
+    def connection(self, patience=PATIENCE):
         url = self.urls[self.at]
         host, port = url.hostname, url.port or USUAL_PORT
         if url.scheme == "https":
-            return http.client.HTTPSConnection(host, port, timeout=PATIENCE, context=self.tls)
-        return http.client.HTTPConnection(host, port, timeout=PATIENCE)
+            return http.client.HTTPSConnection(host, port, timeout=patience, context=self.tls)
+        return http.client.HTTPConnection(host, port, timeout=patience)
 
     def close(self):
         if self.open is not None:
@@ -77,28 +119,61 @@ class Etcd:
         self.close()
         self.at = (self.at + 1) % len(self.urls)
 
-    def call(self, path, asked):
+    def call(self, path, asked, patience=PATIENCE):
         """The answer of the first member that answers, from the one on that answered last. That one is asked twice,
         since it may have closed the connection meanwhile."""
         why = "none is named"
         for _ in range(len(self.urls) + (self.open is not None)):
             try:
-                return self.once(path, asked)
+                return self.known(path, asked, patience)
             except (OSError, http.client.HTTPException, ValueError) as fault:
                 why = f"{self.urls[self.at].netloc}: {fault or type(fault).__name__}"
                 self.next()
         raise Away(why)
 
-    def once(self, path, asked):
+    def known(self, path, asked, patience=PATIENCE):
+        """The answer of one member, to whom etcd knows: what it gave for the password may have run out."""
+        if self.user is None:
+            return self.once(path, asked, patience)
+        token = self.log_in()
+        try:
+            return self.once(path, asked, patience, token)
+        except Denied as why:
+            if not any(one in str(why) for one in ANEW):
+                raise
+        if self.user.token == token:
+            self.user.token = None
+        return self.once(path, asked, patience, self.log_in())
+
+    def log_in(self):
+        """What etcd gives for the password."""
+        if self.user.token is None:
+            try:
+                asked = {"name": self.user.name, "password": self.user.password}
+                self.user.token = self.once("auth/authenticate", asked, LOG_IN)["token"]
+            except Denied as why:
+                if UNASKED not in str(why):
+                    raise
+                self.user.token = ""
+        return self.user.token
+
+    def head(self, token):
+        """What stands before what is asked."""
+        return {"Content-Type": "application/json", **({"Authorization": token} if token else {})}
+
+    def once(self, path, asked, patience=PATIENCE, token=""):
         if self.open is None:
-            self.open = self.connection()
-        self.open.request("POST", "/v3/" + path, json.dumps(asked), {"Content-Type": "application/json"})
+            self.open = self.connection(patience)
+        self.open.timeout = patience
+        if self.open.sock is not None:
+            self.open.sock.settimeout(patience)
+        self.open.request("POST", "/v3/" + path, json.dumps(asked), self.head(token))
         response = self.open.getresponse()
         said = json.loads(response.read())
         if response.status == 200 and "error" not in said:
             return said
         told = str(said.get("message") or said.get("error") or response.status)
-        if response.status >= 500 or said.get("code") in NOT_NOW:
+        if NO_SPACE not in told and (response.status >= 500 or said.get("code") in NOT_NOW):
             raise OSError(told)
         raise Denied(told)
 
@@ -107,14 +182,32 @@ class Etcd:
         waited for so long, but the first one as any answer."""
         opened = self.connection()
         try:
-            opened.request("POST", "/v3/" + path, json.dumps(asked), {"Content-Type": "application/json"})
+            token = self.log_in() if self.user else ""
+            opened.request("POST", "/v3/" + path, json.dumps(asked), self.head(token))
             response = opened.getresponse()
         except http.client.HTTPException as fault:
             raise OSError(type(fault).__name__) from None
         if response.status != 200:
+            if self.user:
+                self.user.token = None
             raise OSError(f"status {response.status}")
         opened.sock.settimeout(patience)
         return opened, response
+
+    def text(self, path):
+        """The text that one member has at a path, as its metrics."""
+        opened = self.connection()
+        try:
+            opened.request("GET", path)
+            response = opened.getresponse()
+            said = response.read()
+        except http.client.HTTPException as fault:
+            raise OSError(type(fault).__name__) from None
+        finally:
+            opened.close()
+        if response.status != 200:
+            raise OSError(f"status {response.status}")
+        return said.decode("utf-8", "replace")
 
 
 def shut(connection):

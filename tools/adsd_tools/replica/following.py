@@ -1,52 +1,77 @@
 """Follows the log: what stands there is read, and then etcd tells of each new entry as it is put.
 
 Each entry has to name the one that was taken before it, and is taken only where the entry after it, or the log's head,
-names it too. So what was put in the place of another is noticed before it is taken."""
+names it too. So what was put in the place of another is noticed before it is taken. Now and then what the log keeps is
+looked through again, also where nothing is put."""
 
 import asyncio
 import http.client
 import json
 
-from adsd_tools.ldap.turns import refuse
-
 from . import entries
-from .etcd import Away, Denied, shut
+from .etcd import LONGEST, PATIENCE, Away, Denied, Waits, shut
 from .lane import Lane
 from .ordered import Other, Parted
 
-# A member that tells of nothing for so long is asked anew, in seconds; and so long one waits where none answers.
-QUIET, PAUSE = 60.0, 0.5
+# A member that tells of nothing for so long is asked anew, in seconds; and so long one waits where none answers, the
+# first time and at most.
+QUIET, PAUSE, PAUSED = 60.0, 0.25, 2.0
+# So long one waits between two parts of the log that is looked through, so that it doesn't hold up others.
+BETWEEN = 0.05
 # The log's head is asked for so often, and where it isn't reached for so long, another member is followed.
 LOOK, LATE = 2.0, 1.5
+
+
+class NotTaken(Other):
+    """An entry that isn't taken here, whatever came before it."""
+
+    def __init__(self, number, own, before, why):
+        super().__init__(f"{why} (its id is {own.hex()}): nothing after it is taken; where no replica takes it, an "
+                         f"operator lets all pass it over: adsd-replica skip {number}: docs/replicas.md, Entries that "
+                         "aren't taken")
+        self.number, self.own, self.before = number, own, before
 
 
 class Follower:
     """Gives each entry after a number, in order, none twice, to `push`."""
 
-    def __init__(self, log, applying, heads):
-        self.log, self.applying, self.heads = log, applying, heads
+    def __init__(self, log, applying, heads, every=3600):
+        self.log, self.applying, self.heads, self.every = log, applying, heads, every
         # `at` is the last entry that was pushed.
         self.lane, self.at, self.open = Lane(log), applying.position.head(), None
+        self.beside, self.patience, self.pause = Lane(log), Waits(PATIENCE, LONGEST), Waits(PAUSE, PAUSED)
 
     async def work(self):
         """Follows until it is cancelled; Other where the log doesn't go with the replica."""
         await self.same()
         while True:
             try:
-                part = await self.lane.call(lambda log: log.read(self.at.number + 1))
+                patience = self.patience.now
+                part = await self.lane.call(lambda log: log.some(self.at.number + 1, patience))
+                self.answered()
                 await self.take(part)
                 if self.at.number >= part.head.number:
                     await self.told(part.revision)
             except (Away, Denied, OSError) as why:
-                self.heads.missed(why)
-                self.lane.log.etcd.next()
-                await asyncio.sleep(PAUSE)
+                await self.missed(why)
+
+    def answered(self):
+        self.patience.again()
+        self.pause.again()
+
+    async def missed(self, why):
+        """Waits a while, each time longer, and asks the next member then, which is given more time."""
+        self.heads.missed(why)
+        self.lane.log.etcd.next()
+        self.patience.grow()
+        await asyncio.sleep(self.pause.grow())
 
     async def same(self):
         """Looks whether the log has the entry that the replica stands at, where it is still kept."""
         while True:
             try:
-                part = await self.lane.call(lambda log: log.read(max(self.at.number, 1), 1))
+                part = await self.lane.call(lambda log: log.read(max(self.at.number, 1), 1, self.patience.now))
+                self.answered()
                 self.goes_on(part)
                 held = [entries.id_of(data) for number, data in part.found if number == self.at.number]
                 if held not in ([], [self.at.id]):
@@ -54,9 +79,7 @@ class Follower:
                                  f"{self.at.id.hex()}")
                 return
             except (Away, Denied) as why:
-                self.heads.missed(why)
-                self.lane.log.etcd.next()
-                await asyncio.sleep(PAUSE)
+                await self.missed(why)
 
     def goes_on(self, part):
         """Looks whether the log ends with what the replica has taken, or after it."""
@@ -73,9 +96,33 @@ class Follower:
             raise Other(f"the log begins at {part.first}, and the replica wants {first}: take a new copy")
         if part.head.number >= first and not part.found:
             raise Other(f"entry {first} isn't in the log, which ends at {part.head.told()}")
-        await self.push(self.joined(part.found, part.head))
+        await self.push(await self.joined(part.found, part.head))
 
-    def joined(self, found, head):
+    def entry(self, number, data, at, skips):
+        """The entry of some bytes behind another one. One that isn't taken here is passed over where an operator has
+        said so."""
+        try:
+            return entries.read(number, data, self.log.own, self.log.keys)
+        except entries.Broken as why:
+            own = entries.id_of(data)
+            if (number, own, at.id) in skips:
+                self.heads.say(f"entry {number} is passed over, as an operator has said: {why}")
+                return entries.skipped(number, data)
+            raise NotTaken(number, own, at.id, str(why)) from None
+
+    async def joined(self, found, head):
+        """The same, with what operators have said of entries that aren't taken here."""
+        skips = set()
+        while True:
+            try:
+                return self.chained(found, head, skips)
+            except NotTaken as why:
+                known = why.number, why.own, why.before
+                if known in skips or not await self.beside.call(lambda log: log.is_skipped(*known)):
+                    raise
+                skips.add(known)
+
+    def chained(self, found, head, skips=()):
         """The entries of these bytes behind the last that was taken, up to the head; without the last one where nothing
         names it yet."""
         made, at = [], self.at
@@ -84,11 +131,8 @@ class Follower:
                 break
             if number != at.number + 1:
                 raise Other(f"entry {number} stands after {at.number}")
-            try:
-                one = entries.read(number, data)
-            except entries.Broken as why:
-                raise Other(str(why)) from None
-            if one.before != at.id:
+            one = self.entry(number, data, at, skips)
+            if one.frames and one.before != at.id:
                 other = "the replica has taken" if at == self.at else "the log has before it"
                 raise Parted(f"entry {number} of the log follows {one.before.hex()}, and {other} {at.told()}")
             made.append(one)
@@ -132,7 +176,8 @@ class Follower:
             for line in lines:
                 said = json.loads(line)
                 result = said.get("result", {})
-                if "error" in said or result.get("canceled"):
+                # (a part of what one transaction put: it is read then, bounded in bytes)
+                if "error" in said or result.get("canceled") or result.get("fragment"):
                     return
                 events = [one["kv"] for one in result.get("events", ()) if one.get("type", "PUT") == "PUT"]
                 new, head = self.lane.log.news(events)
@@ -150,7 +195,7 @@ class Follower:
             raise Parted(f"entry {new[0][0]} was put once more, and the replica stands at {self.at.told()}")
         if new[0][0] != self.at.number + 1 or head is None or head.number != new[-1][0]:
             return False
-        await self.push(self.joined(new, head))
+        await self.push(await self.joined(new, head))
         return True
 
     async def look(self):
@@ -180,67 +225,41 @@ class Follower:
     def close(self):
         self.end()
         self.lane.close()
+        self.beside.close()
 
+    # ---- what is kept
 
-class Heads:
-    """The log's head, as of a question: who asks while one is under way waits for the next one. `known` is the last
-    entry that the log is known to have behind those that were taken here."""
-
-    def __init__(self, log, at, say, ends):
-        self.lane, self.asked, self.running, self.known = Lane(log), None, None, at
-        self.say, self.ends, self.is_away = say, ends, False
-
-    def seen(self, head):
-        """An entry is in the log, behind those that were taken here."""
-        if head.number > self.known.number:
-            self.known = head
-        self.answers()
-
-    def answers(self):
-        if self.is_away:
-            self.is_away = False
-            self.say("the log answers again")
-
-    def missed(self, why):
-        """The log didn't answer. It is said once, until it answers again."""
-        if not self.is_away:
-            self.is_away = True
-            self.say(f"the log doesn't answer: {why}")
-
-    async def now(self):
-        """The last entry; Away where no member tells it, Other where the log isn't the one that was taken here."""
-        if self.asked is None:
-            self.asked = asyncio.get_running_loop().create_future()
-            if self.running is None or self.running.done():
-                self.running = asyncio.ensure_future(self.work())
-        return await asyncio.shield(self.asked)
-
-    async def work(self):
-        while self.asked is not None:
-            # Whoever asks from here on isn't helped by this answer.
-            asked, self.asked = self.asked, None
+    async def checks(self):
+        """Looks through the whole log now and then, whether something is put or not."""
+        while self.every:
+            await asyncio.sleep(self.every)
             try:
-                known = self.known
-                head = await self.lane.call(lambda log: log.head())
-                self.answers()
-                if head.number <= known.number and head != known:
-                    raise Parted(f"the log ends at {head.told()}, and the replica knows {known.told()}")
-                if not asked.done():
-                    asked.set_result(head)
-            except Exception as fault:
-                if isinstance(fault, Other):
-                    self.ends(fault)
-                else:
-                    self.missed(fault)
-                if not asked.done():
-                    asked.set_exception(fault)
-                    asked.exception()
+                await self.check()
+            except (Away, Denied):
+                pass
 
-    def refuse(self):
-        """Nobody waits any more."""
-        if self.asked is not None:
-            asked, self.asked = self.asked, None
-            refuse(asked)
-
-    def close(self):
-        self.lane.close()
+    async def check(self):
+        """Looks whether each entry that is kept names the one before it, up to the one that was taken last here."""
+        part = await self.beside.call(lambda log: log.read(0, 0))
+        at, end = None, self.at
+        number = part.first
+        while number <= end.number:
+            part = await self.beside.call(lambda log: log.some(number))
+            if part.first > number:
+                return  # It was cut meanwhile.
+            for place, data in part.found:
+                if place > end.number:
+                    break
+                own = entries.id_of(data)
+                if place != number:
+                    raise Other(f"entry {number} isn't in the log, which ends at {part.head.told()}")
+                skip = at is not None and entries.before_of(data) != at
+                if skip and not await self.beside.call(lambda log: log.is_skipped(place, own, at)):
+                    raise Parted(f"entry {place} of the log follows {entries.before_of(data).hex()}, and the one "
+                                 f"before it is {at.hex()}")
+                at, number = own, number + 1
+            if not part.found:
+                raise Other(f"entry {number} isn't in the log, which ends at {part.head.told()}")
+            await asyncio.sleep(BETWEEN)
+        if at is not None and at != end.id:
+            raise Parted(f"entry {end.number} of the log is {at.hex()}, and the replica has taken {end.id.hex()}")

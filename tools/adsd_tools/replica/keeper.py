@@ -9,31 +9,35 @@ from adsd_tools.ldap.program import STEPS
 
 from . import entries
 from .appending import NotPut
+from .cutting import Cutter
 from .etcd import Away, Denied
 from .lane import Lane
 from .ordered import Other
 
 # A lease lasts so long where nobody renews it, in seconds, and is renewed so often.
 LEASE, BEAT = 5, 1.5
-# While clients change something, steps are put so often at most; so often a replica tells how far it is.
-PACE, REPORT = 0.2, 2.0
+# While clients change something, steps are put so often at most; so often a replica tells how far it is, and says that
+# it is there where nothing is new.
+PACE, REPORT, STILL = 0.2, 2.0, 20.0
 
 
 class Keeper:
     """One replica's part in it. Each knows by the answers what is pending; the one with the lease acts."""
 
-    def __init__(self, log, applying, appender, options, say):
+    def __init__(self, log, applying, appender, options, say, room):
         self.lane, self.applying, self.appender, self.options = Lane(log), applying, appender, options
         self.lease, self.holds, self.say, self.renewed = None, asyncio.Event(), say, 0.0
-        self.pending, self.dirty = True, asyncio.Event()
+        self.pending, self.dirty, self.leaves = True, asyncio.Event(), False
         self.dirty.set()
-        self.next_run, self.reported = None, -1
+        self.next_run, self.reported, self.room = None, (-1, 0.0), room
+        self.cutter = Cutter(log, applying, options, room, say)
+        room.is_keeper = self.is_keeper
         applying.tells.append(self.applied)
 
     def applied(self, entry, reply, changed):
         """Notes whether steps may be pending."""
-        kind = entry.frames[-1][0]
-        if kind == STEPS and reply is not None:
+        kind = entry.frames[-1][0] if entry.frames else None
+        if kind == STEPS and reply:
             self.pending = struct.unpack(">II", reply)[1] > 0
         elif changed or (kind == STEPS and reply is None):
             self.pending = True
@@ -49,7 +53,7 @@ class Keeper:
 
     async def hold(self):
         """Takes the lease where nobody has it, and renews it."""
-        while True:
+        while not self.leaves:
             try:
                 await self.held()
             except (Away, Denied):
@@ -69,19 +73,33 @@ class Keeper:
         if await self.lane.call(lambda log: log.keeper()) is not None:
             return
         lease = await self.lane.call(lambda log: log.lease(LEASE))
-        if await self.lane.call(lambda log: log.keep(self.applying.position.name.encode(), lease)):
+        if not self.leaves and await self.lane.call(lambda log: log.keep(self.own(), lease)):
             self.lease, self.renewed = lease, asked
             self.next_run = time.monotonic() + self.options.run_every if self.options.run_every else None
             self.say("keeps the directory: puts steps and runs")
+            self.cutter.begins()
             self.holds.set()
         else:
             await self.lane.call(lambda log: log.revoke(lease))
+
+    def own(self):
+        return self.applying.position.name.encode()
 
     def lose(self):
         if self.holds.is_set():
             self.say("keeps the directory no longer")
         self.lease = None
         self.holds.clear()
+
+    async def hand_on(self):
+        """Gives the lease back for good, so that another replica takes it."""
+        self.leaves, lease = True, self.lease
+        self.lose()
+        if lease is not None:
+            try:
+                await asyncio.wait_for(self.lane.call(lambda log: log.revoke(lease)), 1)
+            except (Away, Denied, asyncio.TimeoutError):
+                pass
 
     # ---- steps and runs
 
@@ -107,6 +125,8 @@ class Keeper:
 
     async def put(self, data):
         """The answer to an entry; None where there is none."""
+        if self.room.full():
+            return None
         try:
             return await self.appender.put(data)
         except NotPut:
@@ -117,40 +137,32 @@ class Keeper:
     async def report(self):
         """Tells how far the replica is, and as the keeper removes what all have taken."""
         while True:
+            more = False
             try:
                 await self.told()
                 if self.is_keeper():
-                    await self.lane.call(self.compacted)
+                    more = await self.cutter.work()
             except (Away, Denied):
                 pass
-            await asyncio.sleep(REPORT)
+            await asyncio.sleep(PACE if more else REPORT)
 
     async def told(self):
         # The file of the position may be one entry after it.
         number = self.applying.number() - (self.applying.writing is not None)
-        if number != self.reported:
-            name = self.applying.position.name.encode()
-            await self.lane.call(lambda log: log.register(name, number))
-            self.reported = number
-
-    def compacted(self, log):
-        """Removes what all replicas have taken, but for the last entries."""
-        found, revision = log.replicas()
-        first = log.read(0, 0).first
-        wanted = min(found.values(), default=0) - self.options.keep + 1
-        if wanted >= first + max(1, self.options.keep // 10):
-            log.compact(wanted, revision)
+        now = time.monotonic()
+        if number != self.reported[0] or now - self.reported[1] >= STILL:
+            await self.lane.call(lambda log: log.register(self.own(), number))
+            self.reported = number, now
 
     def tasks(self):
         return [asyncio.ensure_future(one) for one in (self.hold(), self.steps(), self.runs(), self.report())]
 
     async def close(self):
         """Gives the lease back, so that another one takes it at once."""
-        lease, self.lease = self.lease, None
         try:
             await asyncio.wait_for(self.told(), 1)
-            if lease is not None:
-                await asyncio.wait_for(self.lane.call(lambda log: log.revoke(lease)), 1)
         except (Away, Denied, Other, asyncio.TimeoutError):
             pass
+        await self.hand_on()
         self.lane.close()
+        self.cutter.close()

@@ -1,10 +1,10 @@
 """The log in etcd: entries by number, each put where none stood, and what the replicas tell of themselves.
 
 Keys, below /adsd/NAME/: `id` (who the log is), `release` (of which program), `head` (the number and the id of the
-last entry), `first` (of the first that is kept), `entry/` and a number in 16 digits, `replica/` and a name (how far it
-is), and `keeper` (who puts steps and runs). An entry is put with a new head in one transaction, which fails where the
-head isn't the one that was known: so the numbers have no gap, none is given twice, and each entry names the one before
-it."""
+last entry), `first` (of the first that is kept), `entry/` and a number in 16 digits, and `skip/` and one (the ids of an
+entry that an operator has all pass over, and of the one before it); the rest is in roster.py. An entry is put with a
+new head in one transaction, which fails where the head isn't the one that was known: so the numbers have no gap, none
+is given twice, and each entry names the one before it."""
 
 import os
 import re
@@ -12,10 +12,14 @@ from dataclasses import dataclass
 from typing import Tuple
 
 from .entries import Head, beginning
-from .etcd import Denied, decoded, encoded, whole
+from .etcd import PATIENCE, decoded, encoded
+from .roster import Roster, absent, put_of, range_of, value_of
+from .seal import PLAIN
 
-# So many entries are asked for at once.
-MANY = 128
+# So many entries are asked for at once, and of so many transactions, of which each has 1.5 MB at most.
+MANY, PARTS = 128, 8
+# So many entries are removed at once.
+PIECE = 500
 
 
 class Other(Exception):
@@ -41,20 +45,6 @@ class Part:
     revision: int
 
 
-def put_of(key, value, **more):
-    return {"request_put": {"key": encoded(key), "value": encoded(value), **more}}
-
-
-def range_of(key, **more):
-    return {"request_range": {"key": encoded(key), **more}}
-
-
-def value_of(answer):
-    """The value of the one key that was asked for; None where it has none."""
-    found = answer["response_range"].get("kvs")
-    return decoded(found[0].get("value")) if found else None
-
-
 def number_of(value, what):
     if value is None or not value.isdigit():
         raise Other(f"the log has no {what}")
@@ -73,16 +63,17 @@ def head_of(value):
     return Head(int(found[1]), bytes.fromhex(found[2].decode()))
 
 
-class Ordered:
-    """The log of one name. Where a release is given, it is that of a replica's program, and has to be the log's."""
+class Ordered(Roster):
+    """The log of one name. Where a release is given, it is that of a replica's program, and has to be the log's. By
+    `keys` entries are signed and sealed."""
 
-    def __init__(self, etcd, name, own=None, release=None):
-        self.etcd, self.name, self.own, self.release = etcd, name, own, release
+    def __init__(self, etcd, name, own=None, release=None, keys=PLAIN):
+        self.etcd, self.name, self.own, self.release, self.keys = etcd, name, own, release, keys
         self.place = b"/adsd/" + name.encode() + b"/"
 
     def other(self):
         """The same log, by a connection of its own."""
-        return Ordered(self.etcd.other(), self.name, self.own, self.release)
+        return Ordered(self.etcd.other(), self.name, self.own, self.release, self.keys)
 
     def key(self, name):
         return self.place + name
@@ -91,11 +82,13 @@ class Ordered:
         return self.key(b"entry/%016d" % number)
 
     def number(self, key):
-        return int(decoded(key).rpartition(b"/")[2])
+        """The number of an entry's key; None for a key that somebody else put among them."""
+        found = re.fullmatch(rb"entry/([0-9]{16})", decoded(key)[len(self.place) :])
+        return int(found[1]) if found else None
 
-    def txn(self, compare, success, failure=()):
+    def txn(self, compare, success, failure=(), patience=PATIENCE):
         asked = {"compare": compare, "success": list(success), "failure": list(failure)}
-        answer = self.etcd.call("kv/txn", asked)
+        answer = self.etcd.call("kv/txn", asked, patience)
         return answer.get("succeeded", False), answer.get("responses", []), int(answer["header"]["revision"])
 
     def is_value(self, key, value):
@@ -128,7 +121,7 @@ class Ordered:
     def begin(self, own):
         """Begins the log with this id; whether there was none."""
         self.own = own
-        none = {"key": encoded(self.key(b"id")), "target": "CREATE", "result": "EQUAL", "create_revision": "0"}
+        none = absent(self.key(b"id"))
         puts = [put_of(self.key(b"id"), own), put_of(self.key(b"head"), line_of(beginning(own))),
                 put_of(self.key(b"first"), b"1"), put_of(self.key(b"release"), self.release)]
         done, answers, _ = self.txn([none], puts, [range_of(self.key(b"id"))])
@@ -144,10 +137,10 @@ class Ordered:
         if behind:
             return head, behind
         is_head = self.is_value(self.key(b"head"), line_of(head))
-        first = head.number + 1
-        below = {"request_delete_range": {"key": encoded(self.entry(0)), "range_end": encoded(self.entry(first))}}
-        puts = [put_of(self.key(b"release"), release), put_of(self.key(b"first"), b"%d" % first), below]
+        puts = [put_of(self.key(b"release"), release), put_of(self.key(b"first"), b"%d" % (head.number + 1))]
         done, _, _ = self.txn([*self.is_own(), is_head, self.none_told_since(revision)], puts)
+        while done and self.sweep():
+            pass
         return head, None if done else {}
 
     def find(self):
@@ -165,14 +158,16 @@ class Ordered:
 
     # ---- entries
 
-    def put(self, head, data, then):
+    def put(self, head, data, then, more=((), ())):
         """Puts entries after the head, which is another one then: whether that was the head, and the log's head; where
-        it wasn't, also the entry that stands after the head that was told, if one does."""
+        it wasn't, also the entry that stands after the head that was told, if one does. `more` is what else has to be
+        so, and what else is put."""
         puts = [put_of(self.entry(head.number + at), one) for at, one in enumerate(data, 1)]
-        puts.append(put_of(self.key(b"head"), line_of(then)))
+        puts += [put_of(self.key(b"head"), line_of(then)), *more[1]]
         looks = [range_of(self.key(b"id")), range_of(self.key(b"head")), range_of(self.entry(head.number + 1)),
                  range_of(self.key(b"release"))]
-        done, answers, _ = self.txn([*self.is_own(), self.is_value(self.key(b"head"), line_of(head))], puts, looks)
+        is_head = self.is_value(self.key(b"head"), line_of(head))
+        done, answers, _ = self.txn([*self.is_own(), is_head, *more[0]], puts, looks)
         if done:
             return True, then, None
         own, now, behind, release = map(value_of, answers)
@@ -180,27 +175,46 @@ class Ordered:
             raise self.other_log()
         return False, head_of(now), behind
 
-    def read(self, number, many=MANY):
+    def read(self, number, many=MANY, patience=PATIENCE):
         """The log from an entry on. It is as new as the question."""
         looks = [range_of(self.key(b"head")), range_of(self.key(b"first"))]
         last = encoded(self.entry(number + many))
         looks += [range_of(self.entry(number), range_end=last, sort_order="ASCEND", sort_target="KEY")] if many else []
-        done, answers, revision = self.txn(self.is_own(), looks)
+        done, answers, revision = self.txn(self.is_own(), looks, patience=patience)
         if not done:
             raise self.other_log()
         kept = answers[2]["response_range"].get("kvs", ()) if many else ()
-        found = tuple((self.number(one["key"]), decoded(one["value"])) for one in kept)
+        numbered = ((self.number(one["key"]), decoded(one.get("value"))) for one in kept)
+        found = tuple((place, data) for place, data in numbered if place is not None)
         return Part(head_of(value_of(answers[0])), number_of(value_of(answers[1]), "first"), found, revision)
+
+    def some(self, number, patience=PATIENCE):
+        """The log from an entry on, as far as so many transactions put it: what one put has 1.5 MB at most, so that is
+        how much comes, however large the entries are."""
+        asked = {"key": encoded(self.entry(number)), "range_end": encoded(self.entry(number + MANY)),
+                 "keys_only": True, "sort_order": "ASCEND", "sort_target": "KEY"}
+        many, parts = 1, set()
+        for one in self.etcd.call("kv/range", asked, patience).get("kvs", ()):
+            parts.add(one["mod_revision"])
+            if len(parts) > PARTS:
+                break
+            place = self.number(one["key"])
+            many = max(many, place - number + 1) if place is not None else many
+        return self.read(number, many, patience)
 
     def head(self):
         """The last entry's number and id, as of now."""
         return self.read(0, 0).head
 
+    def head_line(self):
+        """The same, as it stands there."""
+        return line_of(self.head())
+
     def watch(self, revision, patience):
         """The connection and the answer that tells from a revision on of entries, the head, the id and the release: of
         all keys from the first to the last of these, and so of the keeper too."""
         asked = {"key": encoded(self.key(b"entry/")), "range_end": encoded(self.key(b"release") + b"\0")}
-        asked.update(start_revision=str(revision), filters=["NODELETE"])
+        asked.update(start_revision=str(revision), filters=["NODELETE"], fragment=True)
         return self.etcd.stream("watch", {"create_request": asked}, patience)
 
     def news(self, events):
@@ -209,8 +223,9 @@ class Ordered:
         found, head = [], None
         for one in events:
             name, value = decoded(one["key"])[len(self.place) :], decoded(one.get("value"))
-            if name.startswith(b"entry/"):
-                found.append((self.number(one["key"]), value))
+            number = self.number(one["key"])
+            if number is not None:
+                found.append((number, value))
             elif name == b"head":
                 head = head_of(value)
             elif name == b"id" and value != self.own:
@@ -219,72 +234,58 @@ class Ordered:
                 raise self.other_release(value)
         return found, head
 
-    # ---- replicas
+    # ---- the log's length
 
-    def register(self, name, number):
-        """Says how far a replica is. Other where the log is kept from a later entry on only."""
-        kept = [{"key": encoded(self.key(b"first")), "target": "VALUE", "result": "EQUAL", "value": None}]
-        while True:
-            first = self.read(0, 0).first
-            if first > number + 1:
-                raise Other(f"the log begins at {first}, and entry {number + 1} is wanted: take a new copy")
-            kept[0]["value"] = encoded(b"%d" % first)
-            done, _, _ = self.txn([*self.is_own(), *kept], [put_of(self.key(b"replica/" + name), b"%d" % number)])
-            if done:
-                return
-
-    def forget(self, name):
-        """Whether there was a replica of this name, which is told of no longer."""
-        answer = self.etcd.call("kv/deleterange", {"key": encoded(self.key(b"replica/" + name))})
-        return answer.get("deleted", "0") != "0"
-
-    def replicas(self):
-        """How far each replica has told to be, by name, and etcd's revision."""
-        answer = self.etcd.call("kv/range", whole(self.key(b"replica/")))
-        found = {decoded(one["key"]).rpartition(b"/")[2]: int(decoded(one["value"])) for one in answer.get("kvs", ())}
-        return found, int(answer["header"]["revision"])
-
-    def none_told_since(self, revision):
-        """That no replica has told anything since a revision."""
-        return {**whole(self.key(b"replica/")), "target": "MOD", "result": "LESS", "mod_revision": str(revision + 1)}
+    def wants(self, number, first):
+        """Other where an entry that is wanted isn't kept any more."""
+        if first > number:
+            raise Other(f"the log begins at {first}, and entry {number} is wanted: take a new copy")
 
     def compact(self, first, revision):
-        """Removes the entries below the first that is kept, where no replica has said anything since a revision;
-        whether it is done. Then etcd forgets what it had before."""
-        below = {"request_delete_range": {"key": encoded(self.entry(0)), "range_end": encoded(self.entry(first))}}
+        """Lets the log begin at a later entry, where no replica has said anything since a revision; whether it does.
+        What stands before is removed by `sweep`."""
         asked = [*self.is_own(), self.none_told_since(revision)]
-        done, _, now = self.txn(asked, [below, put_of(self.key(b"first"), b"%d" % first)])
-        if done:
-            try:
-                self.etcd.call("kv/compaction", {"revision": str(now)})
-            except Denied:
-                pass  # Another one did so before.
+        done, _, _ = self.txn(asked, [put_of(self.key(b"first"), b"%d" % first)])
         return done
 
-    # ---- who keeps the directory
+    def sweep(self):
+        """Removes some of the entries below the first that is kept, and has etcd forget them; whether there were as
+        many as are removed at once."""
+        first = self.read(0, 0).first
+        below = {"key": encoded(self.entry(0)), "range_end": encoded(self.entry(first))}
+        found = self.etcd.call("kv/range", {**below, "keys_only": True, "limit": str(PIECE), "sort_order": "ASCEND",
+                                            "sort_target": "KEY"})
+        kept = found.get("kvs", ())
+        if kept:
+            end = encoded(decoded(kept[-1]["key"]) + b"\0")
+            gone = self.etcd.call("kv/deleterange", {"key": kept[0]["key"], "range_end": end})
+            self.forgets(int(gone["header"]["revision"]))
+        return len(kept) == PIECE
 
-    def lease(self, seconds):
-        """A lease of etcd."""
-        return self.etcd.call("lease/grant", {"TTL": str(seconds)})["ID"]
+    # ---- entries that are passed over
 
-    def renew(self, lease):
-        """Whether a lease is renewed."""
-        return int(self.etcd.call("lease/keepalive", {"ID": lease}).get("result", {}).get("TTL", 0)) > 0
+    def skip(self, number, own, before):
+        """Has all replicas pass over an entry that none of them takes, by its id and that of the one before."""
+        self.txn(self.is_own(), [put_of(self.key(b"skip/%016d" % number), f"{own.hex()} {before.hex()}".encode())])
 
-    def revoke(self, lease):
-        self.etcd.call("lease/revoke", {"ID": lease})
+    def is_skipped(self, number, own, before):
+        """Whether an operator has said that an entry is passed over."""
+        answer = self.etcd.call("kv/range", {"key": encoded(self.key(b"skip/%016d" % number))})
+        return value_of({"response_range": answer}) == f"{own.hex()} {before.hex()}".encode()
 
-    def keep(self, name, lease):
-        """Whether this replica is the keeper from now on, as long as its lease lasts."""
-        key = self.key(b"keeper")
-        none = {"key": encoded(key), "target": "CREATE", "result": "EQUAL", "create_revision": "0"}
-        done, _, _ = self.txn([*self.is_own(), none], [put_of(key, name, lease=lease)])
-        return done
+    # ---- named requests
 
-    def keeper(self):
-        """The name of the keeper, or None."""
-        answer = self.etcd.call("kv/range", {"key": encoded(self.key(b"keeper"))})
-        return value_of({"response_range": answer})
+    def is_new(self, request, told, lease):
+        """What has to be so, and what is put besides, where a request is made only once: which entry it is, and what
+        was asked."""
+        key = self.key(b"request/" + request.hex().encode())
+        return [absent(key)], [put_of(key, b"%d %s" % (told[0], told[1]), lease=lease)]
+
+    def entry_of(self, request):
+        """The number of the entry that a named request was, and what was asked; None where it was none."""
+        answer = self.etcd.call("kv/range", {"key": encoded(self.key(b"request/" + request.hex().encode()))})
+        found = re.fullmatch(rb"([0-9]{1,16}) ([0-9a-f]+)", value_of({"response_range": answer}) or b"")
+        return (int(found[1]), found[2]) if found else None
 
 
 def new_id():

@@ -7,25 +7,31 @@ from adsd_tools.ldap.program import MESSAGE
 from adsd_tools.ldap.searches import Refused
 from adsd_tools.ldap.turns import Stopped, Turns
 
-from . import entries
+from . import entries, judging
 from .appending import NotPut, Overtaken
 from .etcd import Away, Denied
+from .naming import user_of, within
 from .ordered import Other
+from .rates import Rates
 
 # So often a change is judged again that has to follow what was read, where others come between.
 TRIES = 12
 PAUSE = 0.2
+BEHIND = "the log doesn't tell how far it goes, or the replica is too far behind it"
+SILENT = "the log doesn't answer; nothing was changed now, and whether the request was made before isn't known"
 
 
 class LogTurns(Turns):
     """The frames of a replica. `applying` stands in the place of upkeep."""
 
-    def __init__(self, program, applying, linear, patience):
+    def __init__(self, program, applying, options, counts):
         super().__init__(program, applying)
-        self.applying, self.linear, self.patience = applying, linear, patience
-        self.appender, self.heads = None, None
-        # How many frames were asked for reading, and which entry the change of a connection has to follow.
-        self.reads, self.behind = 0, {}
+        self.applying, self.linear, self.patience = applying, options.reads == "linear", options.patience
+        self.max_age, self.rates, self.counts = options.max_age, Rates(options.user_bytes), counts
+        self.appender, self.heads, self.room, self.drains = None, None, None, False
+        # How many frames were asked for reading, which entry the change of a connection has to follow, and which name
+        # its request has.
+        self.reads, self.behind, self.names = 0, {}, {}
 
     async def ask(self, kind, connection, body, changes=False):
         """The body of an answer; of a change that of the own program to its entry. No other frame of a client that
@@ -42,14 +48,48 @@ class LogTurns(Turns):
 
     async def change(self, connection, body):
         """The answer to a change, by the token that the connection has."""
-        if self.closed or self.appender is None:
+        if self.closed or self.drains or self.appender is None:
             raise Stopped
-        data = entries.of_message(self.program.tokens.get(connection, b""), body)
+        message, token = messages.read(body), self.program.tokens.get(connection, b"")
+        # (what a named request was answered is known again by its entry)
+        refused = await self.refused(connection, message) if message and connection not in self.names else None
+        if refused is not None:
+            self.counts.refused += 1
+            return refused
+        data = entries.of_message(token, body, self.names.get(connection, (b"",))[0])
+        why = self.room.full() or self.rates.over(user_of(token), len(data))
+        if why:
+            return messages.refusal(message, messages.BUSY, why) if message else messages.notice(messages.BUSY, why)
         try:
-            return await self.appender.put(data, self.behind.pop(connection, None))
+            named = self.names.get(connection)
+            return await self.appender.put(data, self.behind.pop(connection, None), named)
         except NotPut as why:
-            message, told = messages.read(body), str(why)
-            return messages.unavailable(message, told) if message else messages.notice(messages.UNAVAILABLE, told)
+            return messages.unavailable(message, str(why)) or messages.notice(messages.UNAVAILABLE, str(why))
+
+    # ---- what would be refused
+
+    async def refused(self, connection, message):
+        """The answer to a change that the directory refuses, as it is at an entry that the log had when the change
+        came, or at a later one; None where the log has to say. A refused message leaves the directory: so the answer is that
+        of a log in which the change stands just there."""
+        if await self.asked(connection, message) is None:
+            return None
+        try:
+            is_level = await within(self.patience, self.reached())
+        except Other:
+            return None
+        return await self.asked(connection, message) if is_level else None
+
+    async def asked(self, connection, message):
+        """The same, as the directory is here just now."""
+        question = judging.of(message)
+        if question is None:
+            return None
+        reply = await super().ask(MESSAGE, connection, question.data)
+        own = None
+        if question.own is not None and not messages.is_notice(reply):
+            own = await super().ask(MESSAGE, connection, question.own)
+        return judging.answer(message, question, reply, own)
 
     async def judged(self, connection, judge, send, exact):
         """The reply to a change that is judged before, by what is read here; where that has to be so still when the
@@ -68,21 +108,46 @@ class LogTurns(Turns):
                 self.behind.pop(connection, None)
         raise Refused(messages.BUSY, "others change the directory too often; nothing was changed")
 
+    # ---- named requests
+
+    async def known(self, request):
+        """Which entry a named request was, with what was asked, or nothing; and why that isn't known."""
+        try:
+            return await asyncio.wait_for(self.appender.lane.call(lambda log: log.entry_of(request)), self.patience), ""
+        except (Away, Denied, asyncio.TimeoutError):
+            return None, SILENT
+
+    async def answered(self, number, request):
+        """What the entry of a named request was answered, once it has been taken here; None where that isn't known."""
+        await within(self.patience, self.applying.reaches(number))
+        found = self.applying.answers.known.get(request)
+        return found.reply if found else None
+
+    # ---- reads
+
     async def fresh(self):
-        """Waits until the replica stands where the log ended as of now, where reads are to be linear."""
+        """Waits until the replica stands where the log ended as of now, where reads are to be linear. Why that can't be
+        told, or nothing; Refused where what is here is too old."""
         if not self.linear:
+            self.look_at_age()
             return ""
         try:
-            await asyncio.wait_for(self.reached(), self.patience)
-            return ""
-        except (asyncio.TimeoutError, Other):
-            return "the log doesn't tell how far it goes, or the replica is too far behind it"
+            return "" if await within(self.patience, self.reached()) else BEHIND
+        except Other:
+            return BEHIND
+
+    def look_at_age(self):
+        age = self.heads.age(self.applying.number()) if self.heads and self.max_age else 0
+        if age > self.max_age:
+            raise Refused(messages.BUSY, f"what this replica has is {age:.0f} seconds old, more than {self.max_age}: "
+                                         "it doesn't reach the log, or is too far behind it; ask another one")
 
     async def reached(self):
-        """Waits for the head, and until it is reached."""
+        """Waits for the head, and until it is reached; true."""
         while not self.closed:
             try:
-                return await self.applying.reaches((await self.heads.now()).number)
+                await self.applying.reaches((await self.heads.now()).number)
+                return True
             except (Away, Denied):
                 await asyncio.sleep(PAUSE)
         raise Stopped

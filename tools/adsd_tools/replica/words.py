@@ -15,16 +15,21 @@ BEHIND = """
     adsd-replica begin STORE --name a        begins a log with a store, which becomes replica a
     adsd-replica copy STORE NEW --name b     makes a copy of a replica's store, running or not, for a new replica b
     adsd-replica serve STORE ..              runs a replica; it takes the words of `adsd-ldap serve` too
-    adsd-replica status                      tells the log's head, and how far each replica is
+    adsd-replica status [--json]             tells the log's head, and how far each replica is
+    adsd-replica health                      tells what isn't well
     adsd-replica forget NAME                 no longer keeps the log for a replica that won't come back
     adsd-replica upgrade                     takes the log to the release of the program here
-    adsd-replica compare STORE STORE         whether two stores hold the same rows
+    adsd-replica compare                     whether all replicas that run hold the same rows
+    adsd-replica compare STORE STORE         whether two stores do
+    adsd-replica skip ENTRY STORE            has all replicas pass over an entry that none takes; STORE stands before it
+    adsd-replica key FILE [--name a]         makes a key to seal entries by, or with --name one to sign them by
 
 Beside STORE stand STORE.b and STORE.position, where the replica stands in the log. docs/replicas.md has the rest.
 
-status of serve: 0 stopped; 1 the file of names, or what ADSD names, isn't as it should be; 2 usage; 3 the store can't
-be served; 4 the address can't be had; 5 the program ended by itself; 6 the log doesn't go with the store, or with the
-program. Of the others: 0 done; 1 not done, or the stores differ; 2 usage. A line on standard error says why.
+status of serve: 0 stopped; 1 the file of names, a key, or what ADSD names, isn't as it should be; 2 usage; 3 the store
+can't be served; 4 the address can't be had; 5 the program ended by itself; 6 the log doesn't go with the store, or with
+the program. Of health: 0 all is well; 1 something has to be looked at; 2 usage; 3 no change is taken. Of the others: 0
+done; 1 not done, or the stores differ; 2 usage. A line on standard error says why.
 """
 USUAL = "http://127.0.0.1:2379"
 
@@ -50,6 +55,33 @@ def urls(text):
     return found
 
 
+def unit(units, low, high):
+    """Reads a number with a unit behind it, or without, within bounds."""
+
+    def read(text):
+        found = re.fullmatch(r"([0-9]{1,15})([a-zA-Z]?)", text)
+        number = int(found[1]) * units[found[2]] if found and found[2] in units else -1
+        if not low <= number <= high:
+            told = ", ".join(one for one in units if one)
+            raise argparse.ArgumentTypeError(f"{text!r} is no number with one of {told} behind it, or without, from "
+                                             f"{low} to {high}")
+        return number
+
+    return read
+
+
+BYTES = unit({"": 1, "k": 1 << 10, "M": 1 << 20, "G": 1 << 30}, 0, 1 << 40)
+SECONDS = unit({"": 1, "s": 1, "m": 60, "h": 3600, "d": 86400}, 0, 10**9)
+
+
+def near(text):
+    """An address of this machine alone, and a port."""
+    host, port = ldap.address(text)
+    if not is_loopback(host):
+        raise argparse.ArgumentTypeError(f"{text!r} is no loopback address")
+    return host, port
+
+
 def words_of_etcd(form, has_log=True):
     form.add_argument("--etcd", metavar="URL[,URL]", type=urls, default=[USUAL],
                       help=f"the members of etcd, by their clients' addresses ({USUAL})")
@@ -58,6 +90,9 @@ def words_of_etcd(form, has_log=True):
     form.add_argument("--etcd-key", metavar="FILE", help="its key (in the same file)")
     form.add_argument("--etcd-clear", action="store_true",
                       help="speak with etcd in the clear also elsewhere than on a loopback address")
+    form.add_argument("--etcd-user", metavar="NAME", help="by whom etcd is asked, where its auth is enabled")
+    form.add_argument("--etcd-password", metavar="FILE",
+                      help="the file that has the user's password in its first line, and that nobody else may read")
     if has_log:
         form.add_argument("--log", metavar="NAME", type=name, default="adsd",
                           help="the log's name in etcd (%(default)s)")
@@ -72,47 +107,111 @@ def words_of_serve(form):
     form.add_argument("--patience", metavar="SECONDS", type=ldap.count(1, 3600), default=10,
                       help="how long a change, and a linear read, wait for the log before they are answered by 52 "
                            "(%(default)s)")
-    form.add_argument("--keep", metavar="N", type=ldap.count(0, 10**9), default=10_000,
-                      help="how many entries that all replicas have taken the log keeps (%(default)s)")
+    words_of_log(form)
+    words_of_keys(form)
+
+
+def words_of_log(form):
+    """How long the log is, and what is looked after."""
+    form.add_argument("--max-age", metavar="SECONDS", type=SECONDS, default=30,
+                      help="how old it may be what a local read is answered by; beyond that it is answered by 51; 0 "
+                           "however old (%(default)s)")
+    form.add_argument("--user-bytes", metavar="BYTES", type=BYTES, default=64 << 20,
+                      help="how many bytes of changes each user may put into the log in a minute; 0 any (64M)")
+    form.add_argument("--keep", metavar="BYTES", type=BYTES, default=256 << 20,
+                      help="how many bytes of entries that all replicas have taken the log keeps, and a quarter of "
+                           "etcd's quota at most (256M)")
+    form.add_argument("--forget-after", metavar="TIME", type=SECONDS, default=3 * 86400,
+                      help="forget a replica that has told nothing for so long, as 12h or 3d; 0 never (3d)")
+    form.add_argument("--remember", metavar="TIME", type=SECONDS, default=3600,
+                      help="how long the log knows the names of requests at least (1h)")
+    form.add_argument("--check-every", metavar="TIME", type=SECONDS, default=3600,
+                      help="look through the whole log so often; 0 never (1h)")
+    form.add_argument("--etcd-upkeep", choices=("keeper", "told"), default="keeper",
+                      help="whether the keeper has etcd free room in its files and takes its alarms away, or says that "
+                           "it has to be done (%(default)s)")
+    form.add_argument("--metrics", metavar="[HOST:]PORT", type=near,
+                      help="tell Prometheus on this loopback address how the replica is; port 0 is any free one")
+
+
+def words_of_keys(form, signs=True):
+    if signs:
+        form.add_argument("--sign", metavar="FILE", help="sign the entries that this replica puts, by this key")
+    form.add_argument("--keys", metavar="FILE",
+                      help="take entries alone that are signed by one of these replicas' keys")
+    form.add_argument("--seal", metavar="FILE", help="seal entries by this key, and take sealed ones alone")
 
 
 def parsed(arguments):
     form = ldap.Words(prog="adsd-replica", description=ABOUT, epilog=BEHIND,
                       formatter_class=argparse.RawDescriptionHelpFormatter)
-    of_word = form.add_subparsers(dest="word", required=True, metavar="begin|copy|serve|status|forget|upgrade|compare")
+    words = "begin|copy|serve|status|health|forget|upgrade|compare|skip|key"
+    of_word = form.add_subparsers(dest="word", required=True, metavar=words)
 
     def word(called, told):
         return of_word.add_parser(called, help=told, description=told[0].upper() + told[1:] + ".")
 
-    begin = word("begin", "begins a log with a store")
-    begin.add_argument("store", metavar="STORE", type=ldap.store)
-    begin.add_argument("--name", type=name, required=True, help="the replica's name")
-    copy = word("copy", "makes a copy of a replica's store for a new replica")
-    copy.add_argument("store", metavar="STORE", type=ldap.store)
-    copy.add_argument("new", metavar="NEW", type=ldap.store)
-    copy.add_argument("--name", type=name, required=True, help="the new replica's name")
-    serve = word("serve", "runs a replica")
-    words_of_serve(serve)
-    status = word("status", "tells how far the log and the replicas are")
-    forget = word("forget", "no longer keeps the log for a replica")
-    forget.add_argument("name", metavar="NAME", type=name)
-    upgrade = word("upgrade", "takes the log to the release of the program here, once all replicas are at its head")
-    compare = word("compare", "tells whether two stores hold the same rows")
-    compare.add_argument("stores", metavar="STORE", nargs=2, type=ldap.store)
-    upgrade.add_argument("--wait", metavar="SECONDS", type=ldap.count(1, 3600), default=30,
-                         help="how long replicas are waited for (%(default)s)")
-    for one in (begin, status, forget, upgrade):
-        words_of_etcd(one)
-    words_of_etcd(copy, has_log=False)
+    words_of_stores(word)
+    words_of_logs(word)
+    words_of_entries(word)
     asked = form.parse_args(arguments)
     check(of_word.choices[asked.word], asked)
     return asked
 
 
+def words_of_stores(word):
+    """The words about a store."""
+    begin = word("begin", "begins a log with a store")
+    begin.add_argument("store", metavar="STORE", type=ldap.store)
+    begin.add_argument("--name", type=name, required=True, help="the replica's name")
+    words_of_etcd(begin)
+    copy = word("copy", "makes a copy of a replica's store for a new replica")
+    copy.add_argument("store", metavar="STORE", type=ldap.store)
+    copy.add_argument("new", metavar="NEW", type=ldap.store)
+    copy.add_argument("--name", type=name, required=True, help="the new replica's name")
+    words_of_etcd(copy, has_log=False)
+    words_of_serve(word("serve", "runs a replica"))
+
+
+def words_of_logs(word):
+    """The words about a log and its replicas."""
+    status = word("status", "tells how far the log and the replicas are")
+    status.add_argument("--json", action="store_true", help="as JSON")
+    health = word("health", "tells what isn't well: status 0, 1 or 3")
+    health.add_argument("--behind", metavar="N", type=ldap.count(0, 10**9), default=1000,
+                        help="how many entries a replica may be behind (%(default)s)")
+    forget = word("forget", "no longer keeps the log for a replica")
+    forget.add_argument("name", metavar="NAME", type=name)
+    upgrade = word("upgrade", "takes the log to the release of the program here, once all replicas are at its head")
+    compare = word("compare", "tells whether all replicas that run hold the same rows, or two stores do")
+    compare.add_argument("stores", metavar="STORE", nargs="*", type=ldap.store)
+    for one, seconds in ((upgrade, 30), (compare, 60)):
+        one.add_argument("--wait", metavar="SECONDS", type=ldap.count(1, 3600), default=seconds,
+                         help="how long replicas are waited for (%(default)s)")
+    for one in (status, health, forget, upgrade, compare):
+        words_of_etcd(one)
+
+
+def words_of_entries(word):
+    """The words about entries and their keys."""
+    skip = word("skip", "has all replicas pass over an entry that none of them takes")
+    skip.add_argument("entry", metavar="ENTRY", type=ldap.count(1, 10**16 - 1))
+    skip.add_argument("store", metavar="STORE", type=ldap.store, help="of a replica that has ended at this entry")
+    words_of_keys(skip, signs=False)
+    words_of_etcd(skip, has_log=False)
+    key = word("key", "makes a key to seal entries by, or to sign them by, and prints the line for --keys")
+    key.add_argument("file", metavar="FILE")
+    key.add_argument("--name", type=name, help="whose key it is, to sign by")
+
+
 def check(form, asked):
     """Ends with a fault where the words don't go together."""
-    if asked.word == "compare":
+    if asked.word == "key":
         return
+    if asked.word == "compare" and len(asked.stores) not in (0, 2):
+        form.error("compare takes two stores, or none: then it asks the replicas that run")
+    if (asked.etcd_user is None) != (asked.etcd_password is None):
+        form.error("--etcd-user and --etcd-password go together")
     away = [one for one in asked.etcd if urlsplit(one).scheme == "http" and not is_loopback(urlsplit(one).hostname)]
     if away and not asked.etcd_clear:
         form.error(f"{away[0]} is no loopback address, and there is no TLS: who is between could change the directory; "
