@@ -99,9 +99,9 @@ class Face:
         plain = await Speller(self.view).search(plain)
         computed.check(plain.filter, self.bridge.schema)
         inner = inner_controls(plain)[0]
-        if not own and not inner and not self.is_own(plain) and not await self.is_made(plain):
-            reply = await self.ask(data if plain == search else searches.written(plain))
-            if not searches.is_cut(reply):
+        if not own and not inner and not self.is_own(plain):
+            reply = await self.at_once(search, plain, data)
+            if reply is not None:
                 return reply
         if lists.VIEW in own:
             return await self.listed(search.number, plain, own)
@@ -113,6 +113,18 @@ class Face:
         if page:
             return self.pages.first(page, paging.Kept(mark, found, controls), search.number)
         return searches.reply_of(search.number, found, controls)
+
+    async def at_once(self, search, plain, data):
+        """The reply that one frame gives: the program's, or where items by bits are tried here what is left of that.
+        None where it takes more."""
+        if self.has_more(plain):
+            return None
+        rewriter = Rewriter(self.view, plain)
+        if not await beside(len(plain.filter), rewriter.known):
+            reply = await self.ask(data if plain == search else searches.written(plain))
+            return None if searches.is_cut(reply) else reply
+        found, _ = await narrowing.found(self.view, plain, rewriter)
+        return None if found is None else searches.reply_of(search.number, projected(found, plain))
 
     def mark(self, search):
         """What tells a search from another one, whatever its page."""
@@ -206,9 +218,13 @@ class Face:
         schema = self.bridge.schema
         return bool(schema and self.bridge.root and schema.has_member_of() and (everything or "memberof" in names))
 
+    def has_more(self, search):
+        """Whether entries are to have what the bridge makes."""
+        return bool(self.asks_member_of(search) or ranges.asked(search) or computed.asked(search, self.bridge.schema))
+
     async def is_made(self, search):
         """Whether an answer is made of several of the program."""
-        if self.asks_member_of(search) or ranges.asked(search) or computed.asked(search, self.bridge.schema):
+        if self.has_more(search):
             return True
         return bool(await beside(len(search.filter), Rewriter(self.view, search).known))
 

@@ -229,8 +229,8 @@ class Session:
         if operation == messages.SEARCH:
             return await self.face.answer(message, data)
         if operation not in messages.CHANGES and operation != messages.COMPARE:
-            # What isn't read here may be a change to the program.
-            return await self.bridge.turns.ask(MESSAGE, self.number, data, message is None)
+            turns = self.bridge.turns
+            return await (turns.ask(MESSAGE, self.number, data) if message else turns.unread(self.number, data))
         reply = await self.changes.answer(message, data)
         if operation in messages.CHANGES and self.bridge.log.changes and not messages.is_notice(reply):
             self.note(message, reply)

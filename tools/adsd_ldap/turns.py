@@ -12,7 +12,7 @@ from typing import Any
 
 from . import messages
 from .disk import Disk
-from .program import Ended
+from .program import MESSAGE, Ended
 from .searches import Refused
 from .shares import PAYER, Payer, Shares
 
@@ -80,6 +80,11 @@ class Turns:
             async with self.held(connection):
                 return await self.asked((kind, connection, body), changes)
         return await self.asked((kind, connection, body), changes)
+
+    async def unread(self, connection, body):
+        """The answer to what isn't read as a message here. The program may read a change in it, so it is asked alone
+        where changes are asked here; where they go another way, it is for `ask` to say what becomes of it."""
+        return await self.ask(MESSAGE, connection, body, self.revives)
 
     async def asked(self, frame, changes):
         one = self.entered(self.waiting, frame[1], frame=frame, changes=changes)

@@ -2,6 +2,7 @@
 send much, or guess, and what becomes of others meanwhile."""
 
 import asyncio
+import base64
 import os
 import signal
 import tempfile
@@ -9,8 +10,10 @@ import threading
 import time
 
 from ldap_client import BOB, NAMES, REFUSED, SECONDS, Bridge, Client, Closed, ber
+from adsd_import.sids import sid_of_text
 from adsd_ldap.guesses import ENDING, FREE, Guesses
 from adsd_ldap.guesses import read as read_guesses
+from adsd_ldap.stretching import of_export, stretched
 
 PROTOCOL = 2
 BOUND = "# bind: 0 success"
@@ -219,4 +222,21 @@ async def counting(store):
     same(("counts of wrong passwords begin anew" in Guesses(store, 16).fault, Guesses(store, 0).fault), (True, ""))
 
 
-CASES = (names_made_open, unbound, floods, large, first, guesses, counted)
+def made_of_exports():
+    """Of an export's passwords that is made which binds are checked by, by the identifier of each; all else stays."""
+    held, guid = base64.b64encode('"first"'.encode("utf-16-le")).decode(), bytes([1]) * 16
+    of_guid = base64.b64encode(guid).decode()
+    for own, salt in ((f"objectGUID:: {of_guid}\n", guid), ("objectSid: S-1-5-32-544\n", sid_of_text("S-1-5-32-544")),
+                      (f"objectSid: S-1-5-32-544\nobjectGUID:: {of_guid}\n", guid)):
+        text = f"dn: CN=x\n{own}unicodePwd:: {held[:9]}\n {held[9:]}\n\ndn: CN=y\ncn: a\n b\n"
+        made = b"".join(of_export(text.encode().splitlines(keepends=True))).decode()
+        wanted = base64.b64encode(stretched('"first"'.encode("utf-16-le"), salt)).decode()
+        same(made, f"dn: CN=x\n{own}unicodePwd:: {wanted}\n\ndn: CN=y\ncn: a\n b\n")
+    try:
+        list(of_export([b"dn: CN=x\n", b"unicodePwd:: eA==\n"]))
+        raise AssertionError("a password without an identifier is taken")
+    except ValueError:
+        pass
+
+
+CASES = (made_of_exports, names_made_open, unbound, floods, large, first, guesses, counted)

@@ -15,7 +15,7 @@ from adsd_ldap.root_dse import CAPABILITIES
 
 BOB, STAFF, ALL = f"CN=Bob,{UNIT}", f"CN=staff,{GROUPS}", f"CN=all,{GROUPS}"
 DIRSYNC, NOTIFIES, EXTENDED, SCOPED = (b"1.2.840.113556.1.4." + one for one in (b"841", b"528", b"529", b"1504"))
-NEVER = 2**63 - 1
+NEVER, ROUNDS = 2**63 - 1, 10
 CONTROL_NOW, EXPIRES = "msDS-User-Account-Control-Computed", "msDS-UserPasswordExpiryTimeComputed"
 SITES = f"CN=Servers,CN=Default-First-Site-Name,CN=Sites,CN=Configuration,{ROOT}"
 
@@ -132,8 +132,32 @@ def not_here():
                 same(asked(admin, f"search base='{ROOT}' scope=sub", control(name, value, critical))[:2], ([], 12))
 
 
+def log_ins():
+    """What applications ask at each log-in takes no more than twice as long as to find one by its name, also among many
+    that have the attribute; and it finds the same, whatever else is asked for."""
+    more = "".join(f"\ndn: CN=u{at},{UNIT}\nobjectClass: user\nobjectSid: {DOMAIN}-{5000 + at}\n"
+                   f"sAMAccountName: u{at}\nuserAccountControl: {512 + at}\n" for at in range(1000))
+    with Made(more=more) as bridge:
+        admin = bridge.client("admin", "adm1n")
+        find, bits = ("sAMAccountName", None, "ann"), ("!", ("userAccountControl", "803", "2"))
+        for attributes in (("1.1",), ("cn",), ("userAccountControl", "cn"), (), ("memberOf",)):
+            same(searched(admin, ("&", find, bits), attributes=attributes), searched(admin, find, attributes=attributes))
+        same(searched(admin, ("&", ("sAMAccountName", None, "bob"), bits)), [])
+        every = ("&", ("objectClass", None, "user"), ("userAccountControl", "804", "2"))
+        same(len(searched(admin, every)), 1 + 500)
+        best = {find: 1e9, ("&", find, bits): 1e9}
+        for _ in range(ROUNDS):
+            for tree in list(best) * 20:
+                begun = time.monotonic()
+                searched(admin, tree)
+                best[tree] = min(best[tree], time.monotonic() - begun)
+            if best["&", find, bits] <= 2 * best[find]:
+                return
+        raise AssertionError(f"{best}")
+
+
 def since_1601(seconds):
     return int((time.time() + EPOCH + seconds) * 10**7)
 
 
-CASES = (root_dse, moments, by_guids, extended_names, scoped, not_here)
+CASES = (root_dse, log_ins, moments, by_guids, extended_names, scoped, not_here)
