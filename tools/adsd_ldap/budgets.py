@@ -1,6 +1,8 @@
 """What one request may ask for: before a bind the root DSE by one item, after it so much that no frame is without
 measure."""
 
+from adsd_ask import filters
+
 from . import items, messages, peers, root_dse, searches
 from .searches import Refused
 
@@ -8,6 +10,8 @@ from .searches import Refused
 MOST_ITEMS, MOST_NAMES = 2000, 2000
 # Where a line says what whoever hasn't bound is given, such a client's filters have so many items.
 MOST_UNBOUND, MOST_NAMELESS = 1, 16
+# What clients of ldb send where no filter is given; it counts as one item.
+BY_LDB = filters.read("(|(objectClass=*)(distinguishedName=*))").lower()
 
 
 def most_items(session, search):
@@ -20,7 +24,7 @@ def most_items(session, search):
 def check(session, search):
     """Refused where a search asks for too much."""
     most = most_items(session, search)
-    if items.has_more(search.filter, most):
+    if items.has_more(search.filter, most) and search.filter.lower() != BY_LDB:
         before = "" if session.who is not None else " before a bind"
         raise Refused(searches.ADMIN_LIMIT, f"a filter has at most {most} item{'s' * (most > 1)}{before}")
     if len(search.attributes) > MOST_NAMES:

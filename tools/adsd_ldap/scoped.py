@@ -54,7 +54,7 @@ async def take(face, search, names, entries):
     by, and then one by one."""
     view, wanted, asked = face.view, named.filter_of(names), set()
     both = items.all_of(wanted, search.filter)
-    if not items.is_deep(both) and len(both) <= items.MOST_BYTES:
+    if view.bridge.root and not items.is_deep(both) and len(both) <= items.MOST_BYTES:
         known = await view.whole(Search(1, view.bridge.root, filter=wanted, attributes=(b"1.1",)))
         asked = {searches.entry_of(body).name for body in known.entries}
         fits = await face.found(replace(search, base=view.bridge.root, scope=searches.SUBTREE, size=0, filter=both))
