@@ -141,7 +141,8 @@ def log_ins():
         admin = bridge.client("admin", "adm1n")
         find, bits = ("sAMAccountName", None, "ann"), ("!", ("userAccountControl", "803", "2"))
         for attributes in (("1.1",), ("cn",), ("userAccountControl", "cn"), (), ("memberOf",)):
-            same(searched(admin, ("&", find, bits), attributes=attributes), searched(admin, find, attributes=attributes))
+            found = searched(admin, ("&", find, bits), attributes=attributes)
+            same(found, searched(admin, find, attributes=attributes))
         same(searched(admin, ("&", ("sAMAccountName", None, "bob"), bits)), [])
         every = ("&", ("objectClass", None, "user"), ("userAccountControl", "804", "2"))
         same(len(searched(admin, every)), 1 + 500)
