@@ -177,7 +177,8 @@ def schema_told():
         ann, nobody = bridge.client("ann", "her secret"), bridge.client()
         held = asked(nobody, "search base=''")[0][0][1]
         name = held["subschemaSubentry"][0].decode()
-        same((name, held["namingContexts"]), (f"CN=Aggregate,{SCHEMA}", [ROOT.encode(), SCHEMA.encode()]))
+        same((name, held["namingContexts"]), (
+            f"CN=Aggregate,{SCHEMA}", [ROOT.encode(), f"CN=Configuration,{ROOT}".encode(), SCHEMA.encode()]))
         same({PAGED, SORT} <= set(held["supportedControl"]), True)
         line = f"search base='{name}' filter='(objectClass=subschema)' attrs="
         same(asked(nobody, line + "+")[:2], ([], 1))

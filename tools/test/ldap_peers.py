@@ -1,17 +1,28 @@
 """What tools/test/ldap tries of those who mean no good: files of names that others may write, clients that say nothing,
 send much, or guess, and what becomes of others meanwhile."""
 
+import asyncio
+import base64
 import os
 import signal
+import tempfile
+import threading
 import time
 
-from ldap_client import ANN, BOB, NAMES, REFUSED, SECONDS, Bridge, Client, Closed, ber
+from ldap_client import BOB, NAMES, REFUSED, SECONDS, Bridge, Client, Closed, ber
+from adsd_import.sids import sid_of_text
+from adsd_ldap.guesses import ENDING, FREE, Guesses
+from adsd_ldap.guesses import read as read_guesses
+from adsd_ldap.stretching import of_export, stretched
 
-BUSY, PROTOCOL = 51, 2
+PROTOCOL = 2
 BOUND = "# bind: 0 success"
-MOST_UNBOUND = 65_536
+MOST_UNBOUND = 4096
 LOOK = f"search base='{BOB}' attrs=cn"
 SEES = f"dn: {BOB}\ncn: bob\n\n# search: 0 success"
+CLOSED = REFUSED.replace("52e", "775")
+# So long a few dozen binds take at most on a busy machine, and less than their delays were, in seconds.
+PATIENCE = 60.0
 
 
 def same(given, wanted):
@@ -50,39 +61,68 @@ def names_made_open():
         same([bridge.client().bind("ann", "her secret"), bridge.client().bind("erin", "z")], [BOUND, REFUSED])
 
 
-def seated(bridge):
-    """A client that has a place, once the bridge has seen that another one is gone."""
-    end = time.monotonic() + SECONDS
-    while True:
-        client = bridge.client()
-        try:
-            client.ask(LOOK)
-            return client
-        except (Closed, ConnectionError, AssertionError):
-            client.close()
-            if time.monotonic() > end:
-                raise
-            time.sleep(0.05)
+def is_gone(client):
+    """Whether a client was let go, which has been told nothing."""
+    try:
+        client.taken(1)
+    except (Closed, ConnectionError):
+        return True
+    return False
 
 
 def unbound():
-    """So many clients of a peer may be there that haven't bound; who has bound isn't counted, until the next bind."""
+    """So many clients of a peer may be there that haven't bound. One more has the place of who has been silent longest;
+    who has bound isn't counted and loses nothing, until the next bind."""
     with Bridge("--unbound", "2") as bridge:
         bound = [bridge.client("ann", "her secret") for _ in range(3)]
         silent = [bridge.client() for _ in range(2)]
-        same(silent[1].ask(LOOK)[:11], "# search: 1")
-        same(bridge.client().notice(), BUSY)
-        bridge.wait_for("a client was refused: too many connections of one peer that haven't bound")
-        same(bound[0].ask(LOOK), SEES)
-        same(silent[0].bind("ann", "her secret"), BOUND)
+        same([one.ask(LOOK)[:11] for one in silent], 2 * ["# search: 1"])
         third = bridge.client()
-        same(third.ask(LOOK)[:11], "# search: 1")
+        same((third.ask(LOOK)[:11], is_gone(silent[0])), ("# search: 1", True))
+        bridge.wait_for("let go: others that haven't bound want the place of who is silent")
+        same([silent[1].bind("ann", "her secret"), third.ask(LOOK)[:11]], [BOUND, "# search: 1"])
+        fourth = bridge.client()
+        same([one.ask(LOOK)[:11] for one in (fourth, third)], 2 * ["# search: 1"])
         same(bound[0].bind("", ""), BOUND)
-        third.close()
-        silent[1].close()
-        fourth = seated(bridge)
-        same(fourth.ask(LOOK)[:11], "# search: 1")
-        same(bridge.client().notice(), BUSY)
+        same([one.ask(LOOK) for one in (*bound[1:], silent[1])], 3 * [SEES])
+        same([bridge.client("ann", "her secret").ask(LOOK) for _ in range(4)], 4 * [SEES])
+
+
+def floods():
+    """Clients that only come, faster than their places are given away, keep nobody from a bind, and take no place of
+    one that has bound, also where all places are taken."""
+    with Bridge("--unbound", "8", "--connections", "12") as bridge:
+        bound = [bridge.client("ann", "her secret") for _ in range(6)]
+        ends, came = threading.Event(), []
+
+        def come():
+            while not ends.is_set():
+                came.append(Client(bridge.port))
+                time.sleep(0.002)
+
+        flood = threading.Thread(target=come)
+        flood.start()
+        try:
+            for _ in range(3):
+                one = once(lambda: bridge.client("admin", "adm1n"))
+                same(one.ask(LOOK), SEES)
+                one.close()
+        finally:
+            ends.set()
+            flood.join()
+        same([one.ask(LOOK) for one in bound], 6 * [SEES])
+        same(len(came) > 20, True)
+
+
+def once(made):
+    """What is made, once it can be."""
+    end = time.monotonic() + SECONDS
+    while True:
+        try:
+            return made()
+        except (AssertionError, OSError, Closed):
+            if time.monotonic() > end:
+                raise
 
 
 def large():
@@ -122,22 +162,81 @@ def first():
 
 
 def guesses():
-    """The answer to a wrong password waits, each time longer, and nobody else does; no more than the longest delay."""
-    with Bridge("--delay", "1") as bridge:
-        other, one, took = bridge.client("admin", "adm1n"), bridge.client(), []
-        for _ in range(4):
-            begun = time.monotonic()
-            held = ber.number(3), ber.octets(ANN.encode()), ber.octets(b"a guess", 0x80)
-            asked = one.send(ber.sequence(*held, tag=0x60))
-            same([other.ask(LOOK), other.bind("admin", "adm1n")], [SEES, BOUND])
-            same(Client(bridge.port).bind("ann", "her secret"), BOUND)
-            others = time.monotonic() - begun
-            same(one.reply(asked), REFUSED)
-            took.append((others, time.monotonic() - begun))
-        wanted = (0.25, 0.5, 1, 1)
-        same([all_in >= least for (_, all_in), least in zip(took, wanted)], 4 * [True])
-        # (both waited a second, and a busy machine may have been late once)
-        same(min(others for others, _ in took[2:]) < 0.9, True)
-        one.send(ber.sequence(ber.number(3), ber.octets(b"admin"), ber.octets(b"a guess", 0x80), tag=0x60))
-        time.sleep(0.3)
+    """Wrong passwords close an account for a while, each for longer, to the peer that they came from; another account
+    on the same connection waits for nothing, and a restart doesn't forget them."""
+    more = NAMES + "bob password=secret user=S-1-5-21-1-2-3-1002\n"
+    with Bridge("--delay", "2", names=more) as bridge:
+        one, begun = bridge.client(), time.monotonic()
+        for _ in range(12):
+            same([one.bind("ann", "a guess")[:10], one.bind("bob", "secret")], ["# bind: 49", BOUND])
+        same(one.bind("bob", "secret"), BOUND)
+        same(time.monotonic() - begun < PATIENCE, True)
+        for _ in range(12):
+            one.bind("ann", "a guess")
+        bridge.wait_for("not bound: by wrong passwords before it is closed for a while: CN=ann")
+        later(lambda: one.bind("ann", "her secret"))
+        for _ in range(12):
+            one.bind("nobody", "a guess")
+        same(one.bind("nobody", "a guess"), CLOSED)
         same(bridge.end(), (0, "adsd-ldap: stopped; adsd serve ended with 0"))
+        found, _ = read_guesses(bridge.store + ENDING)
+        same(any(told[0] > FREE for told in found.values()), True)
+        with open(bridge.store + ENDING, "rb") as file:
+            same(b"ann" in file.read(), False)
+
+
+def later(asked):
+    """Asks until it is bound."""
+    end, given = time.monotonic() + SECONDS, asked()
+    while given != BOUND and time.monotonic() < end:
+        same(given, CLOSED)
+        time.sleep(0.1)
+        given = asked()
+    same(given, BOUND)
+
+
+def counted():
+    """How long accounts are closed, and to whom; what a file keeps of that, and one that is none."""
+    with tempfile.TemporaryDirectory() as place:
+        asyncio.run(counting(os.path.join(place, "corp")))
+
+
+async def counting(store):
+    made = Guesses(store, 16)
+    for at in range(FREE + 8):
+        same((at, made.closed("ann", "p", 1000.0)), (at, at > FREE))
+        made.wrong("ann", "p", 1000.0)
+    same([made.closed("ann", "p", 1000 + after) for after in (1, 15.9, 16.1)], [True, True, False])
+    same([made.closed(*who, 1000.0) for who in (("ANN", "p"), ("ann", "q"), ("bob", "p"))], [True, False, False])
+    for at in range(20):
+        made.wrong("ann", str(at), 1000.0)
+    same(made.closed("ann", "q", 1000.0), True)
+    made.wrong("bob", "p")
+    await made.close()
+    again = Guesses(store, 16)
+    same((again.fault, len(again.held)), ("", 2))
+    again.right("bob", "p")
+    await again.close()
+    with open(store + ENDING, "w", encoding="ascii") as file:
+        file.write("[1]")
+    same(("counts of wrong passwords begin anew" in Guesses(store, 16).fault, Guesses(store, 0).fault), (True, ""))
+
+
+def made_of_exports():
+    """Of an export's passwords that is made which binds are checked by, by the identifier of each; all else stays."""
+    held, guid = base64.b64encode('"first"'.encode("utf-16-le")).decode(), bytes([1]) * 16
+    of_guid = base64.b64encode(guid).decode()
+    for own, salt in ((f"objectGUID:: {of_guid}\n", guid), ("objectSid: S-1-5-32-544\n", sid_of_text("S-1-5-32-544")),
+                      (f"objectSid: S-1-5-32-544\nobjectGUID:: {of_guid}\n", guid)):
+        text = f"dn: CN=x\n{own}unicodePwd:: {held[:9]}\n {held[9:]}\n\ndn: CN=y\ncn: a\n b\n"
+        made = b"".join(of_export(text.encode().splitlines(keepends=True))).decode()
+        wanted = base64.b64encode(stretched('"first"'.encode("utf-16-le"), salt)).decode()
+        same(made, f"dn: CN=x\n{own}unicodePwd:: {wanted}\n\ndn: CN=y\ncn: a\n b\n")
+    try:
+        list(of_export([b"dn: CN=x\n", b"unicodePwd:: eA==\n"]))
+        raise AssertionError("a password without an identifier is taken")
+    except ValueError:
+        pass
+
+
+CASES = (made_of_exports, names_made_open, unbound, floods, large, first, guesses, counted)

@@ -2,12 +2,14 @@
 Directory has them, and accounts in it."""
 
 import base64
+import functools
 import os
 import subprocess
 
 from ldap_client import PROGRAM, TOP
-from adsd_tools.ask import words
-from adsd_tools.forms.sids import sid_of_text
+from adsd_ask import words
+from adsd_import.sids import sid_of_text
+from adsd_ldap.stretching import stretched
 
 ROOT = "DC=corp,DC=example"
 UNIT, GROUPS = f"OU=people,{ROOT}", f"OU=groups,{ROOT}"
@@ -34,7 +36,13 @@ ATTRIBUTES = {
     "countryCode": ("1.2.840.113556.1.4.25", "2.5.5.9", "rangeUpper: 65535\nrangeLower: 0\n"),
     "msExchWhen": ("1.2.840.113556.1.4.7000.1", "2.5.5.11", "isSingleValued: FALSE\n"),
     "sIDHistory": ("1.2.840.113556.1.4.609", "2.5.5.17", "isSingleValued: FALSE\n"),
-    "isDeleted": ("1.2.840.113556.1.2.48", "2.5.5.8", "")}
+    "isDeleted": ("1.2.840.113556.1.2.48", "2.5.5.8", ""),
+    "pwdLastSet": ("1.2.840.113556.1.4.96", "2.5.5.16", ""),
+    "lockoutTime": ("1.2.840.113556.1.4.662", "2.5.5.16", ""),
+    "maxPwdAge": ("1.2.840.113556.1.4.74", "2.5.5.16", ""),
+    "lockoutDuration": ("1.2.840.113556.1.4.60", "2.5.5.16", "")}
+# Passwords last 42 days, and who is locked out is so for half an hour, in tenths of a microsecond.
+DAY, HALF_AN_HOUR = 864_000_000_000, 18_000_000_000
 WELL_KNOWN = "A9D1CA15768811D1ADED00C04FD8D5CD"
 # Accounts: the class, the number, and further lines.
 ACCOUNTS = {
@@ -81,10 +89,17 @@ def text():
         assert line in made
         more = f"defaultObjectCategory: CN={category},{SCHEMA}\ngovernsID: 1.2.840.113556.1.5.{len(kind)}\n{allowed}"
         made = made.replace(line, f"lDAPDisplayName: {kind}\n{more}schemaIDGUID", 1)
-    known = f"wellKnownObjects: B:32:{WELL_KNOWN}:{UNIT}\nobjectSid: {DOMAIN}\n"
+    known = (f"wellKnownObjects: B:32:{WELL_KNOWN}:{UNIT}\nmaxPwdAge: {-42 * DAY}\nlockoutDuration: {-HALF_AN_HOUR}\n"
+             f"objectSid: {DOMAIN}\n") + base64_line("objectGUID", b"w" * 16)
     assert f"objectSid: {DOMAIN}\n#" in made
     made = made.replace(f"objectSid: {DOMAIN}\n#", known + "#", 1)
     return made + accounts_text()
+
+
+@functools.lru_cache(maxsize=None)
+def first(salt):
+    """What the store has where the password is `first`."""
+    return stretched('"first"'.encode("utf-16-le"), salt)
 
 
 def accounts_text():
@@ -92,7 +107,7 @@ def accounts_text():
     for at, (name, (kind, number, more)) in enumerate(ACCOUNTS.items(), 1):
         made += f"\ndn: {name}\nobjectClass: {kind}\nobjectSid: {DOMAIN}-{number}\n{more}"
         made += base64_line("objectGUID", bytes([at]) * 16)
-        made += base64_line("unicodePwd", '"first"'.encode("utf-16-le")) if kind == "user" else ""
+        made += base64_line("unicodePwd", first(bytes([at]) * 16)) if kind == "user" else ""
     return made
 
 

@@ -5,7 +5,7 @@ import time
 
 from adsd_tools.forms import ber
 
-from . import messages, names
+from . import messages, names, stretching
 from .accounts import Ambiguous, TooMany, Unidentified
 from .groups import NotKnown
 from .names import Who
@@ -13,7 +13,7 @@ from .names import Who
 EXTERNAL = b"EXTERNAL"
 # What Active Directory says of a bind that it refuses; clients look at the code behind `data`.
 REFUSED = "80090308: LdapErr: DSID-0C090400, comment: AcceptSecurityContext error, data {}, v1db1"
-WRONG = "52e"
+WRONG, CLOSED = "52e", "775"
 # What a client is told whose groups aren't known.
 NO_GROUPS = "who is in which group isn't known to the server"
 # So often a token is made beside changes, and then while they wait.
@@ -31,6 +31,14 @@ class NotBound(Exception):
     def __init__(self, why, told=WRONG):
         super().__init__(why)
         self.why, self.told = why, told
+
+
+class WrongPassword(NotBound):
+    """A bind by what isn't the password of whoever is counted by a name."""
+
+    def __init__(self, why, name):
+        super().__init__(why)
+        self.name = name
 
 
 def quoted(password):
@@ -85,7 +93,7 @@ class Binder:
         return await self.bound(self.by_uid(given))
 
     async def bound(self, work):
-        """Lets the client be somebody, or has it wait."""
+        """Lets the client be somebody, or says that it isn't. It waits for nothing, since others may bind behind it."""
         try:
             who = await work
         except NotKnown as why:
@@ -93,7 +101,8 @@ class Binder:
             return messages.UNAVAILABLE, NO_GROUPS
         except NotBound as told:
             self.bridge.log.timed(f"{self.session.peer} not bound: {told.why}")
-            await self.bridge.wait(self.bridge.peers.delay(self.session.host))
+            if isinstance(told, WrongPassword):
+                self.bridge.guesses.wrong(told.name, self.session.host)
             return messages.INVALID, REFUSED.format(told.told)
         await self.session.become(who)
         self.session.count(False)
@@ -110,33 +119,49 @@ class Binder:
         return await self.whole(who)
 
     async def by_password(self, name, password):
-        """Whoever has the name and the password."""
+        """Whoever has the name and the password. While wrong ones keep it closed, no password is looked at."""
         who, account = self.bridge.names.who(name), None
         if who is None:
             account = await self.account(name)
             lines = map(self.bridge.names.who, account.spelled(self.accounts.short) if account else ())
             who = next(filter(None, lines), None)
-        good = await asyncio.get_running_loop().run_in_executor(None, names.fits, who, password)
+        counted, guesses = self.counted(name, who, account), self.bridge.guesses
+        if guesses.closed(counted, self.session.host):
+            raise NotBound("by wrong passwords before it is closed for a while: " +
+                           (counted if who or account else "a name that isn't in the file"), CLOSED)
+        good = await self.bridge.checks.run(self.session.host, names.fits, who, password)
         if not good and (who is None or who.fits is None) and self.is_open():
             account = account or await self.account(name)
-            good = account is not None and await self.by_store(account, password)
+            good = await self.by_store(account, password)
         if not good:
-            raise NotBound(f"wrong password of {who.name if who else account.name.decode()}" if who or account else
-                           "a name that isn't in the file" +
-                           (", nor of an account that the reader sees" if self.is_open() else ""))
+            raise WrongPassword(self.why_wrong(who, account), counted)
+        guesses.right(counted, self.session.host)
         return await self.whole(who or Who(name, None, None), account)
+
+    def counted(self, name, who, account):
+        """By which name wrong passwords are counted: one whatever the spelling."""
+        return who.name if who else account.name.decode("utf-8", "replace") if account else name[: names.LONGEST]
+
+    def why_wrong(self, who, account):
+        if who or account:
+            return f"wrong password of {who.name if who else account.name.decode()}"
+        return "a name that isn't in the file" + (", nor of an account that the reader sees" if self.is_open() else "")
 
     def is_open(self):
         """Whether accounts may bind that have no line."""
         return self.options.trust_names or self.options.store_passwords
 
     async def by_store(self, account, password):
-        """Whether it is somebody's password: any is with --trust-names; else the program says so, of which a change is
-        asked that changes nothing."""
+        """Whether it is somebody's password: any is with --trust-names; else the program says so of what scrypt makes
+        of it (stretching.py), by a change that changes nothing. It takes as long where there is no account."""
         if self.options.trust_names:
-            return True
+            return account is not None
         held = quoted(password)
         if held is None:
+            return False
+        salt = await stretching.salt_of(self.accounts, account.name) if account else b"nobody"
+        held = await self.bridge.checks.run(self.session.host, stretching.stretched, held, salt)
+        if account is None:
             return False
         reply = await self.accounts.ask(ber.sequence(ber.number(1), change(account.name, held, held)))
         code = messages.code_of(reply)[0]

@@ -9,12 +9,14 @@ from urllib.parse import quote
 
 from . import messages, names, root_dse, schema
 from .accounts import Accounts
+from .checks import Checks
 from .groups import Groups, NotKnown, lines_of
+from .guesses import Guesses
 from .log import place_of
 from .paging import Shelf
 from .peers import Peers, peer_of
 from .program import DROP, MESSAGE, Ended, Program
-from .session import Session, farewell, host_of
+from .session import GIVEN_AWAY, Session, farewell, host_of
 from .tls import HANDSHAKE
 from .turns import Stopped, Turns
 from .upkeep import Upkeep
@@ -35,7 +37,8 @@ class Bridge:
         self.options, self.names, self.log = options, known, log
         self.idle, self.root = options.idle or None, options.base
         self.first = min(options.first, options.idle or options.first)
-        self.peers = Peers(options.unbound, options.delay)
+        self.peers, self.guesses = Peers(options.unbound), Guesses(options.store, options.delay)
+        self.checks = Checks()
         self.program = Program(options.program, options.store, options.frames)
         self.turns = self.made_turns()
         self.numbers = deque(range(1, options.connections + 1))
@@ -47,11 +50,12 @@ class Bridge:
         # How many bytes of large answers are put together just now.
         self.made_now = 0
         self.accounts, self.tls, self.servers = Accounts(self, options.reader), options.tls, []
-        self.groups = Groups(self)
+        self.groups, self.levels = Groups(self), {}
 
     def made_turns(self):
         """Whose frame is next, with what the program is asked besides clients' requests."""
-        return Turns(self.program, Upkeep(self.options.steps, self.options.run_every, self.log))
+        upkeep = Upkeep(self.options.steps, self.options.run_every, self.log)
+        return Turns(self.program, upkeep, True, self.log.timed)
 
     async def ready(self):
         """What is done once the program has opened the store, before clients come."""
@@ -93,10 +97,13 @@ class Bridge:
     async def serve(self, work):
         """Serves clients while the program works."""
         work.add_done_callback(lambda _: self.stop.set())
+        if self.guesses.fault:
+            self.log.say(f"warning: {self.guesses.fault}")
         try:
             await self.ready()
             await self.read_schema()
             await self.find_root()
+            self.levels = await root_dse.levels(self.turns, self.root)
             await self.accounts.start()
             await self.look_at_reader()
             await self.listen()
@@ -168,6 +175,7 @@ class Bridge:
                 await work
             finally:
                 await self.closing()
+            await self.guesses.close()
             left = asyncio.ensure_future(self.let_go())
             code = await self.program.end()
             await left
@@ -204,6 +212,7 @@ class Bridge:
         self.signals += 1
         self.stop.set()
         if self.signals > 1:
+            self.turns.close()
             self.program.kill()
 
     def read_names_again(self):
@@ -222,7 +231,7 @@ class Bridge:
         task = asyncio.current_task()
         self.clients[task] = writer
         try:
-            why = self.why_not(writer)
+            why = await self.why_not(writer)
             if why:
                 await self.refuse(reader, writer, why)
             else:
@@ -232,28 +241,35 @@ class Bridge:
         finally:
             del self.clients[task]
 
-    def why_not(self, writer):
-        """Why a client can't be taken, or nothing."""
-        if self.turns.closed or not self.numbers:
+    async def why_not(self, writer):
+        """Why a client can't be taken, or nothing. Where there is no place, whoever hasn't bound and has been silent
+        longest loses its own."""
+        if self.turns.closed:
             return "too many connections"
-        has_room = self.peers.has_room(peer_of(host_of(writer)[0]))
-        return "" if has_room else "too many connections of one peer that haven't bound"
+        peer = peer_of(host_of(writer)[0])
+        while not self.peers.has_room(peer):
+            if not await self.given_away(self.peers.silent(peer)):
+                return "too many connections of one peer that haven't bound"
+        while not self.numbers:
+            if not await self.given_away(self.peers.silent()):
+                return "too many connections"
+        return ""
+
+    async def given_away(self, session):
+        """Whether the place of a client is free, which is let go."""
+        if session is None:
+            return False
+        session.stop(GIVEN_AWAY)
+        await asyncio.wait({session.task}, timeout=LAST)
+        return session.task.done()
 
     async def refuse(self, reader, writer, why):
         """Tells a client that it isn't taken; where many are refused at once, it is let go without a word."""
         if len(self.clients) - len(self.sessions) > REFUSED:
             writer.transport.abort()
             return
-        self.log.timed(f"a client was refused: {why}")
+        self.log.seldom(f"a client was refused: {why}")
         await farewell(reader, writer, messages.notice(messages.BUSY, why))
-
-    async def wait(self, seconds):
-        """Waits so long; Stopped where the bridge stops meanwhile."""
-        try:
-            await asyncio.wait_for(self.stop.wait(), seconds)
-        except asyncio.TimeoutError:
-            return
-        raise Stopped
 
     async def session(self, session):
         """Serves a client. Its number is free again once the program has taken the token from it."""
@@ -264,7 +280,8 @@ class Bridge:
             self.log.timed(f"{session.peer} let go, by a fault of adsd-ldap: {place_of(fault)}")
         finally:
             self.sessions.remove(session)
-        await self.turns.ask(MESSAGE, session.number, DROP)
+        if session.number in self.program.tokens:
+            await self.turns.ask(MESSAGE, session.number, DROP)
         self.numbers.append(session.number)
 
 

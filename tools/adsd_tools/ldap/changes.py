@@ -3,7 +3,7 @@ in, and without what it forbids (docs/clients.md)."""
 
 from adsd_tools.ask.records import TREE_DELETE
 
-from . import ad_rules, computed, guards, messages, operations, permissive, searches
+from . import ad_rules, computed, guards, messages, operations, permissive, searches, stretching
 from .program import MESSAGE
 from .searches import Refused
 from .spelling import Speller
@@ -32,12 +32,15 @@ class Changes:
 
     def __init__(self, session):
         self.session, self.bridge = session, session.bridge
+        # What the store is given for the passwords of the change that is made.
+        self.passwords = {}
 
     async def ask(self, data, changes):
         return await self.bridge.turns.ask(MESSAGE, self.session.number, data, changes)
 
     async def answer(self, message, data):
         """The reply to a change or a compare."""
+        self.passwords = {}
         operation, changes = operations.read(message), message.operation in messages.CHANGES
         if operation is None:
             return await self.ask(data, changes)
@@ -48,6 +51,7 @@ class Changes:
             controls = without_idle(message.controls)
             if message.operation == messages.COMPARE:
                 return await self.compared(message, made, await self.asked(message, data, operation, made, controls))
+            self.passwords = await stretching.of_change(self.session, made)
             rules = guards.has_any(self.session, made) or ad_rules.has_any(self.session, made)
             if rules or is_permissive(made, controls):
                 return await self.judged(message, data, operation, made, controls)
@@ -97,6 +101,7 @@ class Changes:
     async def asked(self, message, data, operation, made, controls):
         """What the program says of it; as it came, where nothing is changed in it."""
         changes = message.operation in messages.CHANGES
+        made = stretching.replaced(made, self.passwords or await stretching.of_new(self.session, made))
         if made != operation or controls != message.controls:
             data = operations.written(message, made, controls)
         if len(data) > messages.MOST:

@@ -15,7 +15,7 @@ from adsd_tools.rows.store import Broken
 from adsd_tools.run import ADSD
 from adsd_tools.shown import shown
 
-from . import names, passwords, tls
+from . import names, passwords, stretching, tls
 from .bridge import Bridge
 from .log import Log
 from .words import USUAL, parsed
@@ -109,11 +109,24 @@ def serve(asked, kind=Bridge, called="adsd-ldap"):
     return asyncio.run(bridged())
 
 
+def converted():
+    """Copies an export, with what scrypt makes of its passwords."""
+    try:
+        for line in stretching.of_export(sys.stdin.buffer):
+            sys.stdout.buffer.write(line)
+        sys.stdout.buffer.flush()
+    except ValueError as why:
+        raise Wrong(str(why)) from None
+    return 0
+
+
 def main(arguments):
     asked = parsed(arguments)
     try:
         if asked.word == "serve":
             return serve(asked)
+        if asked.word == "passwords":
+            return converted()
         print(line_of(asked))
     except Wrong as wrong:
         print(f"adsd-ldap: {shown(str(wrong))}", file=sys.stderr)

@@ -5,7 +5,7 @@ import secrets
 
 from adsd_tools.forms import ber
 
-from . import messages, tls
+from . import messages, stretching, tls
 from .accounts import Ambiguous, Unidentified
 from .binding import change, quoted
 from .program import MESSAGE
@@ -90,6 +90,10 @@ async def changed(session, message, value):
     old, new = (quoted(one) if one is not None else None for one in (given.get(OLD), given.get(NEW, made)))
     if name is None or new is None or (OLD in given and old is None):
         return told(message, messages.UNWILLING, "no account, or no text")
+    if session.bridge.options.store_passwords:
+        salt = await stretching.salt_of(session.bridge.accounts, name)
+        old, new = [one and await session.bridge.checks.run(session.host, stretching.stretched, one, salt)
+                    for one in (old, new)]
     request = ber.sequence(ber.number(message.number), change(name, old, new))
     reply = await session.bridge.turns.ask(MESSAGE, session.number, request, True)
     code, text = messages.code_of(reply)

@@ -3,8 +3,9 @@ client's own token, and so shows no more (docs/clients.md)."""
 
 from dataclasses import replace
 
-from . import computed, items, lists, messages, paging, ranges, root_dse, schema_entries, searches, sorting, subschema
-from .heavy import beside
+from . import (budgets, computed, extended_names, items, lists, messages, narrowing, paging, ranges, root_dse,
+               schema_entries, scoped, searches, sorting, subschema)
+from .heavy import HEAVY, beside
 from .program import MESSAGE
 from .rewriting import Rewriter
 from .searches import Found, Refused
@@ -12,18 +13,35 @@ from .spelling import Speller
 from .view import View, names_of, with_member_of
 
 OWN = (paging.PAGED, sorting.SORT, lists.VIEW)
+# Those that say what is found, and how it is written.
+INNER = (scoped.SCOPED, extended_names.EXTENDED)
 # What is made of several questions is asked again where the directory changes meanwhile: so often beside others, and
 # then while they wait.
 TRIES = 3
+# A filter of so many bytes for the root DSE is tried beside.
+MANY = 2000
 
 
 def own_controls(search):
     """The controls that the bridge answers, by name, and the search without them."""
-    own = [one for one in search.controls if one.name in OWN]
-    if len({one.name for one in own}) < len(own):
+    known = [one for one in search.controls if one.name in OWN + INNER]
+    if len({one.name for one in known}) < len(known):
         raise Refused(messages.PROTOCOL_ERROR, "a control that stands twice")
+    for one in search.controls:
+        if one.name in searches.NOT_HERE:
+            raise Refused(messages.CRITICAL, f"{searches.NOT_HERE[one.name]} isn't here")
+    own = [one for one in known if one.name in OWN]
     others = tuple(one for one in search.controls if one.name not in OWN + searches.IDLE)
-    return {one.name: one for one in own}, replace(search, controls=others)
+    plain = replace(search, controls=others) if search.controls else search
+    return {one.name: one for one in own}, plain
+
+
+def inner_controls(search):
+    """The controls that say what is found and how it is written, by name, and the search without them."""
+    found = {one.name: one for one in search.controls if one.name in INNER}
+    if not found:
+        return found, search
+    return found, replace(search, controls=tuple(one for one in search.controls if one.name not in INNER))
 
 
 def asked_as(kind):
@@ -64,10 +82,11 @@ class Face:
 
     async def answer(self, message, data):
         """The reply to a search."""
-        search = searches.read(message)
+        search = await beside(len(data), searches.read, message)
         if search is None:
             return await self.ask(data)
         try:
+            budgets.check(self.session, search)
             return await self.reply(search, data)
         except Refused as why:
             refusal = Found(code=why.code, text=why.text.encode())
@@ -78,21 +97,39 @@ class Face:
     async def reply(self, search, data):
         own, plain = own_controls(search)
         plain = await Speller(self.view).search(plain)
-        if not own and not self.is_own(plain) and not await self.is_made(plain):
-            reply = await self.ask(data if plain == search else searches.written(plain))
-            if not searches.is_cut(reply):
+        computed.check(plain.filter, self.bridge.schema)
+        inner = inner_controls(plain)[0]
+        if not own and not inner and not self.is_own(plain):
+            reply = await self.at_once(search, plain, data)
+            if reply is not None:
                 return reply
         if lists.VIEW in own:
             return await self.listed(search.number, plain, own)
         page = paging.asked(own[paging.PAGED]) if paging.PAGED in own else None
-        others = tuple(one for one in search.controls if one.name != paging.PAGED)
-        mark = searches.mark(replace(search, controls=others))
+        mark = self.mark(search) if page else b""
         if page and page.cookie:
             return self.pages.next(page, *self.pages.place(page.cookie, mark), search.number)
         found, controls = await self.in_order(plain, own.get(sorting.SORT))
         if page:
             return self.pages.first(page, paging.Kept(mark, found, controls), search.number)
         return searches.reply_of(search.number, found, controls)
+
+    async def at_once(self, search, plain, data):
+        """The reply that one frame gives: the program's, or where items by bits are tried here what is left of that.
+        None where it takes more."""
+        if self.has_more(plain):
+            return None
+        rewriter = Rewriter(self.view, plain)
+        if not await beside(len(plain.filter), rewriter.known):
+            reply = await self.ask(data if plain == search else searches.written(plain))
+            return None if searches.is_cut(reply) else reply
+        found, _ = await narrowing.found(self.view, plain, rewriter)
+        return None if found is None else searches.reply_of(search.number, projected(found, plain))
+
+    def mark(self, search):
+        """What tells a search from another one, whatever its page."""
+        others = tuple(one for one in search.controls if one.name != paging.PAGED)
+        return searches.mark(replace(search, controls=others))
 
     async def listed(self, number, search, own):
         """A part of a sorted list (lists.py)."""
@@ -152,10 +189,23 @@ class Face:
         return subschema.asked(search, root) or schema_entries.asked(search, root)
 
     async def found(self, search):
+        """What a search finds that is neither sorted nor parted."""
+        inner, search = inner_controls(search)
+        if scoped.SCOPED in inner:
+            name = Speller(self.view).attribute(scoped.attribute_of(inner[scoped.SCOPED]))
+            found = await scoped.found(self, search, name)
+        else:
+            found = await self.found_plainly(search)
+        if extended_names.EXTENDED in inner:
+            found = await extended_names.of_found(self.view, found, inner[extended_names.EXTENDED])
+        return found
+
+    async def found_plainly(self, search):
         """What a search finds that has no control of the bridge's."""
         bridge = self.bridge
         if root_dse.asked(search):
-            return root_dse.answer(search, bridge, self.session)
+            weight = HEAVY if len(search.filter) > MANY else 0
+            return await beside(weight, root_dse.answer, search, bridge, self.session)
         if not self.is_own(search):
             return await self.shown(search)
         if subschema.asked(search, bridge.root):
@@ -168,11 +218,15 @@ class Face:
         schema = self.bridge.schema
         return bool(schema and self.bridge.root and schema.has_member_of() and (everything or "memberof" in names))
 
+    def has_more(self, search):
+        """Whether entries are to have what the bridge makes."""
+        return bool(self.asks_member_of(search) or ranges.asked(search) or computed.asked(search, self.bridge.schema))
+
     async def is_made(self, search):
         """Whether an answer is made of several of the program."""
-        if self.asks_member_of(search) or ranges.asked(search) or computed.asked(search, self.bridge.schema):
+        if self.has_more(search):
             return True
-        return bool(await beside(len(search.filter), Rewriter(self.view, search).foreign))
+        return bool(await beside(len(search.filter), Rewriter(self.view, search).known))
 
     async def shown(self, search):
         """What the program shows for a search, with what is made of that."""
@@ -199,15 +253,21 @@ class Face:
         schema = self.bridge.schema
         found = await self.with_member_of(computed.with_needs(ranges.without(search), schema))
         if computed.asked(search, schema):
-            found = await computed.Maker(self.view).added(found, search)
+            found = await computed.Maker(self.view, search).added(found, search)
         if ranges.asked(search):
             found = await beside(found.weight(), ranges.cut, found, search)
         return projected(found, search) if computed.asked(search, schema) else found
 
     async def with_member_of(self, search):
         """What the program finds by a filter that is rewritten, with memberOf."""
-        search = replace(search, filter=await Rewriter(self.view, search).rewritten())
-        found = await self.view.all_found(search)
+        rewriter = Rewriter(self.view, search)
+        found, by = await narrowing.found(self.view, search, rewriter)
+        if found is None:
+            by = await rewriter.rewritten()
+            found = await self.view.all_found(replace(search, filter=by))
+        else:
+            found = projected(found, search)
+        search = replace(search, filter=by)
         if not found.entries or not self.asks_member_of(search):
             return found
         memberships = await self.view.memberships()

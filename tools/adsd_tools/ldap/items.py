@@ -59,6 +59,32 @@ def changed(filter_made, change, level=1):
     return ber.sequence(*(changed(ber.element(*one), change, level + 1) for one in ber.parts(body)), tag=tag)
 
 
+def has_more(filter_made, most):
+    """Whether a filter has more than so many items, or far more elements than that takes. No more of it is looked at;
+    where it is none, the program says so."""
+    found, looked, at, ends = 0, 0, 0, [len(filter_made)]
+    try:
+        while ends:
+            if at >= ends[-1]:
+                ends.pop()
+                continue
+            tag, size, start = filter_made[at], filter_made[at + 1], at + 2
+            if size & 0x80:
+                start += size & 0x7F
+                size = int.from_bytes(filter_made[at + 2 : start], "big")
+            looked += 1
+            if size and tag in (AND, OR, NOT):
+                ends.append(start + size)
+                at = start
+            else:
+                found, at = found + 1, start + size
+            if found > most or looked > 4 * most + MOST_LEVELS:
+                return True
+    except IndexError:
+        pass
+    return False
+
+
 def is_deep(filter_made):
     """Whether a filter has more levels than the program reads."""
     try:

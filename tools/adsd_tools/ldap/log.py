@@ -7,8 +7,8 @@ import traceback
 
 from adsd_tools.shown import shown
 
-# So many letters of a line are said.
-LONGEST = 1000
+# So many letters of a line are said, and so many lines a second of what anybody may bring about.
+LONGEST, MOST = 1000, 10
 
 
 def one_line(text):
@@ -28,6 +28,7 @@ class Log:
 
     def __init__(self, changes=False, name="adsd-ldap"):
         self.changes, self.name = changes, name
+        self.second, self.said = 0, 0
 
     def say(self, text):
         try:
@@ -37,6 +38,17 @@ class Log:
 
     def timed(self, text):
         self.say(f"{time.strftime('%Y-%m-%dT%H:%M:%SZ', time.gmtime())} {text}")
+
+    def seldom(self, text):
+        """Says what anybody may bring about, a few times a second; how much was left out is said before the next."""
+        now = int(time.monotonic())
+        if now != self.second:
+            if self.said > MOST:
+                self.timed(f"{self.said - MOST} lines like the last ones were left out")
+            self.second, self.said = now, 0
+        self.said += 1
+        if self.said <= MOST:
+            self.timed(text)
 
     def change(self, text):
         if self.changes:

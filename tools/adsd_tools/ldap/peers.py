@@ -1,14 +1,11 @@
-"""What one peer may take before it has bound: how many connections, how large a message, and how fast it guesses.
+"""The places of clients that haven't bound: how many a peer has, and whose is given away where there is none left.
 
 A peer is the address that clients come from; of IPv6 the first half of it, since who has one such address has all."""
 
 import ipaddress
-import time
 
-# The delay behind a first wrong password, in seconds; it doubles with each further one. A quiet minute forgets it.
-FIRST_DELAY, QUIET = 0.25, 60.0
 # No message of a client that hasn't bound has more bytes.
-MOST_UNBOUND = 65_536
+MOST_UNBOUND = 4096
 
 
 def peer_of(host):
@@ -32,29 +29,29 @@ def is_loopback(host):
 
 
 class Peers:
-    """The clients that haven't bound, counted by peer, and the wrong passwords of each."""
+    """The clients that haven't bound, by peer; of one peer no more than `most`."""
 
-    def __init__(self, most, longest):
-        self.most, self.longest, self.unbound, self.wrong = most, longest, {}, {}
+    def __init__(self, most):
+        self.most, self.unbound = most, {}
 
     def has_room(self, peer):
-        return self.unbound.get(peer, 0) < self.most
+        return len(self.unbound.get(peer, ())) < self.most
 
-    def takes(self, peer):
+    def takes(self, peer, session):
         """One client more that hasn't bound."""
-        self.unbound[peer] = self.unbound.get(peer, 0) + 1
+        self.unbound.setdefault(peer, set()).add(session)
 
-    def leaves(self, peer):
+    def leaves(self, peer, session):
         """One less: it has bound, or gone."""
-        self.unbound[peer] -= 1
+        self.unbound[peer].discard(session)
         if not self.unbound[peer]:
             del self.unbound[peer]
 
-    def delay(self, peer):
-        """So many seconds the answer to one wrong password more waits."""
-        now = time.monotonic()
-        self.wrong = {one: told for one, told in self.wrong.items() if now - told[1] < QUIET}
-        last = self.wrong.get(peer, (FIRST_DELAY / 2, now))[0]
-        made = min(2 * last, self.longest)
-        self.wrong[peer] = made, now + made
-        return made
+    def silent(self, peer=None):
+        """The client that has been silent longest of those that haven't bound, of a peer or else of the one that has
+        most of them; None where each has a request in work."""
+        for one in [peer] if peer else sorted(self.unbound, key=lambda name: -len(self.unbound[name])):
+            found = [session for session in self.unbound.get(one, ()) if session.is_silent()]
+            if found:
+                return min(found, key=lambda session: session.silent_since)
+        return None

@@ -100,6 +100,10 @@ class Program:
         status = await self.end()
         if status:
             raise Ended(status)
+        await self.revive()
+
+    async def revive(self):
+        """Starts it where it has ended; each connection gets its token again."""
         await self.start()
         for connection, token in self.tokens.items():
             await self.exchange(TOKEN, connection, token)

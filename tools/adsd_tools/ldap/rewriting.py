@@ -4,11 +4,12 @@ What an item asks for is looked up as the client's own token reads it, and the i
 is undefined where the attribute isn't read, as each item is."""
 
 import re
+from dataclasses import dataclass
 
 from adsd_tools.forms import ber
 from adsd_tools.forms import names as dns
 
-from . import items, messages, named, sorting, times
+from . import items, messages, named, narrowing, sorting, times
 from .heavy import beside
 from .items import Deep
 from .searches import ADMIN_LIMIT, Refused
@@ -34,6 +35,25 @@ def number_of(value, bits):
     return int(value) % 2**bits
 
 
+@dataclass(frozen=True)
+class Bits:
+    """What an item by bits asks for: its attribute as it was sent, whether all bits or one of them, and the bits."""
+
+    sent: bytes
+    all_of_them: bool
+    wanted: int
+
+    @property
+    def name(self):
+        return self.sent.decode("latin-1").lower()
+
+    def fits(self, value):
+        """Whether a value has the bits."""
+        if not NUMBER.fullmatch(value):
+            return False
+        return int(value) & self.wanted == self.wanted if self.all_of_them else bool(int(value) & self.wanted)
+
+
 def is_name(value):
     try:
         return bool(dns.read(value).parts)
@@ -46,6 +66,26 @@ class Rewriter:
 
     def __init__(self, view, search):
         self.view, self.search, self.schema = view, search, view.bridge.schema
+        self.narrow = None
+
+    def known(self):
+        """The items that are rewritten, which are looked for once for each filter."""
+        before, found = self.view.looked_through
+        if found is None or before != self.search.filter:
+            found = self.foreign()
+            self.view.looked_through = self.search.filter, found
+        return found
+
+    def bits(self):
+        """What the items that are rewritten ask for, where all of them are by bits; else nothing."""
+        told = list(self.known().items())
+        if any(way is not Rewriter.by_bits for _, (way, *_) in told):
+            return {}
+        return {held: self.bits_of(item) for held, (_, item, _) in told}
+
+    def bits_of(self, item):
+        wanted = number_of(item.value, BITS[self.schema.syntax(item.name)])
+        return Bits(item.sent, item.rule == AND_RULE, wanted)
 
     def way(self, item):
         """How an item is rewritten; None where it stays."""
@@ -53,17 +93,17 @@ class Rewriter:
             return None
         if item.rule in (AND_RULE, OR_RULE):
             bits = BITS.get(self.schema.syntax(item.name))
-            return self.by_bits if bits and number_of(item.value, bits) is not None else None
+            return Rewriter.by_bits if bits and number_of(item.value, bits) is not None else None
         linked = self.schema.has_member_of() and self.view.bridge.root
         if item.rule == CHAIN:
-            return self.by_chain if linked and item.name in ("member", "memberof") and is_name(item.value) else None
+            return Rewriter.by_chain if linked and item.name in ("member", "memberof") and is_name(item.value) else None
         if self.schema.syntax(item.name) == times.TIME and item.tag in times.TAGS:
-            return self.by_time if times.moment_of(item.value) is not None else None
+            return Rewriter.by_time if times.moment_of(item.value) is not None else None
         if (item.compares() or item.tag == items.PRESENT) and item.name == "memberof" and linked:
-            return self.by_group if item.tag == items.PRESENT or is_name(item.value) else None
+            return Rewriter.by_group if item.tag == items.PRESENT or is_name(item.value) else None
         if item.compares() and item.name == "objectcategory":
-            return self.by_class if self.schema.category(item.value) else None
-        return self.by_anr if item.compares() and item.name == "anr" and self.anr_terms(item) else None
+            return Rewriter.by_class if self.schema.category(item.value) else None
+        return Rewriter.by_anr if item.compares() and item.name == "anr" and self.anr_terms(item) else None
 
     def foreign(self):
         """The items that are rewritten, by tag and body: the way of each, the item, and how often it stands there.
@@ -89,8 +129,11 @@ class Rewriter:
     async def rewritten(self):
         """The filter to ask in the place of the search's."""
         size, made, before = len(self.search.filter), {}, self.search.filter
-        for held, (way, item, count) in (await beside(size, self.foreign)).items():
-            made[held] = await way(item)
+        found = await beside(size, self.known)
+        # Only objects are found of which the other filters of an and are true, so their values are all that counts.
+        self.narrow = narrowing.parted(before, found)[0] if found else None
+        for held, (way, item, count) in found.items():
+            made[held] = await way(self, item)
             size += count * len(made[held])
             if len(made) > MOST_ITEMS or size > messages.MOST:
                 raise Refused(ADMIN_LIMIT, "the filter that would be asked in its place is too large")
@@ -102,17 +145,12 @@ class Rewriter:
         return after
 
     async def by_bits(self, item):
-        bits = BITS[self.schema.syntax(item.name)]
-        wanted = number_of(item.value, bits)
-        values = await self.view.values(self.search, item.sent)
-        values = [value for value in values if NUMBER.fullmatch(value)]
-        fits = [value for value in values
-                if (int(value) & wanted == wanted if item.rule == AND_RULE else int(value) & wanted)]
-        return items.among(item.sent, fits)
+        values = await self.view.values(self.search, item.sent, self.narrow)
+        return items.among(item.sent, list(filter(self.bits_of(item).fits, values)))
 
     async def by_time(self, item):
         """By the values that fit, or where these are many by the names of their objects."""
-        wanted, held = times.moment_of(item.value), await self.view.pairs(self.search, item.sent)
+        wanted, held = times.moment_of(item.value), await self.view.pairs(self.search, item.sent, self.narrow)
         good, names = await beside(64 * len(held), times.fitting, item.tag, wanted, held)
         if len(good) <= MOST_VALUES:
             return items.among(item.sent, good)

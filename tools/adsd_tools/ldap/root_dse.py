@@ -3,6 +3,7 @@
 The program has no such entry and answers 32. The bridge answers searches of base "" with scope base, to whoever asks,
 and leaves all others to the program."""
 
+import socket
 from dataclasses import replace
 
 from adsd_tools.ask.records import TREE_DELETE
@@ -10,12 +11,19 @@ from adsd_tools.ask.requests import SD_FLAGS
 from adsd_tools.forms import ber, filters
 from adsd_tools.forms import names as dns
 
-from . import (extended, filling, lists, local, messages, paging, permissive, schema_entries, searches, sorting,
-               subschema, tls)
+from . import (extended, extended_names, filling, lists, local, messages, paging, permissive, schema_entries, scoped,
+               searches, sorting, subschema, tls)
 from .program import MESSAGE
 from .searches import Entry, Found
 
-CONTROLS = [SD_FLAGS, TREE_DELETE, paging.PAGED, sorting.SORT, lists.VIEW, permissive.PERMISSIVE, *searches.IDLE]
+CONTROLS = [SD_FLAGS, TREE_DELETE, paging.PAGED, sorting.SORT, lists.VIEW, permissive.PERMISSIVE,
+            extended_names.EXTENDED, scoped.SCOPED, *searches.IDLE]
+# A directory of Windows 2000 and later, of 2003, 2008, 2008 R2 and 2012. That binds are signed and sealed (1791) isn't
+# so.
+CAPABILITIES = [b"1.2.840.113556.1.4." + one for one in (b"800", b"1670", b"1935", b"2080", b"2237")]
+# The functional level of the bridge, and of a domain and a forest that don't tell theirs to everybody.
+LEVEL, BEHAVIOR, PARTITIONS = b"7", b"msDS-Behavior-Version", b"CN=Partitions,CN=Configuration,"
+SITE = b",CN=Servers,CN=Default-First-Site-Name,CN=Sites,CN=Configuration,"
 # Filters that are true and false by themselves (RFC 4526).
 FEATURES = [b"1.3.6.1.4.1.4203.1.5.3"]
 PRESENT = filters.read("(objectClass=*)")
@@ -35,18 +43,33 @@ def contexts(root, has_schema):
     found = [("defaultNamingContext", [root]), ("rootDomainNamingContext", [root])]
     if not has_schema:
         return [("namingContexts", [root]), *found]
-    place = schema_entries.SCHEMA + root
-    return [("subschemaSubentry", [subschema.NAME + root]), ("namingContexts", [root, place]), *found,
-            ("configurationNamingContext", [b"CN=Configuration," + root]), ("schemaNamingContext", [place])]
+    place, configuration = schema_entries.SCHEMA + root, b"CN=Configuration," + root
+    return [("subschemaSubentry", [subschema.NAME + root]), ("namingContexts", [root, configuration, place]), *found,
+            ("configurationNamingContext", [configuration]), ("schemaNamingContext", [place])]
+
+
+def server(bridge):
+    """What is told of the bridge as a server of the domain: by the name of its machine, or the one that was given."""
+    domain = bridge.accounts.dotted().encode()
+    if not bridge.root or not domain:
+        return []
+    host = bridge.options.host or socket.gethostname().partition(".")[0]
+    short, _, behind = host.encode().lower().partition(b".")
+    name = b"CN=" + short.upper() + SITE + bridge.root
+    dotted = short + b"." + (behind or domain)
+    return [("dnsHostName", [dotted]), ("serverName", [name]), ("dsServiceName", [b"CN=NTDS Settings," + name]),
+            ("ldapServiceName", [domain + b":" + short + b"$@" + domain.upper()])]
 
 
 def attributes(bridge, session):
-    """All attributes, with their values. No capability of Active Directory's list is told: none of them is all
-    true."""
+    """All attributes, with their values."""
     extensions = [messages.WHO_AM_I, extended.PASSWORD] + ([tls.START] if bridge.tls else [])
     mechanisms = [b"EXTERNAL"] if session.uid is not None else []
     found = [("objectClass", [b"top"]), ("currentTime", [filling.now_text().encode()])]
-    found += contexts(bridge.root, bridge.schema is not None)
+    found += contexts(bridge.root, bridge.schema is not None) + server(bridge)
+    found += [(f"{of}Functionality", [level]) for of, level in bridge.levels.items()]
+    found += [("supportedCapabilities", CAPABILITIES), ("isSynchronized", [b"TRUE"]),
+              ("isGlobalCatalogReady", [b"FALSE"])]
     found += [("supportedControl", CONTROLS), ("supportedExtension", extensions), ("supportedFeatures", FEATURES),
               ("supportedSASLMechanisms", mechanisms), ("supportedLDAPVersion", [b"3"]), ("vendorName", [b"adsd-ldap"])]
     return tuple((kind.encode(), tuple(values)) for kind, values in found if values)
@@ -59,6 +82,17 @@ def answer(search, bridge, session):
         return Found()
     search = replace(search, attributes=(b"*",)) if b"+" in search.attributes else search
     return Found((searches.body_of(local.chosen(plain, search)),))
+
+
+async def levels(turns, root):
+    """The functional levels, as far as everybody reads them."""
+    found = {"domain": LEVEL, "forest": LEVEL, "domainController": LEVEL}
+    for of, base in (("domain", root), ("forest", PARTITIONS + (root or b""))):
+        asked_for = searches.Search(1, base or b"", searches.BASE, filter=PRESENT, attributes=(BEHAVIOR,))
+        told = searches.found(await turns.ask(MESSAGE, 0, searches.written(asked_for))).entries
+        values = searches.entry_of(told[0]).values(BEHAVIOR.decode().lower()) if told else ()
+        found.update({of: value for value in values[:1]})
+    return found
 
 
 async def look_for(turns, base):

@@ -18,7 +18,7 @@ EXTENDED = re.compile(r"^(<[^>]*>;)*")
 class Schema(schemas.Schema):
     """What the records of a store say of attributes and classes."""
 
-    untold, lines, root, made = schemas.UNREAD, None, None, None
+    untold, lines, root, made, linked = schemas.UNREAD, None, None, None, None
 
     def __init__(self, records):
         super().__init__(records)
@@ -57,6 +57,11 @@ class Schema(schemas.Schema):
 
     def has_member_of(self):
         """Whether memberOf is the other end of the link member, and objects are told by their names."""
+        if self.linked is None:
+            self.linked = self.is_linked()
+        return self.linked
+
+    def is_linked(self):
         link, other = self.link_number("member"), self.link_number("memberof")
         is_link = self.syntax("member") == NAME and link % 2 == 0 and link > 0
         is_told = self.syntax("distinguishedname") == NAME and self.syntax("name") == TEXT

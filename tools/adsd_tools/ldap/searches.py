@@ -19,6 +19,9 @@ CUT = bytes.fromhex("65070a010b04000400")
 # answered is on the disk, whether it may be later or not.
 IDLE = (b"2.16.840.1.113730.3.4.2", *(b"1.2.840.113556.1.4." + one for one in
                                       (b"417", b"619", b"1339", b"1340", b"2064", b"2065")))
+# What a search asks for by a control and nobody here can do: what it is called. It is refused, critical or not, since
+# what would be answered without it isn't what was asked for.
+NOT_HERE = {b"1.2.840.113556.1.4.841": "DirSync", b"1.2.840.113556.1.4.528": "notification of changes"}
 
 
 class Refused(Exception):
@@ -140,12 +143,13 @@ def body_of(entry):
 
 @dataclass(frozen=True)
 class Found:
-    """What a search found: the bodies of its entries, and its end."""
+    """What a search found: the bodies of its entries, and its end, with controls that stand there."""
 
     entries: Tuple[bytes, ...] = ()
     code: int = messages.SUCCESS
     matched: bytes = b""
     text: bytes = b""
+    controls: Tuple[bytes, ...] = ()
 
     def weight(self):
         return sum(map(len, self.entries)) + 64 * len(self.entries)
@@ -177,6 +181,7 @@ def reply_of(number, answer, controls=()):
     numbered = ber.number(number)
     made = [ber.sequence(numbered, ber.octets(body, messages.ENTRY)) for body in answer.entries]
     end = ber.number(answer.code, ber.ENUMERATED), ber.octets(answer.matched), ber.octets(answer.text)
+    controls = (*controls, *answer.controls)
     behind = [ber.sequence(*controls, tag=messages.CONTROLS)] if controls else []
     return b"".join(made) + ber.sequence(numbered, ber.sequence(*end, tag=messages.SEARCH_DONE), *behind)
 

@@ -3,22 +3,25 @@
 import asyncio
 import socket
 import struct
+import time
 
 from adsd_tools.ask.answers import CODES
 from adsd_tools.forms import ber
 
-from . import extended, messages, peers, root_dse, searches, tls
+from . import budgets, extended, messages, peers, root_dse, searches, tls
 from .binding import Binder
 from .changes import Changes
 from .face import Face
 from .program import DROP, MESSAGE, TOKEN
+from .searches import Refused
+from .shares import PAYER
 from .turns import Stopped
 
 # A client that takes nothing of its answer for so long is let go, in seconds.
 STALLED = 30
 # So long what a client still sends is read away before its connection is closed, so that it gets what was sent to it.
 LINGER = 1.0
-STOPS = "the server stops"
+STOPS, GIVEN_AWAY = "the server stops", "others that haven't bound want the place of who is silent"
 NOBODY = ("000004DC: LdapErr: DSID-0C090728, comment: In order to perform this operation a successful bind must be "
           "completed on the connection., data 0, v1db1")
 ITEMS = {0: "add", 1: "delete", 2: "replace"}
@@ -93,7 +96,8 @@ class Session:
         self.peer, self.who, self.reading, self.starts_tls = f"{host}:{port}", None, None, False
         # Whether a request has come, and under which peer the client is counted as long as it hasn't bound.
         self.has_asked, self.counted, self.host = False, False, peers.peer_of(host)
-        self.is_near = peers.is_loopback(host)
+        self.is_near, self.silent_since, self.why_let_go = peers.is_loopback(host), time.monotonic(), ""
+        self.payer = bridge.turns.payer(("peer", self.host))
         self.token, self.face = b"", Face(self)
         self.changes, self.binder = Changes(self), Binder(self)
         writer.transport.set_write_buffer_limits(0)  # What is sent is sent, when it is waited for.
@@ -101,6 +105,7 @@ class Session:
     async def run(self):
         """Serves it to its end. It begins as nobody, whoever had its number before."""
         self.task = asyncio.current_task()
+        PAYER.set(self.payer)
         try:
             self.count(True)
             await self.become(None)
@@ -111,7 +116,7 @@ class Session:
         except Gone as why:
             self.writer.transport.abort()
             if str(why):
-                self.bridge.log.timed(f"{self.peer} let go: {why}")
+                self.bridge.log.seldom(f"{self.peer} let go: {why}")
         except (ConnectionError, asyncio.IncompleteReadError):
             pass
         finally:
@@ -122,13 +127,18 @@ class Session:
     def count(self, counts):
         """Counts the client among those of its peer that haven't bound, or no longer."""
         if counts != self.counted:
-            (self.bridge.peers.takes if counts else self.bridge.peers.leaves)(self.host)
+            (self.bridge.peers.takes if counts else self.bridge.peers.leaves)(self.host, self)
         self.counted = counts
 
-    def stop(self):
-        """Ends the wait for a request."""
+    def stop(self, why=""):
+        """Ends the wait for a request; why the client is let go, where others go on."""
+        self.why_let_go = why
         if self.reading is not None:
             self.reading.cancel()
+
+    def is_silent(self):
+        """Whether a request is waited for."""
+        return self.reading is not None and not self.reading.done() and not self.why_let_go
 
     async def become(self, who):
         """Gives the connection the token of somebody, or of whoever hasn't bound."""
@@ -136,23 +146,29 @@ class Session:
         self.face.forget()
         holder = who or self.bridge.names.anonymous
         self.token = holder.token if holder else b""
-        await self.bridge.turns.ask(*((TOKEN, self.number, holder.token) if holder else (MESSAGE, self.number, DROP)))
+        key = ("who", who.name.casefold()) if who else ("peer", self.host)
+        self.payer.account = self.bridge.turns.shares.account(key)
+        if holder:
+            await self.bridge.turns.ask(TOKEN, self.number, holder.token)
+        elif self.number in self.bridge.program.tokens:
+            await self.bridge.turns.ask(MESSAGE, self.number, DROP)
+
+    def patience(self):
+        """So many seconds a request is waited for: before a bind few, but where a line says what such clients have."""
+        is_first = not self.has_asked or (self.who is None and self.bridge.names.anonymous is None)
+        return self.bridge.first if is_first else self.bridge.idle
 
     async def next(self):
-        seconds = self.bridge.idle if self.has_asked else self.bridge.first
-        self.reading = asyncio.ensure_future(messages.one(self.reader, self.most()))
+        seconds, self.silent_since = self.patience(), time.monotonic()
+        self.reading = asyncio.ensure_future(messages.one(self.reader, budgets.most_bytes(self)))
         await asyncio.wait({self.reading}, timeout=seconds)
         if not self.reading.done():
             self.reading.cancel()
             raise Gone(f"no request for {seconds} seconds")
         if self.reading.cancelled():
-            raise Stopped
+            raise Gone(self.why_let_go) if self.why_let_go else Stopped
         self.has_asked = True
         return self.reading.result()
-
-    def most(self):
-        """How many bytes a message may have."""
-        return messages.MOST if self.who else peers.MOST_UNBOUND
 
     async def step(self):
         """One request; whether another one may follow."""
@@ -161,13 +177,15 @@ class Session:
         except messages.NoMessage:
             return await self.leave(messages.PROTOCOL_ERROR, "what was sent is no message")
         except messages.TooLong:
-            before = "" if self.who else " before a bind"
-            return await self.leave(messages.PROTOCOL_ERROR, f"a message has at most {self.most()} bytes{before}")
+            told = f"{budgets.most_bytes(self)} bytes" + ("" if self.who else " before a bind")
+            return await self.leave(messages.PROTOCOL_ERROR, f"a message has at most {told}")
         message = messages.read(data)
         if not data or (message and message.operation == messages.UNBIND):
             return False
         try:
             reply = await self.answer(message, data)
+        except Refused as why:
+            reply = messages.refusal(message, why.code, why.text) if message else messages.notice(why.code, why.text)
         except Stopped:
             await self.send(messages.unavailable(message, STOPS))
             raise
@@ -211,7 +229,8 @@ class Session:
         if operation == messages.SEARCH:
             return await self.face.answer(message, data)
         if operation not in messages.CHANGES and operation != messages.COMPARE:
-            return await self.bridge.turns.ask(MESSAGE, self.number, data)
+            turns = self.bridge.turns
+            return await (turns.ask(MESSAGE, self.number, data) if message else turns.unread(self.number, data))
         reply = await self.changes.answer(message, data)
         if operation in messages.CHANGES and self.bridge.log.changes and not messages.is_notice(reply):
             self.note(message, reply)

@@ -17,7 +17,9 @@ OID = re.compile(rb"(?:OID\.)?([0-2](?:\.[0-9]+)+)", re.I)
 TYPE = re.compile(rb"((?:^|(?<!\\),)\s*)(?:OID\.)?([0-2](?:\.[0-9]+)+)(?=\s*=)", re.I)
 BY_NUMBER = re.compile(rb"\s*<(SID|GUID|WKGUID)=([^<>]*)>\s*", re.I)
 HEX = re.compile(rb"(?:[0-9A-Fa-f]{2})+")
-NAME, NO_NAME = "2.5.5.1", 34
+NAME, OCTETS, NO_NAME = "2.5.5.1", "2.5.5.10", 34
+# What is compared with a GUID, which may be a text.
+GUIDS = (b"objectguid", b"schemaidguid", b"attributesecurityguid")
 WELL_KNOWN = (b"wellKnownObjects", b"otherWellKnownObjects")
 # So many objects are looked up for one message.
 MOST_OBJECTS = 1000
@@ -118,14 +120,23 @@ class Speller:
             value = self.of_class(value)
         if self.is_other(value) and self.is_link(name):
             value = self.looked_up.get(value) or value
+        if tag in (items.EQUAL, items.LIKE) and name.lower() in GUIDS:
+            value = self.guid(name, value)
         return ber.sequence(ber.octets(name, kind), ber.octets(value, other), tag=tag)
+
+    def guid(self, name, value):
+        """The bytes of a GUID that is given by its text."""
+        text = value.decode("latin-1").strip("{}")
+        made = guid_of_text(text) if self.schema.syntax(name.decode("latin-1").lower()) == OCTETS else None
+        return value if made is None else made
 
     def is_link(self, name):
         return bool(self.schema) and self.schema.syntax(name.decode("latin-1").lower()) == NAME
 
     async def filter(self, filter_made):
         """A filter as the program reads it; where it is none, or too deep, it stays."""
-        marked = b"." in filter_made or b"ID=" in filter_made.upper()
+        upper = filter_made.upper()
+        marked = b"." in filter_made or b"ID=" in upper or any(name.upper() in upper for name in GUIDS)
         if not self.schema or not marked:
             return filter_made
         for value in set(re.findall(rb"<(?:SID|GUID|WKGUID)=[^<>]*>", filter_made, re.I)):
@@ -142,7 +153,10 @@ class Speller:
     async def search(self, search):
         """A search as the program reads it."""
         base, asked = await self.name(search.base), tuple(map(self.attribute, search.attributes))
-        return replace(search, base=base, attributes=asked, filter=await self.filter(search.filter))
+        made = base, asked, await self.filter(search.filter)
+        if made == (search.base, search.attributes, search.filter):
+            return search
+        return replace(search, base=made[0], attributes=made[1], filter=made[2])
 
     async def values(self, name, values):
         """The values of an attribute."""

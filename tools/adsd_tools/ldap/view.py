@@ -67,6 +67,8 @@ class View:
 
     def __init__(self, session, ask):
         self.session, self.bridge, self.ask = session, session.bridge, ask
+        # The last filter that was looked through for items that are rewritten, and these.
+        self.looked_through = b"", None
 
     async def found(self, search):
         """What the program finds."""
@@ -85,15 +87,21 @@ class View:
             raise Refused(searches.ADMIN_LIMIT, "what it is made of is more than one answer has")
         return found
 
-    async def values(self, search, name):
-        """The different values of an attribute in the scope of a search."""
-        asked = Search(search.number, search.base, search.scope, filter=items.present(name), attributes=(name,))
+    def about(self, search, name, narrow):
+        """A search for the values of an attribute in the scope of another one, of objects of which a filter is true."""
+        held = items.present(name) if narrow is None else items.all_of(narrow, items.present(name))
+        held = items.present(name) if items.is_deep(held) else held
+        return Search(search.number, search.base, search.scope, filter=held, attributes=(name,))
+
+    async def values(self, search, name, narrow=None):
+        """The different values of an attribute in the scope of a search, where a filter is true."""
+        asked = self.about(search, name, narrow)
         found = await self.whole(asked)
         return await beside(found.weight(), different, found, name.decode("latin-1").lower())
 
-    async def pairs(self, search, name):
+    async def pairs(self, search, name, narrow=None):
         """The names of the entries in the scope of a search that have an attribute, each with its values."""
-        asked = Search(search.number, search.base, search.scope, filter=items.present(name), attributes=(name,))
+        asked = self.about(search, name, narrow)
         found = await self.whole(asked)
         key = name.decode("latin-1").lower()
         return [(entry.name, entry.values(key)) for entry in map(searches.entry_of, found.entries)]

@@ -2,6 +2,7 @@
 
 import argparse
 import ipaddress
+import re
 import sys
 
 from adsd_tools.ask.requests import Line
@@ -15,6 +16,7 @@ ABOUT = "LDAP for clients over one `adsd serve STORE`, which it starts and ends.
 BEHIND = """
     adsd-ldap serve STORE --names FILE     serves the directory of a store on ldap://127.0.0.1:1389
     adsd-ldap name NAME [--user SID ..]    makes a line of the file of names, with a hash of the password
+    adsd-ldap passwords <LDIF >LDIF        makes of an export's passwords what --store-passwords checks binds by
 
 A line of the file of names has a name, a password or its hash, and what makes the token that the program judges by:
 
@@ -79,6 +81,13 @@ def reader(text):
         raise argparse.ArgumentTypeError(f"{text!r}: {why}") from None
 
 
+def host(text):
+    """A host's name, in the domain or whole."""
+    if not re.fullmatch("[A-Za-z0-9-]{1,63}(\\.[A-Za-z0-9-]{1,63})*", text):
+        raise argparse.ArgumentTypeError(f"{text!r} is no host's name")
+    return text
+
+
 def store(text):
     """The name of a store, which is UTF-8, as the program wants it."""
     try:
@@ -93,12 +102,14 @@ def words_of_clients(form):
     form.add_argument("--connections", metavar="N", type=count(1, MOST_CLIENTS), default=MOST_CLIENTS,
                       help="how many clients at once (%(default)s)")
     form.add_argument("--unbound", metavar="N", type=count(1, MOST_CLIENTS), default=128,
-                      help="how many clients of one peer at once that haven't bound (%(default)s)")
+                      help="how many clients of one peer at once that haven't bound; one more has the place of who "
+                           "has been silent longest (%(default)s)")
     form.add_argument("--first", metavar="SECONDS", type=count(1, 10**6), default=10,
-                      help="let a client go from whom no whole first request comes for so long (%(default)s)")
+                      help="let a client go that hasn't bound and from whom no whole request comes for so long "
+                           "(%(default)s)")
     form.add_argument("--delay", metavar="SECONDS", type=count(0, 10**3), default=16,
-                      help="how long the answer to a wrong password waits at most; the first of a peer waits for a "
-                           "quarter of a second, and each further one twice as long (%(default)s)")
+                      help="how long wrong passwords close an account at most: each behind the third for twice as "
+                           "long, from a quarter of a second on; 0 not at all (%(default)s)")
     form.add_argument("--idle", metavar="SECONDS", type=count(0, 10**6), default=900,
                       help="let a client go from whom no whole request comes for so long; 0 never (%(default)s)")
 
@@ -117,7 +128,8 @@ def words_of_serve(form):
     form.add_argument("--trust-names", action="store_true",
                       help="take any password of an account of the store that has no line; on loopback addresses alone")
     form.add_argument("--store-passwords", action="store_true",
-                      help="let accounts of the store bind that have no line, by the password that the store has")
+                      help="let accounts of the store bind that have no line, by the password that the store has: what "
+                           "scrypt makes of it, which this bridge stores in its place (`adsd-ldap passwords`)")
     form.add_argument("--reader", metavar="WORDS", type=reader, default=reader("user=SY groups=BA,AU,WD"),
                       help="the token by which accounts and groups are looked up (user=SY groups=BA,AU,WD)")
     form.add_argument("--no-ad-rules", dest="ad_rules", action="store_false",
@@ -130,6 +142,8 @@ def words_of_serve(form):
                       help="serve also where the reader doesn't read who is in some groups, so that tokens lack them")
     form.add_argument("--base", metavar="DN", type=str.encode,
                       help="the root's name, which the root DSE tells (found by the names that are DNs)")
+    form.add_argument("--host", metavar="NAME", type=host,
+                      help="what the root DSE calls this server (the machine's name, in the domain)")
     words_of_clients(form)
     form.add_argument("--steps", metavar="N", type=count(0, MOST_STEPS), default=200,
                       help="propagate by so many steps at a time, while no client waits and at least five times a "
@@ -162,12 +176,15 @@ def words_of_name(form):
 def parsed(arguments):
     form = Words(prog="adsd-ldap", description=ABOUT, epilog=BEHIND,
                  formatter_class=argparse.RawDescriptionHelpFormatter)
-    of_word = form.add_subparsers(dest="word", required=True, metavar="serve|name")
+    of_word = form.add_subparsers(dest="word", required=True, metavar="serve|name|passwords")
     serve = of_word.add_parser("serve", help="serves a store; serve --help has its words",
                                description="Serves a store to LDAP clients.")
     name = of_word.add_parser("name", help="makes a line of the file of names; name --help has its words",
                               description="Makes a line of the file of names. It asks for the password, or takes the "
                                           "first line of its input as one.")
+    of_word.add_parser("passwords", help="makes of an export's passwords what --store-passwords checks binds by",
+                       description="Copies LDIF, and writes in the place of each value of unicodePwd what scrypt makes "
+                                   "of it and of the object's objectGUID, else its objectSid; for `adsd load`.")
     words_of_serve(serve)
     words_of_name(name)
     asked = form.parse_args(arguments)
