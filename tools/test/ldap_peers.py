@@ -10,10 +10,10 @@ import threading
 import time
 
 from ldap_client import BOB, NAMES, REFUSED, SECONDS, Bridge, Client, Closed, ber
-from adsd_import.sids import sid_of_text
-from adsd_ldap.guesses import ENDING, FREE, Guesses
-from adsd_ldap.guesses import read as read_guesses
-from adsd_ldap.stretching import of_export, stretched
+from adsd_tools.forms.sids import sid_of_text
+from adsd_tools.ldap.guesses import ENDING, FREE, Guesses
+from adsd_tools.ldap.guesses import read as read_guesses
+from adsd_tools.ldap.stretching import of_export, stretched
 
 PROTOCOL = 2
 BOUND = "# bind: 0 success"

@@ -9,9 +9,9 @@ from ldap_filters import search_of, searched
 from ldap_peers import same
 from ldap_store import DAY, DOMAIN, GROUPS, HALF_AN_HOUR, ROOT, SCHEMA, UNIT, sid
 from ldap_who import ANN, EVE, Made
-from adsd_import.sids import text_of_guid
-from adsd_ldap.accounts import EPOCH
-from adsd_ldap.root_dse import CAPABILITIES
+from adsd_tools.forms.sids import text_of_guid
+from adsd_tools.ldap.accounts import EPOCH
+from adsd_tools.ldap.root_dse import CAPABILITIES
 
 BOB, STAFF, ALL = f"CN=Bob,{UNIT}", f"CN=staff,{GROUPS}", f"CN=all,{GROUPS}"
 DIRSYNC, NOTIFIES, EXTENDED, SCOPED = (b"1.2.840.113556.1.4." + one for one in (b"841", b"528", b"529", b"1504"))

@@ -7,9 +7,9 @@ import os
 import subprocess
 
 from ldap_client import PROGRAM, TOP
-from adsd_ask import words
-from adsd_import.sids import sid_of_text
-from adsd_ldap.stretching import stretched
+from adsd_tools.ask import words
+from adsd_tools.forms.sids import sid_of_text
+from adsd_tools.ldap.stretching import stretched
 
 ROOT = "DC=corp,DC=example"
 UNIT, GROUPS = f"OU=people,{ROOT}", f"OU=groups,{ROOT}"

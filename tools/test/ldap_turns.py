@@ -17,10 +17,10 @@ from ldap_face import asked
 from ldap_filters import search_of
 from ldap_load import PATIENCE, SEES
 from ldap_peers import LOOK, is_gone, same
-from adsd_ldap.program import MESSAGE, Ended
-from adsd_ldap.searches import Refused
-from adsd_ldap.shares import PAYER
-from adsd_ldap.turns import Stopped, Turns
+from adsd_tools.ldap.program import MESSAGE, Ended
+from adsd_tools.ldap.searches import Refused
+from adsd_tools.ldap.shares import PAYER
+from adsd_tools.ldap.turns import Stopped, Turns
 
 WRITERS, READS, ROUNDS, TIMES = (1, 2, 4, 8, 16), 12, 4, 10
 DONE, BUSY, LOST = "# modify: 0 success", 51, 52
