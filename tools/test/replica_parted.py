@@ -222,7 +222,7 @@ def released(world):
     world.wait("level", world.is_level)
     c.kill()
     c.adsd = other
-    wrong += stops(c, told, "upgrade", "To take a new release", begin=True)
+    wrong += stops(c, told, "upgrade", "docs/replicas-upgrade.md", begin=True)
     wrong += wrote(a, 2)
     status, said = world.command("upgrade", "--wait", "3", *words, good=False, adsd=other)
     wrong += same(status, 1) + has(said, "c at ") + has(said, "nothing was changed")

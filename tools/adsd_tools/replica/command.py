@@ -96,7 +96,7 @@ def do_status(asked):
 
 
 def do_health(asked):
-    status, lines = state.health(lambda: known_log(asked), asked.behind)
+    status, lines = state.health(lambda: known_log(asked), asked.lag)
     print("\n".join(map(shown, lines)))
     return status
 

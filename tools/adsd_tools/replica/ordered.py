@@ -114,7 +114,7 @@ class Ordered(Roster):
         mine = (self.release or b"none").decode()
         return Other(f"log {self.name} is of the release {release.decode('ascii', 'replace')}, and the program here of "
                      f"{mine}: two releases may answer one entry differently; run the log's release here, or take the "
-                     "log to this one by adsd-replica upgrade: docs/replicas.md, To take a new release")
+                     "log to this one by adsd-replica upgrade: docs/replicas-upgrade.md")
 
     # ---- beginning
 

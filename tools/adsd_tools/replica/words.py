@@ -178,8 +178,8 @@ def words_of_logs(word):
     status = word("status", "tells how far the log and the replicas are")
     status.add_argument("--json", action="store_true", help="as JSON")
     health = word("health", "tells what isn't well: status 0, 1 or 3")
-    health.add_argument("--behind", metavar="N", type=ldap.count(0, 10**9), default=1000,
-                        help="how many entries a replica may be behind (%(default)s)")
+    health.add_argument("--lag", metavar="N", type=ldap.count(0, 10**9), default=1000,
+                        help="how many entries a replica may lack (%(default)s)")
     forget = word("forget", "no longer keeps the log for a replica")
     forget.add_argument("name", metavar="NAME", type=name)
     upgrade = word("upgrade", "takes the log to the release of the program here, once all replicas are at its head")
