@@ -9,6 +9,7 @@ import os
 import re
 import secrets
 import stat
+from typing import BinaryIO, Iterable, Iterator, Optional, Union
 
 # What is written is as secret as the directory that it is of.
 MODE = 0o600
@@ -23,16 +24,16 @@ KINDS = ((stat.S_ISLNK, "a link"), (stat.S_ISFIFO, "a pipe"), (stat.S_ISDIR, "a 
          (stat.S_ISSOCK, "a socket"), (stat.S_ISBLK, "a disk"))
 
 
-def refused(path, why, number=errno.EEXIST):
+def refused(path: str, why: str, number: int = errno.EEXIST) -> OSError:
     return OSError(number, why, path)
 
 
-def pieces_of(opened):
+def pieces_of(opened: BinaryIO) -> Iterator[bytes]:
     """The bytes of an open file, piece by piece."""
     return iter(lambda: opened.read(PIECE), b"")
 
 
-def put(file, pieces):
+def put(file: int, pieces: Iterable[bytes]) -> None:
     """Writes all of some pieces to an open file."""
     for piece in pieces:
         left = memoryview(piece)
@@ -40,13 +41,15 @@ def put(file, pieces):
             left = left[os.write(file, left):]
 
 
-def stream_of(path):
+def stream_of(path: str) -> Optional[int]:
     """The number of the stream that a name is of; None where it is a file's."""
     found = STREAM.fullmatch(path)
-    return found and (STREAMS[found[1]] if found[1] else int(found[2]))
+    if not found:
+        return None
+    return STREAMS[found[1]] if found[1] else int(found[2])
 
 
-def kind_of(name, folder):
+def kind_of(name: str, folder: int) -> str:
     """How what has a name in a folder is to be treated: `new` where nothing has it, `file`, `device`, or the words for
     what isn't written to."""
     try:
@@ -58,7 +61,7 @@ def kind_of(name, folder):
     return "device" if stat.S_ISCHR(mode) else next(word for is_it, word in KINDS if is_it(mode))
 
 
-def makes_file(path):
+def makes_file(path: str) -> bool:
     """Whether `write` makes a file of a name, or would: it is no stream that is open here, and no device."""
     try:
         return stream_of(path) is None and not stat.S_ISCHR(os.stat(path, follow_symlinks=False).st_mode)
@@ -66,7 +69,7 @@ def makes_file(path):
         return True
 
 
-def begun(folder):
+def begun(folder: int) -> tuple[int, str]:
     """A new file in a folder, and its name, which nobody could know before."""
     while True:
         name = f".adsd-{secrets.token_hex(8)}"
@@ -76,7 +79,7 @@ def begun(folder):
             continue
 
 
-def moved(made, name, folder, new):
+def moved(made: str, name: str, folder: int, new: bool) -> None:
     """Gives a file that is whole its own name. A new one is linked there, which fails where the name was taken
     meanwhile, but on a system that has no links."""
     if new:
@@ -88,7 +91,7 @@ def moved(made, name, folder, new):
     os.rename(made, name, src_dir_fd=folder, dst_dir_fd=folder)
 
 
-def synced(folder):
+def synced(folder: int) -> None:
     """Syncs a folder, where the system does that."""
     try:
         os.fsync(folder)
@@ -97,7 +100,7 @@ def synced(folder):
             raise
 
 
-def whole(name, folder, pieces, new, durable):
+def whole(name: str, folder: int, pieces: Iterable[bytes], new: bool, durable: bool) -> None:
     """Makes a file of some pieces; on the disk, where that is asked for."""
     file, made = begun(folder)
     try:
@@ -117,7 +120,7 @@ def whole(name, folder, pieces, new, durable):
         synced(folder)
 
 
-def into(file, pieces):
+def into(file: int, pieces: Iterable[bytes]) -> None:
     """Writes to what is no file, and was opened for that; it is closed then."""
     try:
         put(file, pieces)
@@ -125,7 +128,8 @@ def into(file, pieces):
         os.close(file)
 
 
-def write(path, pieces, new=False, durable=True):
+def write(path: Union[str, "os.PathLike[str]"], pieces: Union[bytes, Iterable[bytes]], new: bool = False,
+          durable: bool = True) -> None:
     """Writes some pieces of bytes, or some bytes, as the file of a name, which is there whole or as before.
 
     A regular file that has the name is replaced; where a `new` one is asked for nothing may have it. A stream that is
@@ -156,7 +160,7 @@ def write(path, pieces, new=False, durable=True):
         raise OSError(fault.errno, fault.strerror, path) from None
 
 
-def copy(source, path):
+def copy(source: str, path: str) -> None:
     """Copies a file for a while, into a folder of one's own: it isn't synced. One that has the name is replaced."""
     with open(source, "rb") as opened:
         write(path, pieces_of(opened), durable=False)

@@ -6,7 +6,7 @@ isn't of the grammar is refused with the line, and nothing is passed over: a lin
 matters. Not proved."""
 
 import re
-from typing import Dict, List, NamedTuple, Optional, Tuple
+from typing import NamedTuple, Optional, TypeVar, Union
 
 from adsd_tools.forms.sids import guid_of_text, sid_of_text, text_of_guid, text_of_sid
 from adsd_tools.shown import line_of, text_of
@@ -20,12 +20,14 @@ KINDS = ("object", "attribute", "set", "right", "validated", "child")
 PRIVILEGES = {str(sum_of): sum_of for sum_of in range(8)}
 OUTCOMES = {"success": True, "failure": False}
 ENTRIES, ORIGINS = ("allow", "deny", "audit"), ("explicit", "inherited")
+# A line that ends with a name.
+Line = TypeVar("Line", "Decided", tuple[str, str])
 
 
 class Unread(Exception):
     """What the program printed isn't of its form: the command, and the line."""
 
-    def __init__(self, word, line, why="is no line of it"):
+    def __init__(self, word: str, line: Union[str, bytes], why: str = "is no line of it") -> None:
         super().__init__(f"adsd {word} printed what {why}: {line_of(line) or 'an empty line'}")
         self.line = line
 
@@ -43,7 +45,7 @@ class Granted(NamedTuple):
 
     kind: str
     name: str
-    codes: List[str]
+    codes: list[str]
 
 
 class Event(NamedTuple):
@@ -64,36 +66,36 @@ class Listing(NamedTuple):
     name: str
     owner: str
     group: str
-    dacl: List[str]
-    sacl: List[str]
+    dacl: list[str]
+    sacl: list[str]
 
-    def entries(self):
+    def entries(self) -> list[str]:
         return self.dacl[1:]
 
 
-def lines(word, said):
+def lines(word: str, said: bytes) -> list[str]:
     """The lines of what a command printed."""
     if said and not said.endswith(b"\n"):
         raise Unread(word, said.rpartition(b"\n")[2], "ends within a line")
     return text_of(said).split("\n")[:-1]
 
 
-def number(text):
+def number(text: str) -> Optional[int]:
     """The number that a field is; None where it is none."""
     return int(text) if NUMBER.fullmatch(text) else None
 
 
-def sid(text):
+def sid(text: str) -> Optional[bytes]:
     """The bytes of the identifier that a field is, as the program writes it; None where it is none."""
     made = sid_of_text(text)
     return made if made is not None and text_of_sid(made) == text else None
 
 
-def is_decider(text):
+def is_decider(text: str) -> bool:
     return text in ("owner", "privilege") or bool(number(text))
 
 
-def once(word, found):
+def once(word: str, found: list[Line]) -> list[Line]:
     """The same, where no name stands twice."""
     names = set()
     for one in found:
@@ -103,7 +105,7 @@ def once(word, found):
     return found
 
 
-def who(said) -> List[Decided]:
+def who(said: bytes) -> list[Decided]:
     made, known = [], set()
     for line in lines("who", said):
         fields = line.split(" ", 2)
@@ -116,7 +118,7 @@ def who(said) -> List[Decided]:
     return once("who", made)
 
 
-def can(said) -> List[Tuple[str, str]]:
+def can(said: bytes) -> list[tuple[str, str]]:
     """What decides, and the name of an object, line by line."""
     made = []
     for line in lines("can", said):
@@ -127,7 +129,7 @@ def can(said) -> List[Tuple[str, str]]:
     return once("can", made)
 
 
-def token(said) -> List[Tuple[str, object]]:
+def token(said: bytes) -> list[tuple[str, Union[bytes, int]]]:
     """The words with the bytes of an identifier, and at the end the privileges with their sum."""
     made, found = [], lines("token", said)
     if len(found) < 4:
@@ -143,7 +145,7 @@ def token(said) -> List[Tuple[str, object]]:
     return made
 
 
-def counts(word, names, said) -> Dict[str, int]:
+def counts(word: str, names: tuple[str, ...], said: bytes) -> dict[str, int]:
     """The numbers of some lines, each behind its word, in order."""
     found = lines(word, said)
     if len(found) != len(names):
@@ -157,16 +159,16 @@ def counts(word, names, said) -> Dict[str, int]:
     return made
 
 
-def check(said) -> Dict[str, int]:
+def check(said: bytes) -> dict[str, int]:
     return counts("check", COUNTS, said)
 
 
-def settle(said) -> int:
+def settle(said: bytes) -> int:
     """How many steps were made."""
     return counts("settle", ("steps",), said)["steps"]
 
 
-def effective(said) -> List[Granted]:
+def effective(said: bytes) -> list[Granted]:
     made = []
     for line in lines("effective", said):
         kind, _, rest = line.partition(" ")
@@ -177,7 +179,7 @@ def effective(said) -> List[Granted]:
     return made
 
 
-def audit(said) -> List[Event]:
+def audit(said: bytes) -> list[Event]:
     made = []
     for line in lines("audit", said):
         fields = line.split(" ", 6)
@@ -191,13 +193,13 @@ def audit(said) -> List[Event]:
     return made
 
 
-def is_entry(line):
+def is_entry(line: str) -> bool:
     """Whether a line of `list` is an entry's. The name of a type may have blanks, so fields count from both ends."""
     fields = line.split(" ")
     return len(fields) >= 7 and fields[0] in ENTRIES and sid(fields[1]) is not None and fields[-1] in ORIGINS
 
 
-def object_named(line):
+def object_named(line: str) -> str:
     """The name in the first line of `list`."""
     word, _, name = line.partition(" ")
     if word != "object" or not name:
@@ -205,29 +207,31 @@ def object_named(line):
     return name
 
 
-def listed(said) -> Listing:
+def listed(said: bytes) -> Listing:
     """The lines of `list`."""
     found = lines("list", said)
     if len(found) < 5:
         raise Unread("list", said, "has too few lines")
-    name, parts, at = object_named(found[0]), [], 3
+    name, at = object_named(found[0]), 3
+    whose: list[str] = []
+    lists: list[list[str]] = []
     for word, line in zip(("owner", "group"), found[1:3]):
         given, _, value = line.partition(" ")
         if given != word or sid(value) is None:
             raise Unread("list", line)
-        parts.append(value)
+        whose.append(value)
     for word in ("dacl", "sacl"):
         if at >= len(found) or found[at] not in (f"{word} protected", f"{word} inherits"):
             raise Unread("list", found[min(at, len(found) - 1)])
         end = next((to for to in range(at + 1, len(found)) if not is_entry(found[to])), len(found))
-        parts.append(found[at:end])
+        lists.append(found[at:end])
         at = end
     if at < len(found):
         raise Unread("list", found[at])
-    return Listing(name, *parts)
+    return Listing(name, whose[0], whose[1], lists[0], lists[1])
 
 
-def reason(word, said) -> str:
+def reason(word: str, said: bytes) -> Optional[str]:
     """Why a question has no answer, which one line says; None where what was said is about something else."""
     text = text_of(said)
     if not text.endswith("\n") or not (text[:-1] in REASONS or text.startswith(TOO_MANY)):

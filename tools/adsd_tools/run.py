@@ -5,6 +5,7 @@ import os
 import subprocess
 import sys
 import threading
+from typing import IO, Sequence, Union
 
 from adsd_tools.shown import shown, text_of
 
@@ -13,7 +14,7 @@ TOP = os.path.dirname(os.path.dirname(os.path.dirname(os.path.abspath(__file__))
 ADSD = os.environ.get("ADSD") or os.path.join(TOP, "adsd")
 
 
-def say(data):
+def say(data: bytes) -> None:
     """Hands on what was said on standard error."""
     for line in text_of(data).removesuffix("\n").split("\n") if data else ():
         try:
@@ -23,7 +24,8 @@ def say(data):
             return  # Where nobody takes the lines, the work goes on.
 
 
-def run(words, given=b"", tell=True):
+def run(words: Sequence[Union[str, bytes]], given: bytes = b"",
+        tell: bool = True) -> "subprocess.CompletedProcess[bytes]":
     """What a program makes of some words and of what it is given, once it has ended; `tell` hands on what it says."""
     done = subprocess.run(words, input=given, stdout=subprocess.PIPE, stderr=subprocess.PIPE)
     if tell:
@@ -31,9 +33,9 @@ def run(words, given=b"", tell=True):
     return done
 
 
-def hand_on(pipe):
+def hand_on(pipe: IO[bytes]) -> threading.Thread:
     """Hands on what comes from a pipe, beside all else, until it ends."""
-    def every():
+    def every() -> None:
         with pipe:
             for line in pipe:
                 say(line)

@@ -107,11 +107,11 @@ def floods():
                 one = once(lambda: bridge.client("admin", "adm1n"))
                 same(one.ask(LOOK), SEES)
                 one.close()
+            once(lambda: same(len(came) > 20, True))
         finally:
             ends.set()
             flood.join()
         same([one.ask(LOOK) for one in bound], 6 * [SEES])
-        same(len(came) > 20, True)
 
 
 def once(made):

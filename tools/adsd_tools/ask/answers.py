@@ -2,6 +2,7 @@
 
 import base64
 import struct
+from typing import Iterator, Optional
 
 from adsd_tools.forms import ber
 from adsd_tools.forms import descriptor as descriptors
@@ -25,31 +26,30 @@ class Broken(Exception):
     """Bytes that are no answers."""
 
 
-def entry_text(entry):
+def entry_text(entry: descriptors.Entry) -> str:
     kind = (OBJECT_KINDS if entry.object or entry.inherited else KINDS)[entry.kind]
     flags = "".join(name for bit, name in FLAGS.items() if entry.flags & bit)
     guids = [text_of_guid(guid) if guid else "" for guid in (entry.object, entry.inherited)]
     return "(" + ";".join([kind, flags, "".join(codes(entry.mask)), *guids, text_of_sid(entry.sid)]) + ")"
 
 
-def list_text(acl):
+def list_text(acl: descriptors.Acl) -> str:
     return ("P" if acl.protected else "") + "".join(map(entry_text, acl.entries))
 
 
-def descriptor_text(data):
+def descriptor_text(data: bytes) -> Optional[str]:
     """A descriptor's parts as SDDL, or None where the bytes are none."""
     try:
-        made = descriptors.read(data)
+        made, _ = descriptors.read(data)
     except (descriptors.Unreadable, struct.error, IndexError):
         return None
-    made = made[0] if isinstance(made, tuple) else made
     text = f"O:{text_of_sid(made.owner)}" if made.owner else ""
     text += f"G:{text_of_sid(made.group)}" if made.group else ""
     text += f"D:{list_text(made.dacl)}" if made.dacl else ""
     return text + (f"S:{list_text(made.sacl)}" if made.sacl else "")
 
 
-def value_line(name, value):
+def value_line(name: str, value: bytes) -> str:
     if name.lower() == "ntsecuritydescriptor":
         text = descriptor_text(value)
         if text is not None:
@@ -60,17 +60,17 @@ def value_line(name, value):
     return f"{name}: {value.decode()}" if plain else f"{name}:: {base64.b64encode(value).decode()}"
 
 
-def entry_lines(body):
+def entry_lines(body: bytes) -> list[str]:
     (_, dn), (_, attributes) = ber.parts(body)
     lines = [value_line("dn", dn)]
     for _, held in ber.parts(attributes):
-        (_, name), (_, values) = ber.parts(held)
-        found, name = [value for _, value in ber.parts(values)], shown(text_of(name))
+        (_, named), (_, values) = ber.parts(held)
+        found, name = [value for _, value in ber.parts(values)], shown(text_of(named))
         lines += [value_line(name, value) for value in found] or [f"# {name} without values"]
     return lines + [""]
 
 
-def result_lines(tag, body):
+def result_lines(tag: int, body: bytes) -> list[str]:
     fields = ber.parts(body)
     code, matched, text = (field[1] for field in fields[:3])
     number = int.from_bytes(code, "big")
@@ -79,7 +79,7 @@ def result_lines(tag, body):
     return [shown(told + (f", {text_of(text)}" if text else "")), ""]
 
 
-def message_lines(body):
+def message_lines(body: bytes) -> list[str]:
     lines = []
     for _, message in ber.parts(body):
         (_, number), (tag, inner) = ber.parts(message)[:2]
@@ -90,7 +90,7 @@ def message_lines(body):
     return lines
 
 
-def frame_lines(kind, connection, body):
+def frame_lines(kind: int, connection: int, body: bytes) -> list[str]:
     if kind == 0x81:
         return [f"# token: taken for connection {connection}", ""]
     if kind == 0x82:
@@ -101,7 +101,7 @@ def frame_lines(kind, connection, body):
     return [f"# run: {first} objects changed, {second} protected", ""]
 
 
-def lines(data):
+def lines(data: bytes) -> Iterator[str]:
     """The lines of all answers, and at the end whether bytes are left that are no whole answer."""
     at = 0
     while at < len(data):

@@ -3,10 +3,14 @@
 import argparse
 import struct
 import sys
+from typing import Optional
 
+from adsd_tools import incomplete
 from adsd_tools.forms import ber
 from adsd_tools.forms.rights import codes
 from adsd_tools.forms.sids import text_of_sid
+from adsd_tools.rows.accounts import Accounts
+from adsd_tools.rows.store import Broken
 from adsd_tools.shown import Words, shown
 
 from . import answers, requests, words
@@ -36,7 +40,7 @@ blanks stand in quotes. A value behind base64:, sid: or sddl: is the bytes that 
 OWNER_AT, DACL_AT = 4, 16
 
 
-def parsed(arguments):
+def parsed(arguments: list[str]) -> argparse.Namespace:
     form = Words(prog="adsd-ask", description="Questions and streams as text.", epilog=ABOUT,
                  formatter_class=argparse.RawDescriptionHelpFormatter)
     words_of = form.add_subparsers(dest="word", required=True)
@@ -57,14 +61,10 @@ def parsed(arguments):
     return form.parse_args(arguments)
 
 
-def accounts_of(asked):
+def accounts_of(asked: argparse.Namespace) -> Optional[Accounts]:
     """The accounts that may be named, or None."""
     if asked.store is None:
         return None
-    from adsd_tools import incomplete
-    from adsd_tools.rows.accounts import Accounts
-    from adsd_tools.rows.store import Broken
-
     try:
         made = Accounts(asked.store)
     except Broken as why:
@@ -73,11 +73,11 @@ def accounts_of(asked):
     return made
 
 
-def part(data, at):
-    return struct.unpack_from("<I", data, at)[0]
+def part(data: bytes, at: int) -> int:
+    return int(struct.unpack_from("<I", data, at)[0])
 
 
-def access(asked):
+def access(asked: argparse.Namespace) -> None:
     """Asks the program for the granted rights; a text without an owner has the token's user as one."""
     accounts = accounts_of(asked)
     own = text_of_sid(words.sid(asked.user, accounts))
@@ -99,14 +99,14 @@ def access(asked):
         print(f"not granted: {' '.join(left)}")
 
 
-def given(name):
+def given(name: str) -> bytes:
     if name == "-":
         return sys.stdin.buffer.read()
     with open(name, "rb") as opened:
         return opened.read()
 
 
-def main(arguments):
+def main(arguments: list[str]) -> int:
     asked = parsed(arguments)
     try:
         if asked.word == "access":

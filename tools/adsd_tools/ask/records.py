@@ -3,6 +3,7 @@
 import base64
 import re
 import struct
+from typing import Iterable, Iterator
 
 from adsd_tools.forms import ber
 from adsd_tools.run import ADSD, run
@@ -15,32 +16,32 @@ HEADER = struct.Struct(">BHI")
 FAULT = re.compile(r"line ([1-9][0-9]*) ([^\n]+)\n")
 
 
-def spelled(name, value):
+def spelled(name: str, value: bytes) -> str:
     """A line of a record, whatever its value."""
     return f"{name}:: {base64.b64encode(value).decode()}" if value else f"{name}:"
 
 
-def record(dn, kind, lines, controls=()):
+def record(dn: str, kind: str, lines: list[str], controls: Iterable[bytes] = ()) -> list[str]:
     """The lines of a record; its controls have no value and are critical."""
     asked = [f"control: {name.decode()} true" for name in controls]
     return [spelled("dn", dn.encode()), *asked, f"changetype: {kind}", *lines]
 
 
-def added(dn, attributes):
+def added(dn: str, attributes: Iterable[tuple[str, list[bytes]]]) -> list[str]:
     return record(dn, "add", [spelled(name, value) for name, values in attributes for value in values])
 
 
-def modified(dn, items):
+def modified(dn: str, items: list[tuple[str, str, list[bytes]]]) -> list[str]:
     """Items of a word, a name and values, in order."""
     return record(dn, "modify", [line for act, name, values in items
                                  for line in (f"{act}: {name}", *(spelled(name, value) for value in values), "-")])
 
 
-def deleted(dn, tree):
+def deleted(dn: str, tree: bool) -> list[str]:
     return record(dn, "delete", [], [TREE_DELETE] if tree else [])
 
 
-def renamed(dn, rdn, superior):
+def renamed(dn: str, rdn: str, superior: str) -> list[str]:
     """The old naming value goes."""
     behind = [spelled("newsuperior", superior.encode())] if superior else []
     return record(dn, "modrdn", [spelled("newrdn", rdn.encode()), "deleteoldrdn: 1", *behind])
@@ -49,12 +50,12 @@ def renamed(dn, rdn, superior):
 class Faulty(Wrong):
     """The first record that is none: its place among them, and the program's word for why."""
 
-    def __init__(self, place, why):
+    def __init__(self, place: int, why: str) -> None:
         super().__init__(f"no change record: {why}")
         self.place = place
 
 
-def place_of(records, line):
+def place_of(records: list[list[str]], line: int) -> int:
     """The record that this line, counted from 1, stands in."""
     for place, lines in enumerate(records):
         line -= len(lines) + 1
@@ -63,7 +64,7 @@ def place_of(records, line):
     return len(records) - 1
 
 
-def requests(records):
+def requests(records: list[list[str]]) -> list[tuple[bytes, list[bytes]]]:
     """The request of each record as an element, and its controls as elements."""
     if not records:
         return []
@@ -77,7 +78,7 @@ def requests(records):
     return [message_parts(body) for body in bodies(done.stdout)]
 
 
-def bodies(frames):
+def bodies(frames: bytes) -> Iterator[bytes]:
     at = 0
     while at < len(frames):
         size = HEADER.unpack_from(frames, at)[2]
@@ -85,7 +86,7 @@ def bodies(frames):
         yield frames[at - size : at]
 
 
-def message_parts(body):
+def message_parts(body: bytes) -> tuple[bytes, list[bytes]]:
     """A message without its number: the request, and the controls."""
     (_, message), = ber.parts(body)
     _, (tag, inner), *behind = ber.parts(message)

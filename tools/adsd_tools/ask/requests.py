@@ -3,8 +3,10 @@
 import base64
 import shlex
 import struct
+from typing import Callable, Optional, Union
 
 from adsd_tools.forms import ber, filters
+from adsd_tools.rows.accounts import Accounts
 
 from . import records, words
 from .words import Wrong
@@ -14,22 +16,23 @@ ACTS = ("add", "delete", "replace")
 SD_FLAGS = b"1.2.840.113556.1.4.801"
 
 
-def frame(kind, connection, body):
+def frame(kind: int, connection: int, body: bytes) -> bytes:
     return struct.pack(">BHI", kind, connection, len(body)) + body
 
 
-def control(name, value):
+def control(name: bytes, value: bytes) -> bytes:
     return ber.sequence(ber.octets(name), ber.truth(True), ber.octets(value))
 
 
-def message(number, request, controls):
+def message(number: int, request: bytes, controls: list[bytes]) -> bytes:
     return ber.sequence(ber.number(number), request, *([ber.sequence(*controls, tag=0xA0)] if controls else []))
 
 
 class Line:
     """A line: its word, its connection, and its `key=value` pairs in order, each of which is to be used."""
 
-    def __init__(self, text, split=lambda text: shlex.split(text, comments=True)):
+    def __init__(self, text: str,
+                 split: Callable[[str], list[str]] = lambda text: shlex.split(text, comments=True)) -> None:
         try:
             pieces = split(text)
         except ValueError as wrong:
@@ -44,7 +47,7 @@ class Line:
         if bare:
             raise Wrong(f"{bare[0]!r} has no =")
 
-    def take(self, key, default=None):
+    def take(self, key: str, default: Optional[str] = None) -> str:
         found = [pair for pair in self.pairs if pair[0] == key]
         if len(found) > 1:
             raise Wrong(f"{key} stands twice")
@@ -55,12 +58,12 @@ class Line:
         self.pairs.remove(found[0])
         return found[0][2]
 
-    def ended(self):
+    def ended(self) -> None:
         if self.pairs:
             raise Wrong(f"{self.word} has no {self.pairs[0][0]}")
 
 
-def value_of(text):
+def value_of(text: str) -> bytes:
     """The bytes of a value: text, or base64 behind `base64:`, or the bytes of an identifier behind `sid:`."""
     if text.startswith("base64:"):
         return base64.b64decode(text[7:], validate=True)
@@ -71,13 +74,13 @@ def value_of(text):
     return text.encode()
 
 
-def yes(text):
+def yes(text: str) -> bool:
     if text not in ("yes", "no"):
         raise Wrong(f"{text!r} is neither yes nor no")
     return text == "yes"
 
 
-def sd_control(line):
+def sd_control(line: Line) -> list[bytes]:
     parts = words.listed(line.take("sd", ""))
     unknown = [part for part in parts if part not in words.PARTS]
     if unknown:
@@ -86,7 +89,7 @@ def sd_control(line):
     return [control(SD_FLAGS, ber.sequence(ber.number(flags)))] if flags else []
 
 
-def search(line):
+def search(line: Line) -> tuple[bytes, list[bytes]]:
     controls = sd_control(line)
     scope = line.take("scope", "base")
     if scope not in SCOPES:
@@ -99,23 +102,24 @@ def search(line):
     return made, controls
 
 
-def compare(line):
+def compare(line: Line) -> tuple[bytes, list[bytes]]:
     pair = ber.sequence(ber.octets(line.take("attr").encode()), ber.octets(value_of(line.take("value"))))
     return ber.sequence(ber.octets(line.take("dn").encode()), pair, tag=0x6E), []
 
 
-def add(line):
+def add(line: Line) -> tuple[list[str], list[bytes]]:
     controls, dn = sd_control(line), line.take("dn")
-    found = {}
+    found: dict[str, list[bytes]] = {}
     for key, _, value in line.pairs:
         found.setdefault(key, []).append(value_of(value))
     line.pairs = []
     return records.added(dn, found.items()), controls
 
 
-def modify(line):
+def modify(line: Line) -> tuple[list[str], list[bytes]]:
     controls, dn = sd_control(line), line.take("dn")
-    items, last = [], None
+    items: list[tuple[str, str, list[bytes]]] = []
+    last = None
     for key, _, value in line.pairs:
         act, sign, name = key.partition(":")
         if act not in ACTS or not sign:
@@ -129,15 +133,15 @@ def modify(line):
     return records.modified(dn, items), controls
 
 
-def delete(line):
+def delete(line: Line) -> tuple[list[str], list[bytes]]:
     return records.deleted(line.take("dn"), yes(line.take("tree", "no"))), []
 
 
-def rename(line):
+def rename(line: Line) -> tuple[list[str], list[bytes]]:
     return records.renamed(line.take("dn"), line.take("rdn"), line.take("superior", "")), []
 
 
-def unbind(line):
+def unbind(line: Line) -> tuple[bytes, list[bytes]]:
     return ber.octets(b"", tag=0x42), []
 
 
@@ -148,12 +152,12 @@ MESSAGES = (*OWN, *CHANGES)
 TOKEN_WORDS = ("owner", "primary", "groups", "deny", "restricting")
 
 
-def operation(line):
+def operation(line: Line) -> tuple[bytes, list[bytes]]:
     """The request of a line of a message, and its controls."""
     if line.word in OWN:
-        made = OWN[line.word](line)
+        request, controls = OWN[line.word](line)
         line.ended()
-        return made
+        return request, controls
     record, controls = CHANGES[line.word](line)
     line.ended()
     (request, own), = records.requests([record])
@@ -163,25 +167,27 @@ def operation(line):
 class Message:
     """What one line says of a message: its connection, its request or the record of its change, and its controls."""
 
-    def __init__(self, at, line):
-        self.at, self.connection, self.record, self.request = at, line.connection, None, None
-        made, self.controls = (OWN.get(line.word) or CHANGES[line.word])(line)
+    def __init__(self, at: int, line: Line) -> None:
+        self.at, self.connection = at, line.connection
+        self.record: list[str] = []
+        self.request = b""
         if line.word in OWN:
-            self.request = made
+            self.request, self.controls = OWN[line.word](line)
         else:
-            self.record = made
+            self.record, self.controls = CHANGES[line.word](line)
 
-    def frame(self, number):
+    def frame(self, number: int) -> bytes:
         return frame(2, self.connection, message(number, self.request, self.controls))
 
 
-def one_line(at, text, accounts=None):
+def one_line(at: int, text: str, accounts: Optional[Accounts] = None) -> Union[Message, bytes]:
     """The frame of a line, or what it says of a message. Tokens may name these accounts."""
     line = Line(text)
     if line.word == "token":
         given = {key: line.take(key, "") for key in TOKEN_WORDS}
         given["privileges_of"] = line.take("privileges", "")
-        made = frame(1, line.connection, words.token(line.take("user"), accounts=accounts, **given))
+        token = words.token(line.take("user"), accounts=accounts, **given)
+        made: Union[Message, bytes] = frame(1, line.connection, token)
     elif line.word == "steps":
         made = frame(3, 0, struct.pack(">I", line.number or 1_000_000))
     elif line.word == "run":
@@ -194,7 +200,7 @@ def one_line(at, text, accounts=None):
     return made
 
 
-def fill(messages):
+def fill(messages: list[Message]) -> None:
     """Gives the messages that are changes their requests, all in one call of the program."""
     changes = [message for message in messages if message.record]
     try:
@@ -205,7 +211,7 @@ def fill(messages):
         message.request, message.controls = request, controls + message.controls
 
 
-def lines_of(data):
+def lines_of(data: bytes) -> list[str]:
     """The lines of some bytes: each ends with LF, before which a CR may stand, and with nothing else."""
     made = []
     for at, line in enumerate(data.split(b"\n"), 1):
@@ -216,7 +222,7 @@ def lines_of(data):
     return made
 
 
-def frames(lines, accounts=None):
+def frames(lines: list[str], accounts: Optional[Accounts] = None) -> list[bytes]:
     """The frames of lines of text, whose tokens may name these accounts; empty lines and those that begin with # are
     passed over. Messages are numbered from 1."""
     made = []

@@ -2,7 +2,6 @@
 
 import struct
 from dataclasses import dataclass, field
-from typing import List
 
 from adsd_tools import lines
 from adsd_tools.run import run
@@ -28,28 +27,28 @@ class Told:
     user: bytes = b""
     owner: bytes = b""
     primary: bytes = b""
-    groups: List[bytes] = field(default_factory=list)
+    groups: list[bytes] = field(default_factory=list)
     privileges: int = 0
 
-    def data(self):
+    def data(self) -> bytes:
         """The token's bytes, of version 2 (docs/profile/identifiers.md#tokens)."""
         marked = b"".join(b"\x00" + group for group in self.groups)
         head = bytes([2, self.privileges]) + self.user + self.owner + self.primary
         return head + struct.pack(">H", len(self.groups)) + marked + struct.pack(">H", 0)
 
 
-def read(said):
+def read(said: bytes) -> Told:
     """The token of the command's lines."""
     made = Told()
     for word, value in lines.token(said):
-        if word == "group":
+        if word == "group" and isinstance(value, bytes):
             made.groups.append(value)
         else:
             setattr(made, word, value)
     return made
 
 
-def of_store(path, store, name, *more):
+def of_store(path: str, store: str, name: str, *more: str) -> Told:
     """The token of a name, with further identifiers, by the program at `path`; NoToken where it has none."""
     try:
         done = run([path, "token", store, name, *more], tell=False)

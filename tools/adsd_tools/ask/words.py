@@ -1,9 +1,11 @@
 """The words of a question: identifiers, rights, privileges and descriptors."""
 
 import struct
+from typing import Optional
 
 from adsd_tools.forms.rights import RIGHTS
 from adsd_tools.forms.sids import sid_of_alias, sid_of_text
+from adsd_tools.rows.accounts import Accounts
 from adsd_tools.run import ADSD, run
 from adsd_tools.shown import line_of
 
@@ -15,7 +17,7 @@ class Wrong(Exception):
     """A word that can't be meant, with why."""
 
 
-def sid(text, accounts=None):
+def sid(text: str, accounts: Optional[Accounts] = None) -> bytes:
     """The bytes of an identifier: numeric, or an alias that needs no domain, or the name of one of some accounts."""
     made = sid_of_text(text)
     if made is None:
@@ -31,21 +33,24 @@ def sid(text, accounts=None):
     return made
 
 
-def groups_of(text, user, accounts=None):
+def groups_of(text: str, user: bytes, accounts: Optional[Accounts] = None) -> list[bytes]:
     """The bytes of a list of groups; the word * is all groups of the user's that a store tells."""
-    made = []
+    made: list[bytes] = []
     for item in listed(text):
-        if item == "*" and accounts is None:
+        if item != "*":
+            made.append(sid(item, accounts))
+        elif accounts is None:
             raise Wrong("* is all groups of a user, and wants --store STORE")
-        made += accounts.groups(user) if item == "*" else [sid(item, accounts)]
+        else:
+            made += accounts.groups(user)
     return made
 
 
-def listed(text):
+def listed(text: str) -> list[str]:
     return [item for item in text.split(",") if item]
 
 
-def mask(text):
+def mask(text: str) -> int:
     """The rights of codes that stand one after the other, or of 0x and hexadecimal digits."""
     if text.lower().startswith("0x"):
         return int(text, 16)
@@ -56,14 +61,15 @@ def mask(text):
     return sum({RIGHTS[code] for code in codes})
 
 
-def privileges(text):
+def privileges(text: str) -> int:
     unknown = [name for name in listed(text) if name not in PRIVILEGES]
     if unknown:
         raise Wrong(f"{unknown[0]!r} is no privilege: {', '.join(PRIVILEGES)}")
     return sum(PRIVILEGES[name] for name in set(listed(text)))
 
 
-def token(user, owner="", primary="", groups="", deny="", restricting="", privileges_of="", accounts=None):
+def token(user: str, owner: str = "", primary: str = "", groups: str = "", deny: str = "", restricting: str = "",
+          privileges_of: str = "", accounts: Optional[Accounts] = None) -> bytes:
     """A token's bytes, of version 2, as docs/profile/identifiers.md has them."""
     own = sid(user, accounts)
     marked = [b"\x00" + group for group in groups_of(groups, own, accounts)]
@@ -74,13 +80,13 @@ def token(user, owner="", primary="", groups="", deny="", restricting="", privil
     return head + struct.pack(">H", len(marked)) + b"".join(marked) + struct.pack(">H", len(others)) + b"".join(others)
 
 
-def adsd(word, given):
+def adsd(word: str, given: bytes) -> bytes:
     done = run([ADSD, word], given)
     if done.returncode:
         raise Wrong(f"adsd {word} ended with {done.returncode}: {line_of(done.stdout)}")
     return done.stdout
 
 
-def descriptor(text):
+def descriptor(text: str) -> bytes:
     """The self-relative bytes of a descriptor's text, which `adsd sddl` makes of it."""
     return bytes.fromhex(adsd("sddl", text.encode()).split(b"\n")[0].decode())

@@ -1,5 +1,7 @@
 """The elements of BER that LDAP has (RFC 4511 5.1): definite lengths, as few bytes as they need."""
 
+from typing import Iterable
+
 SEQUENCE, SET, BOOLEAN, INTEGER, OCTETS, ENUMERATED = 0x30, 0x31, 0x01, 0x02, 0x04, 0x0A
 
 
@@ -7,7 +9,7 @@ class Broken(Exception):
     """Bytes that are no elements."""
 
 
-def element(tag, body):
+def element(tag: int, body: bytes) -> bytes:
     size = len(body)
     if size < 128:
         return bytes([tag, size]) + body
@@ -15,28 +17,28 @@ def element(tag, body):
     return bytes([tag, 0x80 | len(length)]) + length + body
 
 
-def number(value, tag=INTEGER):
+def number(value: int, tag: int = INTEGER) -> bytes:
     return element(tag, value.to_bytes(value.bit_length() // 8 + 1, "big", signed=True))
 
 
-def octets(value, tag=OCTETS):
+def octets(value: bytes, tag: int = OCTETS) -> bytes:
     return element(tag, value)
 
 
-def truth(value, tag=BOOLEAN):
+def truth(value: bool, tag: int = BOOLEAN) -> bytes:
     return element(tag, b"\xff" if value else b"\x00")
 
 
-def sequence(*parts, tag=SEQUENCE):
+def sequence(*parts: bytes, tag: int = SEQUENCE) -> bytes:
     return element(tag, b"".join(parts))
 
 
-def attribute(name, values):
+def attribute(name: str, values: Iterable[bytes]) -> bytes:
     """An attribute's name and its values."""
     return sequence(octets(name.encode()), sequence(*map(octets, values), tag=SET))
 
 
-def parts(data):
+def parts(data: bytes) -> list[tuple[int, bytes]]:
     """The elements that stand one after the other: pairs of tag and body."""
     found, at = [], 0
     while at < len(data):

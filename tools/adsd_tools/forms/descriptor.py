@@ -2,7 +2,7 @@
 
 import struct
 from dataclasses import dataclass, field
-from typing import List, Optional
+from typing import Callable, Optional, TypeVar, Union
 
 from .sids import OWNER_RIGHTS, sid_at, text_of_guid, text_of_sid
 
@@ -19,6 +19,7 @@ NOT_CARRIED = {
     19: ("central policy", True), 20: ("process trust label", True), 21: ("access filter", True),
 }
 WITH_TYPES = {5, 6, 7, 8, 11, 12, 15, 16}
+Part = TypeVar("Part")
 
 
 class Unreadable(Exception):
@@ -36,7 +37,7 @@ class Entry:
     inherited: Optional[bytes]
     sid: bytes
 
-    def text(self):
+    def text(self) -> str:
         types = [text_of_guid(guid) if guid else "" for guid in (self.object, self.inherited)]
         fields = [KIND_WORDS[self.kind], f"0x{self.flags:x}", f"0x{self.mask:x}", *types, text_of_sid(self.sid)]
         return "(" + ";".join(fields) + ")"
@@ -55,7 +56,7 @@ class Lost:
 class Acl:
     """A list of entries, and its mark."""
 
-    entries: List[Entry] = field(default_factory=list)
+    entries: list[Entry] = field(default_factory=list)
     protected: bool = False
 
 
@@ -70,11 +71,11 @@ class Descriptor:
     null: bool = False
 
 
-def entry_at(data, at, end):
+def entry_at(data: bytes, at: int, end: int) -> Union[Entry, Lost]:
     """The entry of some bytes from one place to another: an Entry, or what is lost of it."""
     kind, flags = data[at], data[at + 1]
     where = at + 8
-    types = [None, None]
+    types: list[Optional[bytes]] = [None, None]
     if kind in WITH_TYPES and end - at >= 12:
         bits = struct.unpack_from("<I", data, where)[0]
         where += 4
@@ -87,44 +88,48 @@ def entry_at(data, at, end):
         if sid is None or (kind in WITH_TYPES and end - at < 12):
             raise Unreadable("an entry is cut short or has no identifier")
         mask = struct.unpack_from("<I", data, at + 4)[0]
-        return Entry(CARRIED[kind], flags & 0xDF, mask, *types, sid)
+        return Entry(CARRIED[kind], flags & 0xDF, mask, types[0], types[1], sid)
     word, denies = NOT_CARRIED.get(kind, ("unknown", True))
     who = text_of_sid(sid) if sid else "-"
     denies = denies or sid == OWNER_RIGHTS
     return Lost(f"{kind} ({word}) for {who}", "entries of this type aren't in the profile", denies)
 
 
-def list_at(data, at, lost):
+def list_at(data: bytes, at: int, lost: list[Lost]) -> list[Entry]:
     """The list that begins at a place: its entries, and appended to `lost` what can't be carried over."""
     if len(data) - at < 8:
         raise Unreadable("a list is cut short")
     revision, _, size, count, _ = struct.unpack_from("<BBHHH", data, at)
     if revision not in (2, 3, 4) or size < 8 or at + size > len(data):
         raise Unreadable("a list has another revision or size")
-    entries, end, at = [], at + size, at + 8
+    entries: list[Entry] = []
+    end, at = at + size, at + 8
     for _ in range(count):
         length = struct.unpack_from("<H", data, at + 2)[0] if end - at >= 4 else 0
         if length < 8 or at + length > end:
             raise Unreadable("an entry has another size")
         found = entry_at(data, at, at + length)
-        (lost if isinstance(found, Lost) else entries).append(found)
+        if isinstance(found, Lost):
+            lost.append(found)
+        else:
+            entries.append(found)
         at += length
     return entries
 
 
-def read(data):
+def read(data: bytes) -> tuple[Descriptor, list[Lost]]:
     """The descriptor of some bytes, and the list of what can't be carried over."""
     if len(data) < 20 or data[0] != 1:
         raise Unreadable("it is shorter than a header or of another revision")
     _, _, control, *offsets = struct.unpack_from("<BBHIIII", data)
-    lost = []
+    lost: list[Lost] = []
 
-    def part(place, reader):
+    def part(place: int, reader: Callable[[int], Part]) -> Part:
         if not 0 < offsets[place] < len(data):
             raise Unreadable("a part lies outside")
         return reader(offsets[place])
 
-    def sid(at):
+    def sid(at: int) -> bytes:
         found = sid_at(data, at, len(data))
         if found is None:
             raise Unreadable("owner or group is no identifier")
@@ -141,7 +146,7 @@ def read(data):
     return made, lost
 
 
-def entry_bytes(entry):
+def entry_bytes(entry: Entry) -> bytes:
     types = [guid for guid in (entry.object, entry.inherited) if guid is not None]
     body = struct.pack("<I", entry.mask)
     if types:
@@ -150,7 +155,7 @@ def entry_bytes(entry):
     return struct.pack("<BBH", entry.kind + (5 if types else 0), entry.flags, 4 + len(body)) + body
 
 
-def list_bytes(acl):
+def list_bytes(acl: Acl) -> bytes:
     """The bytes of a list; Unreadable where it is longer than a list can be."""
     entries = [entry_bytes(entry) for entry in acl.entries]
     size = 8 + sum(map(len, entries))
@@ -160,11 +165,11 @@ def list_bytes(acl):
     return struct.pack("<BBHHH", 4 if with_types else 2, 0, size, len(entries), 0) + b"".join(entries)
 
 
-def written(descriptor):
+def written(descriptor: Descriptor) -> bytes:
     """The self-relative bytes of a descriptor with owner, group and discretionary list."""
-    control, made, offsets = 0x8404, b"", [0, 0, 0, 0]
-    control |= 0x1000 if descriptor.dacl.protected else 0
-    parts = [descriptor.owner, descriptor.group, None, list_bytes(descriptor.dacl)]
+    control, made, offsets, dacl = 0x8404, b"", [0, 0, 0, 0], descriptor.dacl or Acl()
+    control |= 0x1000 if dacl.protected else 0
+    parts = [descriptor.owner, descriptor.group, None, list_bytes(dacl)]
     if descriptor.sacl is not None:
         control |= 0x0810 | (0x2000 if descriptor.sacl.protected else 0)
         parts[2] = list_bytes(descriptor.sacl)

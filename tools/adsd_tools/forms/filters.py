@@ -1,6 +1,7 @@
 """Filters as text (RFC 4515), and as the elements of a search (RFC 4511 4.5.1)."""
 
 import re
+from typing import NoReturn, Optional
 
 from . import ber
 
@@ -14,20 +15,21 @@ class NoFilter(Exception):
 
 
 class Reader:
-    def __init__(self, text):
+    def __init__(self, text: str) -> None:
         self.text, self.at = text, 0
 
-    def fail(self, why):
+    def fail(self, why: str) -> NoReturn:
         raise NoFilter(f"{why} at {self.at} of {self.text!r}")
 
-    def take(self, piece):
+    def take(self, piece: str) -> None:
         if not self.text.startswith(piece, self.at):
             self.fail(f"no {piece!r}")
         self.at += len(piece)
 
-    def value(self, end="()"):
+    def value(self, end: str = "()") -> list[Optional[bytes]]:
         """The bytes up to a parenthesis, with `\\XX` as a byte; a star is kept as None."""
-        made, run = [], bytearray()
+        made: list[Optional[bytes]] = []
+        run = bytearray()
         while self.at < len(self.text) and self.text[self.at] not in end:
             letter = self.text[self.at]
             if letter == "*":
@@ -45,7 +47,7 @@ class Reader:
                 self.at += 1
         return made + [bytes(run)]
 
-    def item(self):
+    def item(self) -> bytes:
         found = ATTRIBUTE.match(self.text, self.at)
         if not found:
             self.fail("no attribute")
@@ -59,17 +61,18 @@ class Reader:
         value = self.value()
         if value == [b"", None, b""]:
             return ber.octets(found[0].encode(), tag=0x87)
-        if None in value:
-            return ber.sequence(name, pieces([piece for piece in value if piece is not None]), tag=0xA4)
-        return ber.sequence(name, ber.octets(value[0]), tag=0xA3)
+        given = [piece for piece in value if piece is not None]
+        if len(given) < len(value):
+            return ber.sequence(name, pieces(given), tag=0xA4)
+        return ber.sequence(name, ber.octets(given[0]), tag=0xA3)
 
-    def whole(self):
-        value = self.value()
-        if None in value:
+    def whole(self) -> bytes:
+        first, *others = self.value()
+        if first is None or others:
             self.fail("a star in a value that is compared")
-        return value[0]
+        return first
 
-    def filter(self):
+    def filter(self) -> bytes:
         self.take("(")
         sign = self.text[self.at : self.at + 1]
         if sign in CHOICES:
@@ -87,7 +90,7 @@ class Reader:
         return made
 
 
-def pieces(values):
+def pieces(values: list[bytes]) -> bytes:
     first, middle, last = values[0], values[1:-1], values[-1]
     made = [ber.octets(first, tag=0x80)] if first else []
     made += [ber.octets(piece, tag=0x81) for piece in middle if piece]
@@ -95,7 +98,7 @@ def pieces(values):
     return ber.sequence(*made)
 
 
-def read(text):
+def read(text: str) -> bytes:
     """The element of a filter."""
     reader = Reader(text)
     made = reader.filter()

@@ -5,10 +5,12 @@ from dataclasses import replace
 from adsd_tools.forms.descriptor import INHERIT_ONLY, INHERITED
 from adsd_tools.forms.sids import CREATOR_GROUP, CREATOR_OWNER
 
+from .descriptor import Entry
+
 CONTAINER_INHERIT, NO_PROPAGATE, AUDIT_BITS = 0x02, 0x04, 0xC0
 
 
-def copies(entry, of_class, owner, group):
+def copies(entry: Entry, of_class: bytes, owner: bytes, group: bytes) -> list[Entry]:
     """What a child of a class inherits of one entry of its parent's list."""
     if not entry.flags & CONTAINER_INHERIT:
         return []

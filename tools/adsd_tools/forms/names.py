@@ -60,7 +60,7 @@ def plain(text):
     return None if None in parts else Name(parts)
 
 
-def value_text(value):
+def value_text(value: bytes) -> bytes:
     """The written text of a value: what parts a name is escaped by itself, and what isn't to be printed is spelled."""
     made = bytearray()
     for at, byte in enumerate(value):

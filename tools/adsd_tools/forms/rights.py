@@ -6,7 +6,7 @@ RIGHTS = {"CC": 0x1, "DC": 0x2, "LC": 0x4, "SW": 0x8, "RP": 0x10, "WP": 0x20, "D
           "GW": 0x40000000, "GR": 0x80000000}
 
 
-def codes(value):
+def codes(value: int) -> list[str]:
     """The names of the rights of a mask."""
     named = [code for code, bit in RIGHTS.items() if value & bit]
     left = value & ~sum(RIGHTS[code] for code in named)

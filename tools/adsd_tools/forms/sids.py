@@ -6,6 +6,7 @@ An identifier is kept as its bytes ([MS-DTYP] 2.4.2.2), a GUID as its 16 bytes i
 import re
 import struct
 import uuid
+from typing import Optional
 
 NUMERIC = re.compile(r"S-1-(0|[1-9][0-9]*|0x[0-9a-f]{1,12})((?:-[0-9]+){1,15})", re.I)
 GUID = re.compile(r"[0-9a-f]{8}(?:-[0-9a-f]{4}){3}-[0-9a-f]{12}", re.I)
@@ -30,7 +31,7 @@ NEWER = {
 NEWER_OF_DOMAIN = {"RO": 498, "CN": 522, "AP": 525, "KA": 526, "EK": 527}
 
 
-def sid_of_text(text):
+def sid_of_text(text: str) -> Optional[bytes]:
     """The bytes of an identifier from its numeric text, or None."""
     found = NUMERIC.fullmatch(text)
     if not found:
@@ -42,28 +43,28 @@ def sid_of_text(text):
     return bytes([1, len(subs)]) + authority.to_bytes(6, "big") + struct.pack(f"<{len(subs)}I", *subs)
 
 
-def sid_at(data, at, end):
+def sid_at(data: bytes, at: int, end: int) -> Optional[bytes]:
     """The identifier that begins at a place of some bytes and ends before another, as bytes, or None."""
     if end - at < 12 or data[at] != 1 or not 1 <= data[at + 1] <= 15 or at + 8 + 4 * data[at + 1] > end:
         return None
     return data[at : at + 8 + 4 * data[at + 1]]
 
 
-def text_of_sid(sid):
+def text_of_sid(sid: bytes) -> str:
     """The numeric text of an identifier's bytes."""
     authority = int.from_bytes(sid[2:8], "big")
     head = str(authority) if authority < 2**32 else f"0x{authority:012x}"
     return f"S-1-{head}" + "".join(f"-{sub}" for sub in struct.unpack(f"<{sid[1]}I", sid[8:]))
 
 
-def below(domain, number):
+def below(domain: Optional[bytes], number: int) -> Optional[bytes]:
     """The identifier of a number below a domain's, or None where there is no domain or no room for one more."""
     if domain is None or domain[1] == 15:
         return None
     return bytes([1, domain[1] + 1]) + domain[2:] + struct.pack("<I", number)
 
 
-def sid_of_alias(name, domain):
+def sid_of_alias(name: str, domain: Optional[bytes]) -> tuple[Optional[bytes], bool]:
     """The identifier of an alias in SDDL and whether `adsd` knows the alias; (None, False) where there is none."""
     name = name.upper()
     for known, fixed, of_domain in ((True, KNOWN, KNOWN_OF_DOMAIN), (False, NEWER, NEWER_OF_DOMAIN)):
@@ -74,16 +75,24 @@ def sid_of_alias(name, domain):
     return None, False
 
 
-def guid_of_text(text):
+def guid_of_text(text: str) -> Optional[bytes]:
     """The 16 bytes of a GUID from its text of 36 characters, or None."""
     return uuid.UUID(text).bytes_le if GUID.fullmatch(text) else None
 
 
-def text_of_guid(guid):
+def text_of_guid(guid: bytes) -> str:
     return str(uuid.UUID(bytes_le=bytes(guid)))
 
 
-NOBODY = sid_of_text("S-1-0-0")
-OWNER_RIGHTS = sid_of_text("S-1-3-4")
-CREATOR_OWNER = sid_of_text("S-1-3-0")
-CREATOR_GROUP = sid_of_text("S-1-3-1")
+def known_sid(text: str) -> bytes:
+    """The bytes of an identifier whose text stands in the code."""
+    made = sid_of_text(text)
+    if made is None:
+        raise ValueError(f"{text} is no identifier")
+    return made
+
+
+NOBODY = known_sid("S-1-0-0")
+OWNER_RIGHTS = known_sid("S-1-3-4")
+CREATOR_OWNER = known_sid("S-1-3-0")
+CREATOR_GROUP = known_sid("S-1-3-1")

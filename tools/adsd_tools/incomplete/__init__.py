@@ -10,6 +10,7 @@ import os
 import stat
 import struct
 import sys
+from typing import Optional
 
 from adsd_tools.rows import store as rows
 from adsd_tools.shown import shown, text_of
@@ -21,18 +22,18 @@ MOST = 4000
 NAMED = struct.pack(">Q", len(ATTRIBUTE)) + ATTRIBUTE.encode()
 
 
-def sentence(lacked):
+def sentence(lacked: str) -> str:
     """The line that is shown, of what an export lacks."""
     return f"{WORD} the export lacked {lacked}; so rights and accounts may be missing here"
 
 
-def cut(text):
+def cut(text: str) -> str:
     """A text of others as one line of bounded length."""
     text = shown(text)
     return text if len(text) <= MOST else text[:MOST] + ".."
 
 
-def beside(path):
+def beside(path: str) -> Optional[str]:
     """The line that the file beside a store has; None where there is no such file. No link is followed, and a pipe
     isn't waited for: others may write in the folder."""
     try:
@@ -48,7 +49,7 @@ def beside(path):
     return cut(told if told.startswith(WORD) else f"{WORD} {told}")
 
 
-def within(path):
+def within(path: str) -> Optional[str]:
     """The line of what the store itself says; None where it says nothing, or can't be read, which its reader tells."""
     try:
         if not any(NAMED in data for data in rows.both(path) if data):
@@ -62,17 +63,17 @@ def within(path):
     return None
 
 
-def line(path):
+def line(path: str) -> Optional[str]:
     """`INCOMPLETE: ..` of a store that was made of an export that lacks what matters; else None."""
     return within(path) or beside(path)
 
 
-def lines(*paths):
+def lines(*paths: str) -> list[str]:
     """The lines of some stores, each once."""
     return list(dict.fromkeys(filter(None, map(line, paths))))
 
 
-def warn(*paths):
+def warn(*paths: str) -> list[str]:
     """The same, after they were said on standard error: for a companion whose output is data."""
     told = lines(*paths)
     sys.stderr.write("".join(f"{one}\n" for one in told))

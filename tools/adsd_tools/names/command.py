@@ -4,6 +4,7 @@ import argparse
 import base64
 import re
 import sys
+from typing import Iterator
 
 from adsd_tools import incomplete
 from adsd_tools.forms.sids import sid_of_text
@@ -28,9 +29,9 @@ KEPT = re.compile(r"[A-Za-z][A-Za-z0-9;.-]*:|[ \t]|object ")
 PLAIN = re.compile(r"([A-Za-z][A-Za-z0-9;.-]*):(?![:<]) *")
 
 
-def named(line, accounts):
+def named(line: str, accounts: Accounts) -> str:
     """A line with the names behind its identifiers."""
-    def behind(found):
+    def behind(found: "re.Match[str]") -> str:
         sid = sid_of_text(found[0])
         name = accounts.name(sid) if sid else None
         return f"{found[0]} <{name}>" if name else found[0]
@@ -38,9 +39,9 @@ def named(line, accounts):
     return line if KEPT.match(line) else SID.sub(behind, line)
 
 
-def blocks(lines):
+def blocks(lines: list[str]) -> Iterator[list[str]]:
     """The lines, each with those by which it goes on, as LDIF has it."""
-    block = []
+    block: list[str] = []
     for line in lines:
         if block and line[:1] != " ":
             yield block
@@ -49,7 +50,7 @@ def blocks(lines):
     yield block
 
 
-def printed(lines, accounts):
+def printed(lines: list[str], accounts: Accounts) -> list[str]:
     """A line and those by which it goes on, with nothing in them that a terminal obeys."""
     found = PLAIN.match(lines[0])
     if not found or not any(map(SPELLED.search, lines)):
@@ -58,11 +59,11 @@ def printed(lines, accounts):
     return [f"{found[1]}:: {base64.b64encode(value.encode('utf-8', 'surrogateescape')).decode()}"]
 
 
-def say(line):
+def say(line: str) -> None:
     sys.stderr.write(f"adsd-names: {shown(str(line))}\n")
 
 
-def parsed(arguments):
+def parsed(arguments: list[str]) -> argparse.Namespace:
     form = Words(prog="adsd-names", description=ABOUT, epilog=STATUSES,
                  formatter_class=argparse.RawDescriptionHelpFormatter)
     form.add_argument("store", metavar="STORE", help="the store, as `adsd` is given it")
@@ -72,7 +73,7 @@ def parsed(arguments):
     return form.parse_args(arguments)
 
 
-def given(file):
+def given(file: str) -> list[str]:
     """The lines of the text, all read before the store is, so that the program in front of it has ended."""
     if file == "-":
         data = sys.stdin.buffer.read()
@@ -82,7 +83,7 @@ def given(file):
     return [line.removesuffix("\r") for line in text_of(data).split("\n")]
 
 
-def main(arguments):
+def main(arguments: list[str]) -> int:
     """Runs the command; the status."""
     asked = parsed(arguments)
     try:

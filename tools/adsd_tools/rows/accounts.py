@@ -2,9 +2,10 @@
 
 import os
 import struct
+from typing import Iterator, Optional
 
 from adsd_tools.forms.known import OF_DOMAIN, WELL_KNOWN
-from adsd_tools.forms.sids import below, sid_at, sid_of_text, text_of_sid
+from adsd_tools.forms.sids import below, known_sid, sid_at, text_of_sid
 from adsd_tools.shown import shown, text_of
 
 from . import store
@@ -24,7 +25,7 @@ class Accounts:
 
     Ambiguous = Ambiguous
 
-    def __init__(self, path):
+    def __init__(self, path: str) -> None:
         if not os.path.exists(path):
             raise store.Broken("there is no such file")
         try:
@@ -32,7 +33,10 @@ class Accounts:
             self.schema = Schema(self.directory.records)
         except (LookupError, ValueError, struct.error):
             raise store.Broken("its rows can't be read") from None
-        self.sids, self.of_sid = {}, {}
+        self.sids: dict[int, bytes] = {}
+        self.of_sid: dict[bytes, int] = {}
+        # The groups above an object, once they are asked for.
+        self.above: Optional[dict[int, set[int]]] = None
         place = self.schema.of_attribute.get("objectsid")
         if place is not None and self.schema.attributes[place].text("attributeSyntax") == SID_SYNTAX:
             for number, one in self.directory.objects.items():
@@ -44,21 +48,22 @@ class Accounts:
         domain = self.sids.get(ROOT)
         self.of_domain = {below(domain, rid): name for rid, name in OF_DOMAIN.items()} if domain else {}
 
-    def values(self, number, name):
-        return self.directory.objects[number].values.get(self.schema.of_attribute.get(name.lower()), [])
+    def values(self, number: int, name: str) -> list[bytes]:
+        place = self.schema.of_attribute.get(name.lower())
+        return [] if place is None else self.directory.objects[number].values.get(place, [])
 
-    def names_of(self, number):
+    def names_of(self, number: int) -> list[str]:
         """What an object may be called: the name of its account, where it has one, and the first part of its name."""
         texts = [*self.values(number, "sAMAccountName")[:1], self.directory.objects[number].naming]
         return [text_of(text) for text in texts]
 
-    def name(self, sid):
+    def name(self, sid: bytes) -> Optional[str]:
         """What an identifier is called, on one line; None where it is nothing but its text."""
         number, text = self.of_sid.get(bytes(sid)), text_of_sid(sid)
         own = self.names_of(number)[0] if number is not None else text
         return shown(own) if own != text else WELL_KNOWN.get(text) or self.of_domain.get(bytes(sid))
 
-    def sid(self, name):
+    def sid(self, name: str) -> Optional[bytes]:
         """The identifier of the account of a name, whatever its case: by the names of accounts, then by the first parts
         of names. None where nobody has it."""
         wanted = name.casefold()
@@ -72,16 +77,17 @@ class Accounts:
                 return self.sids[found[0]]
         return None
 
-    def groups(self, sid):
+    def groups(self, sid: bytes) -> list[bytes]:
         """The identifiers of all groups of the store that somebody is in, directly or by others, by `member` and by
         primaryGroupID, in the order of the store; and behind them those of everybody, whose groups count too."""
-        if not hasattr(self, "above"):
+        if self.above is None:
             self.above = {}
             for number in self.directory.objects:
                 for value in self.values(number, "member"):
                     self.above.setdefault(int.from_bytes(value, "big"), set()).add(number)
-        everybody = [sid_of_text(text) for text in EVERYBODY]
-        found, todo = set(), [self.of_sid[one] for one in (bytes(sid), *everybody) if one in self.of_sid]
+        everybody = [known_sid(text) for text in EVERYBODY]
+        found: set[int] = set()
+        todo = [self.of_sid[one] for one in (bytes(sid), *everybody) if one in self.of_sid]
         while todo:
             one = todo.pop()
             new = (self.above.get(one, set()) | self.primary(one)) - found
@@ -90,18 +96,18 @@ class Accounts:
         made = [self.sids[number] for number in sorted(found) if number in self.sids and self.sids[number] != bytes(sid)]
         return made + [one for one in everybody if one not in made]
 
-    def primary(self, number):
+    def primary(self, number: int) -> set[int]:
         """The primary group of an object, as a set of at most one number."""
         value, domain = next(iter(self.values(number, "primaryGroupID")), b""), self.sids.get(ROOT)
         if domain is None or not value.isdigit() or int(value) >= 2**32:
             return set()
         return {self.of_sid[sid] for sid in [below(domain, int(value))] if sid in self.of_sid}
 
-    def names(self):
+    def names(self) -> dict[int, str]:
         """The name of each object, as it is shown, by number."""
         return {number: text_of(name) for number, name in store.names_of(self.directory, self.schema.naming).items()}
 
-    def lines(self):
+    def lines(self) -> Iterator[str]:
         """A line of each account: its identifier, its name, and the name of its object, parted by tabs."""
         names = self.names()
         for number, sid in self.sids.items():

@@ -5,7 +5,7 @@ import os
 import stat
 import struct
 from dataclasses import dataclass, field
-from typing import Dict, List, Tuple
+from typing import BinaryIO, Callable, Iterator, Optional
 
 from adsd_tools.files import pieces_of, write
 from adsd_tools.forms.descriptor import Acl, Descriptor, Entry, Lost, Unreadable, entry_at
@@ -34,7 +34,7 @@ class Object:
     parent: int
     of_class: int
     naming: bytes
-    values: Dict[int, List[bytes]]
+    values: dict[int, list[bytes]]
     normal: bytes
 
 
@@ -43,37 +43,37 @@ class Directory:
     """What all rows say: objects by rising number, schema records, the pending list, the name above the root. `rows`
     has the bytes of the objects' rows."""
 
-    objects: Dict[int, Object] = field(default_factory=dict)
-    records: List[Tuple[int, List[Tuple[bytes, bytes]]]] = field(default_factory=list)
-    pending: List[Tuple[int, int]] = field(default_factory=list)
+    objects: dict[int, Object] = field(default_factory=dict)
+    records: list[tuple[int, list[tuple[bytes, bytes]]]] = field(default_factory=list)
+    pending: list[tuple[int, int]] = field(default_factory=list)
     suffix: bytes = b""
-    rows: Dict[int, bytes] = field(default_factory=dict)
+    rows: dict[int, bytes] = field(default_factory=dict)
 
 
 class Bytes:
     """Numbers and texts of some bytes, one after the other."""
 
-    def __init__(self, data):
+    def __init__(self, data: bytes) -> None:
         self.data, self.at = data, 0
 
-    def number(self, size):
+    def number(self, size: int) -> int:
         if self.at + size > len(self.data):
             raise Broken("a row is cut short")
         self.at += size
         return int.from_bytes(self.data[self.at - size : self.at], "big")
 
-    def text(self):
+    def text(self) -> bytes:
         size = self.number(8)
         if self.at + size > len(self.data):
             raise Broken("a row is cut short")
         self.at += size
         return self.data[self.at - size : self.at]
 
-    def rest(self):
+    def rest(self) -> bytes:
         return self.data[self.at :]
 
 
-def opened(path):
+def opened(path: str) -> BinaryIO:
     """A file of a store, open to be read: a regular one, and by no link of another user, who would choose what is
     read."""
     link = os.lstat(path)
@@ -87,7 +87,7 @@ def opened(path):
     return file
 
 
-def copied(store, place):
+def copied(store: str, place: str) -> str:
     """Copies the slots of a store into a folder; the path of the copy. Refused while another program has the store."""
     if not os.path.exists(store):
         raise Broken("there is no such file")
@@ -103,7 +103,7 @@ def copied(store, place):
     return made
 
 
-def slot(path):
+def slot(path: str) -> Optional[bytes]:
     """The bytes of a slot where it is open, else None."""
     if not os.path.exists(path):
         return None
@@ -112,7 +112,7 @@ def slot(path):
     return data if data[:1] == b"\x01" else None
 
 
-def head(path):
+def head(path: str) -> bytes:
     """What a slot begins with."""
     if not os.path.exists(path):
         return b""
@@ -120,7 +120,7 @@ def head(path):
         return file.read(HEAD)
 
 
-def both(store):
+def both(store: str) -> list[Optional[bytes]]:
     """The bytes of both slots where they are open, as some moment had them: a store that is rewritten meanwhile, which
     closes a gate or opens one, is read again."""
     while True:
@@ -130,7 +130,7 @@ def both(store):
             return found
 
 
-def bodies(store):
+def bodies(store: str) -> Iterator[bytes]:
     """The bodies of the live slot."""
     first, second = both(store)
     found = [first] if first is not None and first[5:6] == b"\x01" else [one for one in (first, second) if one]
@@ -148,7 +148,7 @@ def bodies(store):
         at += 9 + size
 
 
-def table(store, kinds=(OBJECT, PENDING, COUNTERS, RECORD)):
+def table(store: str, kinds: tuple[int, ...] = (OBJECT, PENDING, COUNTERS, RECORD)) -> dict[tuple[int, int], bytes]:
     """The row that stands at each kind and number, of rows of these kinds."""
     rows = {}
     for body in bodies(store):
@@ -173,18 +173,18 @@ def table(store, kinds=(OBJECT, PENDING, COUNTERS, RECORD)):
     return rows
 
 
-def record_of(row):
+def record_of(row: bytes) -> tuple[int, list[tuple[bytes, bytes]]]:
     """A schema record: its kind, and its lines."""
     given = Bytes(row)
     return given.number(1), [(given.text(), given.text()) for _ in range(given.number(8))]
 
 
-def records(store):
+def records(store: str) -> list[tuple[int, list[tuple[bytes, bytes]]]]:
     """The schema records of a store, in their order."""
     return [record_of(row) for _, row in sorted(table(store, (RECORD,)).items())]
 
 
-def object_of(number, row):
+def object_of(number: int, row: bytes) -> Object:
     """An object of its row."""
     try:
         parent, of_class, size = OBJECT_HEAD.unpack_from(row)
@@ -206,7 +206,7 @@ def object_of(number, row):
     return Object(number, parent, of_class, naming, values, row[at:])
 
 
-def read(store, known=None):
+def read(store: str, known: Optional[Directory] = None) -> Directory:
     """The directory of a store. What was read of it before, `known`, is taken where the rows are the same."""
     made, old, rows = Directory(), known.objects if known else {}, known.rows if known else {}
     for (kind, number), row in sorted(table(store).items()):
@@ -228,7 +228,7 @@ def read(store, known=None):
     return made
 
 
-def entries_at(data, at):
+def entries_at(data: bytes, at: int) -> tuple[list[Entry], int]:
     """The entries of a list in normal bytes, and the place behind them."""
     count, at, made = int.from_bytes(data[at : at + 8], "big"), at + 8, []
     for _ in range(count):
@@ -241,11 +241,13 @@ def entries_at(data, at):
     return made, at
 
 
-def descriptor_of(data):
+def descriptor_of(data: bytes) -> Descriptor:
     """The descriptor of normal bytes."""
     try:
-        owner = sid_at(data, 1, len(data))
-        group = sid_at(data, 1 + len(owner), len(data))
+        owner = sid_at(data, 1, len(data)) or b""
+        group = sid_at(data, 1 + len(owner), len(data)) or b""
+        if not owner or not group:
+            raise Unreadable("no owner or group")
         dacl, at = entries_at(data, 1 + len(owner) + len(group))
         sacl, _ = entries_at(data, at)
     except (TypeError, struct.error, IndexError, Unreadable):
@@ -253,11 +255,11 @@ def descriptor_of(data):
     return Descriptor(owner, group, Acl(dacl, bool(data[0] & 1)), Acl(sacl, bool(data[0] & 2)))
 
 
-def names_of(directory, types):
+def names_of(directory: Directory, types: Callable[[int], str]) -> dict[int, bytes]:
     """The name of each object as bytes, by number; `types` gives the type of a class's names."""
     made, of, suffix = {}, {}, shown_bytes(directory.suffix)
 
-    def name(number):
+    def name(number: int) -> bytes:
         if number not in made:
             one = directory.objects[number]
             if one.of_class not in of:
