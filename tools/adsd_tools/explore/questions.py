@@ -92,16 +92,16 @@ class Questions:
         """The lines of property sets, extended rights and validated writes that apply to a class, in schema order."""
         chain = {self.schema.class_guid(one) for one in self.schema.chain(of_class)}
         names = self.schema.allowed_names(of_class)
-        for own, one in zip(self.schema.right_guids, self.schema.rights):
+        for own, one, title in zip(self.schema.right_guids, self.schema.rights, self.schema.right_titles):
             if not chain & {guid_of_text(text) for text in one.many("appliesTo")}:
                 continue
             kind = next((kind for kind, numbers in KINDS.items() if one.number("validAccesses") in numbers), None)
             if kind == "set":
                 inside = set(self.schema.in_set(of_class, own))
                 held = tuple(leaf for name, leaf in zip(names, leaves) if name in inside)
-                yield Question("set", one.text("cn"), OF_SET, guid + own, held)
+                yield Question("set", title, OF_SET, guid + own, held)
             elif kind:
-                yield Question(kind, one.text("cn"), RIGHTS["CR" if kind == "right" else "SW"], own)
+                yield Question(kind, title, RIGHTS["CR" if kind == "right" else "SW"], own)
 
     def below(self, of_class):
         """The places of the structural classes whose objects may stand below one of a class."""

@@ -1,5 +1,6 @@
 """What the schema of a directory says of types (docs/profile/schema.md): names of GUIDs, paths, allowed attributes."""
 
+import re
 from dataclasses import dataclass
 from typing import Iterator, Optional
 
@@ -46,6 +47,16 @@ def lines_of(pairs: list[tuple[bytes, bytes]]) -> Lines:
     return Lines(told)
 
 
+# What a line names a right by, where its cn is that: a word of printable characters of ASCII.
+TITLE = re.compile("[!-~]+")
+
+
+def title_of(right: Lines) -> str:
+    """How a line names a right (docs/profile/listings.md#list): by its cn where that is a word, else by its GUID."""
+    name, guid = right.text("cn"), guid_of_text(right.text("rightsGuid"))
+    return name if guid is None or name != "-" and TITLE.fullmatch(name) else text_of_guid(guid)
+
+
 class Schema:
     """Attributes, classes and rights by their places, and what they are called."""
 
@@ -59,6 +70,7 @@ class Schema:
         self.of_attribute = {name.lower(): at for at, name in enumerate(self.attribute_names)}
         self.of_class = {name.lower(): at for at, name in enumerate(self.class_names)}
         self.right_guids = [guid_of_text(one.text("rightsGuid")) for one in self.rights]
+        self.right_titles = [title_of(one) for one in self.rights]
         self.shown: dict[Optional[bytes], str] = {}
         for guid, name in self.all_types():
             self.shown.setdefault(guid, name)
@@ -68,7 +80,7 @@ class Schema:
         """Pairs of GUID and name: classes, then attributes, then rights, as a list shows them."""
         yield from ((one.guid("schemaIDGUID"), name) for one, name in zip(self.classes, self.class_names))
         yield from ((one.guid("schemaIDGUID"), name) for one, name in zip(self.attributes, self.attribute_names))
-        yield from ((guid, one.text("cn")) for guid, one in zip(self.right_guids, self.rights))
+        yield from zip(self.right_guids, self.right_titles)
 
     def type_name(self, guid: bytes) -> str:
         return self.shown.get(guid) or text_of_guid(guid)
@@ -130,6 +142,6 @@ class Schema:
         return self.is_confidential(name) and not self.is_unread(name)
 
     def right_guid(self, name: str, kinds: tuple[int, ...]) -> list[bytes]:
-        """The GUIDs of the rights of a name whose validAccesses is one of some numbers."""
-        return [guid for guid, one in zip(self.right_guids, self.rights)
-                if guid is not None and one.text("cn") == name and one.number("validAccesses") in kinds]
+        """The GUIDs of the rights that a line names so and whose validAccesses is one of some numbers."""
+        return [guid for guid, one, title in zip(self.right_guids, self.rights, self.right_titles)
+                if guid is not None and title == name and one.number("validAccesses") in kinds]
