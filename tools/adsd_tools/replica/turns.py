@@ -29,9 +29,9 @@ class LogTurns(Turns):
         self.applying, self.linear, self.patience = applying, options.reads == "linear", options.patience
         self.max_age, self.rates, self.counts = options.max_age, Rates(options.user_bytes), counts
         self.appender, self.heads, self.room, self.drains = None, None, None, False
-        # How many frames were asked for reading, which entry the change of a connection has to follow, and which name
-        # its request has.
-        self.reads, self.behind, self.names = 0, {}, {}
+        # How many frames each connection that judges a change asked for reading, which entry its change has to follow,
+        # and which name its request has.
+        self.reads, self.behind, self.names = {}, {}, {}
 
     async def ask(self, kind, connection, body, changes=False):
         """The body of an answer; of a change that of the own program to its entry. No other frame of a client that
@@ -43,7 +43,9 @@ class LogTurns(Turns):
             changes = message.operation in messages.CHANGES
         if changes:
             return await self.change(connection, body)
-        self.reads += kind == MESSAGE
+        if kind == MESSAGE:
+            for one in self.reads if connection == 0 else self.reads.keys() & {connection}:
+                self.reads[one] += 1
         return await super().ask(kind, connection, body)
 
     async def change(self, connection, body):
@@ -72,15 +74,15 @@ class LogTurns(Turns):
         """The answer to a change that the directory refuses, as it is at an entry that the log had when the change
         came, or at a later one; None where the log has to say. A refused message leaves the directory: so the answer is that
         of a log in which the change stands just there."""
-        if await self.asked(connection, message) is None:
+        if await self.refusal_here(connection, message) is None:
             return None
         try:
             is_level = await within(self.patience, self.reached())
         except Other:
             return None
-        return await self.asked(connection, message) if is_level else None
+        return await self.refusal_here(connection, message) if is_level else None
 
-    async def asked(self, connection, message):
+    async def refusal_here(self, connection, message):
         """The same, as the directory is here just now."""
         question = judging.of(message)
         if question is None:
@@ -96,10 +98,14 @@ class LogTurns(Turns):
         change is made, its entry has to follow the last one that was taken here."""
         for _ in range(TRIES):
             async with self.held(connection):
-                number, reads = self.applying.number(), self.reads
-                made = await judge()
-                if exact and self.reads > reads:
-                    self.behind[connection] = number
+                number = self.applying.number()
+                self.reads[connection] = 0
+                try:
+                    made = await judge()
+                    if exact and self.reads[connection]:
+                        self.behind[connection] = number
+                finally:
+                    del self.reads[connection]
             try:
                 return await send(*made)
             except Overtaken:
