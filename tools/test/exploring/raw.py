@@ -87,10 +87,12 @@ def run(tries):
             tries.check(any(wanted in text for text in found), f"{wanted} isn't told anywhere")
         number = served.get("find", q="gnp")[1]["found"][0]["n"]
         words = {"n": number, "kind": "right", "code": "CR"}
-        status, told = served.get("who", name=TOLD[3], **words)
+        status, told = served.get("who", name=f"{corp.GUID_OF_RIGHT}1", **words)
         tries.check(status == 200 and told["count"] == 3, f"who has a right with a hostile name: {status} {told}")
+        status, told = served.get("who", name=TOLD[3], **words)
+        tries.check(status == 404, f"a right that is told by its GUID, by its name: {status} {told}")
         status, told = served.get("who", name="twin\\E2\\81\\A6", **words)
-        tries.check(status == 400 and "alike" in told["error"], f"a right whose name looks like another's: {status} {told}")
+        tries.check(status == 200 and told["count"] == 2, f"a right whose name looks like another's: {status} {told}")
         status, told = served.get("who", name="re\u202eset\x1b[8m\x85\n", **words)
         tries.check(status == 404, f"a raw name: {status} {told}")
     finally:
