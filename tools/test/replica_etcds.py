@@ -110,10 +110,6 @@ def filled(world):
     return wrong + same(b.client().ask(READ), shown("room"))
 
 
-def small(world):
-    return enabled(world) + filled(world)
-
-
 def large(world):
     """A replica that was away takes sixty large entries in parts."""
     (a, b), client = world.replicas, world.replicas[0].client()
@@ -184,11 +180,6 @@ def stopped(world):
     put = {mark for entry in all_entries(world) for mark in notes.lost if mark.encode() in entry.frames[-1][1]}
     wrong += [f"{mark} was put, and not answered" for mark in sorted(put)[:5]]
     return wrong + differences(world, notes)
-
-
-def worn(world):
-    """What needs one member, and two replicas that look through the log every two seconds."""
-    return stopped(world) + large(world) + flipped(world)
 
 
 def by_keys(world):
