@@ -89,7 +89,9 @@ class Auditor:
         self.reach(label)
         self.browser.press(text)
         self.check(self.browser.until("const list = document.activeElement.parentElement.querySelector('[role=listbox]');"
-                                      "return list && !list.hidden && list.children.length"), f"{text} finds nothing")
+                                      "return list && !list.hidden && list.children.length && "
+                                      "list.children[0].textContent.toLowerCase().includes(arguments[0].toLowerCase())",
+                                      text), f"{text} finds nothing")
         self.browser.press("Enter")
 
     def select(self, label, text):
