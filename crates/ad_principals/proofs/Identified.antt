@@ -19,7 +19,7 @@ use Rattle.ad_dir_model.specs.Directory.{Directory}
 use Rattle.ad_dir_model.specs.Protection.{has}
 use Rattle.ad_dir_model.proofs.Finding.{of-live, at-of, at_number, at-not_live, found_first, none_found}
 use Rattle.ad_dir_model.proofs.EditLaws.{all_by}
-use Rattle.ad_principals.specs.Groups.{is_security_enabled, has_member}
+use Rattle.ad_principals.specs.Groups.{is_principal, is_security_enabled, has_member, Brings}
 use Rattle.ad_principals.specs.Membership.{is_group, is_group_of}
 use Rattle.ad_principals.proofs.Rising.{one_sid}
 
@@ -61,6 +61,13 @@ sid_live dir n is =
 pub live_by_sid : (dir : Directory) (n : ℕ) (sid : SidValue) → self_sid dir n ≡ Some sid → is_live dir.objects n ≡ true
 live_by_sid dir n sid is = sid_live dir n (ap is_some is)
 
+-- a principal has an identifier, and is live
+pub principal_has : (dir : Directory) (n : ℕ) → is_principal dir n ≡ true → is_some (self_sid dir n) ≡ true
+principal_has dir n is = (and_parts (is_some (self_sid dir n)) _ is).0
+
+pub principal_live : (dir : Directory) (n : ℕ) → is_principal dir n ≡ true → is_live dir.objects n ≡ true
+principal_live dir n is = sid_live dir n (principal_has dir n is)
+
 -- ---- the object of an identifier
 
 is_own : (sid : SidValue) (own : Option SidValue) → is_sid sid own ≡ true → own ≡ Some sid
@@ -93,6 +100,11 @@ with_sid_none dir sid n is own = by_found (find (λ (o : Object). is_sid sid (si
         (of-live dir.objects n (live_by_sid dir n sid own)))
         (ap (is_sid sid) own ∙ same_sid_laws.refl sid)
     by_found (Some o) e some = none-some o.number (sym some)
+
+-- an identifier without an object brings nothing
+pub none_brought : (dir : Directory) (sid other : SidValue) → with_sid dir sid ≡ None → Brings dir sid other → ⊥
+none_brought dir sid other none (inl is) = with_sid_none dir sid is.member none is.is_member
+none_brought dir sid other none (inr had) = with_sid_none dir sid had.number none had.own
 
 -- two objects of one identifier are one
 pub one_of_sid : (dir : Directory) (sid : SidValue) (m n : ℕ) → AreStanding dir.schema dir.objects → self_sid dir m

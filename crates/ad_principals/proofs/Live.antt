@@ -1,7 +1,7 @@
 -- What a text names is there.
 use Rattle.std.proofs.Common.{◌≡◌, ℕ, Bool, true, false, List, [], ◌∷◌, Option, Some, None, inl, inr, refl, sym, ap}
-use Rattle.std.proofs.Common.{subst, ◌∙◌}
-use Rattle.std.specs.Prelude.{nat_eq, filter, Result, Ok, Err, IfOk}
+use Rattle.std.proofs.Common.{◌+◌, take, drop, subst, ◌∙◌}
+use Rattle.std.specs.Prelude.{nat_eq, ◌==◌, if◌then◌else◌, position, filter, Result, Ok, Err, IfOk}
 use Rattle.std.specs.Prelude.{codes}
 use Rattle.std.specs.Option.{option_map_or}
 use Rattle.std.proofs.lemmas.Bool.{cases_Bool, or_cases, or_left, or_right, eq-eqb}
@@ -25,6 +25,7 @@ use Rattle.ad_dir_model.proofs.Named.{found_live}
 use Rattle.ad_principals.specs.declared.fault.NameFault.{NameFault}
 use Rattle.ad_principals.specs.declared.fault.NameFault.TheVariants as name_fault
 use Rattle.ad_principals.specs.Named.{has_text, numbers_with, only_one, account_named, or_no_object, named, is_memory}
+use Rattle.ad_principals.specs.Named.{is_domain_name, account_only, backslash, account_at, any_account}
 use Rattle.ad_principals.proofs.Identified.{has_numbers, with_sid_has, live_by_sid}
 
 -- ---- by the name of an account
@@ -73,6 +74,32 @@ account_live dir (Ok text) n is =
     (λ second. one_live dir (codes "userPrincipalName") text (Err name_fault.NoObject) n second (λ never. absurd cc))
 account_live dir (Err cause) n is = absurd cc
 
+-- ---- by the name of an account of the domain
+
+only_live : (dir : Directory) (text : Result Value ValueFault) (n : ℕ) → account_only dir text ≡ Ok n
+    → is_live dir.objects n ≡ true
+only_live dir (Ok text) n is = one_live dir (codes "sAMAccountName") text (Err name_fault.NoObject) n is
+    (λ never. absurd cc)
+only_live dir (Err cause) n is = absurd cc
+
+at_live : (dir : Directory) (text : List ℕ) (place n : ℕ) → account_at dir text place ≡ Ok n → is_live dir.objects n
+    ≡ true
+at_live dir text place n is = by_test (is_domain_name dir (normal_or_fault syntax.Unicode (take place text))) is
+  where
+    by_test : (b : Bool) → (if b then account_only dir (normal_or_fault syntax.Unicode (drop (place + 1) text))
+        else account_named dir (normal_or_fault syntax.Unicode text)) ≡ Ok n → is_live dir.objects n ≡ true
+    by_test true it = only_live dir (normal_or_fault syntax.Unicode (drop (place + 1) text)) n it
+    by_test false it = account_live dir (normal_or_fault syntax.Unicode text) n it
+
+any_live : (dir : Directory) (text : List ℕ) (n : ℕ) → any_account dir text ≡ Ok n → is_live dir.objects n ≡ true
+unfolding any_account
+any_live dir text n is = by_place (position (λ b. b == backslash) text) is
+  where
+    by_place : (at : Option ℕ) → option_map_or (account_at dir text) at
+        (account_named dir (normal_or_fault syntax.Unicode text)) ≡ Ok n → is_live dir.objects n ≡ true
+    by_place None it = account_live dir (normal_or_fault syntax.Unicode text) n it
+    by_place (Some place) it = at_live dir text place n it
+
 -- ---- any name
 
 some_found : (found : Option ℕ) (n : ℕ) → or_no_object found ≡ Ok n → found ≡ Some n
@@ -85,14 +112,14 @@ unfolding named
 named_live dir text n stands is = by_name (dn_of text) is
   where
     by_sid : (sid : Option SidValue) → option_map_or (λ (s : SidValue). or_no_object (with_sid dir s)) sid
-        (account_named dir (normal_or_fault syntax.Unicode text)) ≡ Ok n
+        (any_account dir text) ≡ Ok n
         → is_live dir.objects n ≡ true
-    by_sid None it = account_live dir (normal_or_fault syntax.Unicode text) n it
+    by_sid None it = any_live dir text n it
     by_sid (Some s) it = live_by_sid dir n s (with_sid_has dir s n stands (some_found (with_sid dir s) n it))
 
     by_name : (dn : Option Dn) → option_map_or (λ (d : Dn). or_no_object (found dir d.rdns)) dn
         (option_map_or (λ (s : SidValue). or_no_object (with_sid dir s)) (sid_of_text text)
-        (account_named dir (normal_or_fault syntax.Unicode text))) ≡ Ok n
+        (any_account dir text)) ≡ Ok n
         → is_live dir.objects n ≡ true
     by_name None it = by_sid (sid_of_text text) it
     by_name (Some d) it = found_live dir d.rdns n stands.rise (some_found (found dir d.rdns) n it)

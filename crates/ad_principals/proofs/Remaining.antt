@@ -1,5 +1,5 @@
 -- The identifiers of a set but for the user's, and how many they are.
-use Rattle.std.proofs.Common.{◌≡◌, ℕ, suc, ◌+◌, ◌<◌, ◌≤◌, Bool, true, false, List, [], ◌∷◌, length, inl, inr, refl}
+use Rattle.std.proofs.Common.{◌≡◌, Option, ℕ, suc, ◌+◌, ◌<◌, ◌≤◌, Bool, true, false, List, [], ◌∷◌, length, inl, inr, refl}
 use Rattle.std.proofs.Common.{sym, ap, subst, ◌∙◌, arith}
 use Rattle.std.specs.Prelude.{◌||◌, ◌&&◌, not, filter}
 use Rattle.std.specs.List.{AllByRecursion, IsDistinct}
@@ -9,8 +9,9 @@ use Rattle.std.proofs.lemmas.Map.Made.{length-le_from_is_member}
 use Rattle.ad_ids.specs.declared.token.Token.{Token}
 use Rattle.ad_ids.specs.SidValue.{SidValue, same_sid, contains_sid, same_sid_laws}
 use Rattle.ad_dir_model.specs.Directory.{Directory}
-use Rattle.ad_principals.specs.Groups.{first_groups, IsClosed}
-use Rattle.ad_principals.specs.Tokens.{is_before, SidsRise, IsTokenOf, HasTooManyGroups}
+use Rattle.ad_dir_model.specs.Identity.{self_sid}
+use Rattle.ad_principals.specs.Groups.{primary_of, first_groups, IsClosed}
+use Rattle.ad_principals.specs.Tokens.{is_before, SidsRise, IsTokenFrom, IsTokenOf, HasTooManyFrom, HasTooManyGroups}
 use Rattle.ad_principals.proofs.Rising.{one_sid, not_both}
 use Rattle.ad_principals.proofs.Sets.{member_has}
 
@@ -50,16 +51,15 @@ kept_first : (h c n : Bool) → (h ≡ true → n ≡ true) → (h || (c && n)) 
 kept_first true c n stays = sym (stays refl)
 kept_first false c n stays = refl
 
-pub contains_left : (user : SidValue) (xs : List SidValue) (sid : SidValue) → contains_sid (filter (is_other user) xs)
-    sid ≡ (contains_sid xs sid && is_other user sid)
-contains_left user [] sid = refl
-contains_left user (x ∷ xs) sid = elim (cases_Bool (same_sid x user)) [
-  | inl goes ↦ rw goes (contains_left user xs sid ∙ dropped_first (same_sid x sid) (contains_sid xs sid)
-      (is_other user sid)
-      (λ here. ap not (subst (λ (s : SidValue). same_sid s user ≡ true) (one_sid x sid here) goes)))
-  | inr stays ↦ rw stays (ap (λ (b : Bool). same_sid x sid || b) (contains_left user xs sid)
-      ∙ kept_first (same_sid x sid) (contains_sid xs sid) (is_other user sid)
-      (λ here. ap not (subst (λ (s : SidValue). same_sid s user ≡ false) (one_sid x sid here) stays)))
+pub contains_left : (test : SidValue → Bool) (xs : List SidValue) (sid : SidValue) → contains_sid (filter test xs) sid
+    ≡ (contains_sid xs sid && test sid)
+contains_left test [] sid = refl
+contains_left test (x ∷ xs) sid = elim (cases_Bool (test x)) [
+  | inl stays ↦ rw stays (ap (λ (b : Bool). same_sid x sid || b) (contains_left test xs sid)
+      ∙ kept_first (same_sid x sid) (contains_sid xs sid) (test sid)
+      (λ here. subst (λ (s : SidValue). test s ≡ true) (one_sid x sid here) stays))
+  | inr goes ↦ rw goes (contains_left test xs sid ∙ dropped_first (same_sid x sid) (contains_sid xs sid) (test sid)
+      (λ here. subst (λ (s : SidValue). test s ≡ false) (one_sid x sid here) goes))
 ]
 
 -- ---- how many are left
@@ -103,12 +103,12 @@ unfolding IsDistinct
 rising_distinct [] rise = tt
 rising_distinct (x ∷ xs) rise = (apart_behind x xs rise.0, rising_distinct xs rise.1)
 
-pub too_many : (dir : Directory) (number : ℕ) (extra : List SidValue) (t : Token) → HasTooManyGroups dir number extra
-    → IsTokenOf dir number extra t → ⊥
-too_many dir number extra t h is =
+pub too_many_from : (dir : Directory) (self : Option SidValue) (group : SidValue) (first : List SidValue) (t : Token)
+    → HasTooManyFrom dir self first → IsTokenFrom dir self group first t → ⊥
+too_many_from dir self group first t h is =
     let user : t.user ≡ h.user = same_Some t.user h.user (sym is.user ∙ h.is_user) in
-    let closed : IsClosed dir h.user (first_groups dir number extra) is.set
-    = subst (λ (u : SidValue). IsClosed dir u (first_groups dir number extra) is.set) user is.least.closed in
+    let closed : IsClosed dir h.user first is.set
+    = subst (λ (u : SidValue). IsClosed dir u first is.set) user is.least.closed in
     let within : (q : SidValue) → contains_sid h.groups q ≡ true → contains_sid t.groups q ≡ true = λ q there.
     is.groups q ∙ and_from (contains_sid is.set q) (not (same_sid q t.user)) (h.reached q there is.set closed)
     (ap not (ap (same_sid q) user ∙ h.others q there)) in
@@ -118,3 +118,8 @@ too_many dir number extra t h is =
     let few : length t.groups ≤ 1024 = is.few in
     let many : 1024 < length h.groups = h.many in
     absurd (omega (arith, fewer, few, many))
+
+pub too_many : (dir : Directory) (number : ℕ) (extra : List SidValue) (t : Token) → HasTooManyGroups dir number extra
+    → IsTokenOf dir number extra t → ⊥
+too_many dir number extra t h is =
+    too_many_from dir (self_sid dir number) (primary_of dir number) (first_groups dir number extra) t h is

@@ -1,10 +1,11 @@
 -- Sets of identifiers to which more are taken.
 use Rattle.std.proofs.Common.{◌≡◌, ℕ, zero, suc, ◌+◌, ◌<◌, ◌≤◌, Bool, true, false, List, [], ◌∷◌, ◌++◌, length}
-use Rattle.std.proofs.Common.{get_or, take, inl, inr, refl, sym, ap, subst, ◌∙◌, arith}
+use Rattle.std.proofs.Common.{Option, Some, None, map, get_or, take, inl, inr, refl, sym, ap, subst, ◌∙◌, arith}
 use Rattle.std.specs.Prelude.{◌||◌, ◌⊎◌}
-use Rattle.std.specs.List.{list_any}
+use Rattle.std.specs.List.{list_any, filter_map}
 use Rattle.std.proofs.lemmas.Bool.{cases_Bool, false≢true, or_cases, or_left, or_right}
-use Rattle.std.proofs.lemmas.List.{append_assoc, append-nil, take_more, take_all}
+use Rattle.std.proofs.lemmas.List.{append_assoc, append-nil, map-append, take_more, take_all}
+use Rattle.std.proofs.lemmas.List.Elements.{filter_map-append}
 use Rattle.std.proofs.lemmas.List.Folds.{list_any-append}
 use Rattle.indexmap.specs.IndexSet.{insert_key}
 use Rattle.ad_ids.specs.SidValue.{SidValue, same_sid, contains_sid, same_sid_laws}
@@ -151,6 +152,46 @@ take_sids sids i d first old new less t one =
         ≡ (contains_sid (take i sids) s || contains_sid (get_or sids i d ∷ []) s)
     whole s = ap (λ (xs : List SidValue). contains_sid xs s) (take_more sids i d less) ∙ has_append (take i sids)
         (get_or sids i d ∷ []) s
+
+-- ---- what values are, one by one
+
+is_value : {W : Type 0} (f : W → Option SidValue) (w : W) (s : SidValue) (o : Option SidValue) → f w ≡ o
+    → contains_sid (filter_map f (w ∷ [])) s ≡ true → f w ≡ Some s
+is_value f w s None e is = absurd (false≢true (rw e at is))
+is_value f w s (Some q) e is =
+    let same : (same_sid q s || false) ≡ true = rw e at is in
+    e ∙ ap Some (one_sid q s (one_of (same_sid q s) same))
+
+of_value : {W : Type 0} (f : W → Option SidValue) (w : W) (s : SidValue) → f w ≡ Some s
+    → contains_sid (filter_map f (w ∷ [])) s ≡ true
+of_value f w s e = rw e (or_left (same_sid s s) false (same_sid_laws.refl s))
+
+pub value_taken : {V W : Type 0} (f : W → Option SidValue) (g : V → W) (vs : List V) (i : ℕ) (d : V)
+    (first old new : List SidValue) → i < length vs
+    → Takes (λ s. contains_sid (filter_map f (map g (take i vs))) s ≡ true) first old
+    → Takes (λ s. f (g (get_or vs i d)) ≡ Some s) old new
+    → Takes (λ s. contains_sid (filter_map f (map g (take (i + 1) vs))) s ≡ true) first new
+value_taken f g vs i d first old new less t one =
+    takes_more (λ s. contains_sid (filter_map f (map g (take i vs))) s ≡ true) (λ s. f (g (get_or vs i d)) ≡ Some s)
+    (λ s. contains_sid (filter_map f (map g (take (i + 1) vs))) s ≡ true) first old new
+    (λ s is. whole s ∙ or_left (contains_sid (filter_map f (map g (take i vs))) s)
+    (contains_sid (filter_map f (g (get_or vs i d) ∷ [])) s) is)
+    (λ s is. whole s ∙ or_right (contains_sid (filter_map f (map g (take i vs))) s)
+    (contains_sid (filter_map f (g (get_or vs i d) ∷ [])) s) (of_value f (g (get_or vs i d)) s is))
+    (λ s is. elim (or_cases (contains_sid (filter_map f (map g (take i vs))) s)
+    (contains_sid (filter_map f (g (get_or vs i d) ∷ [])) s) (sym (whole s) ∙ is)) [
+      | inl before ↦ inl before
+      | inr last ↦ inr (is_value f (g (get_or vs i d)) s (f (g (get_or vs i d))) refl last)
+    ]) t one
+  where
+    whole : (s : SidValue) → contains_sid (filter_map f (map g (take (i + 1) vs))) s
+        ≡ (contains_sid (filter_map f (map g (take i vs))) s
+        || contains_sid (filter_map f (g (get_or vs i d) ∷ [])) s)
+    whole s =
+        ap (λ xs. contains_sid (filter_map f (map g xs)) s) (take_more vs i d less)
+        ∙ ap (λ ys. contains_sid (filter_map f ys) s) (map-append g (take i vs) (get_or vs i d ∷ []))
+        ∙ ap (λ sids. contains_sid sids s) (filter_map-append f (map g (take i vs)) (g (get_or vs i d) ∷ []))
+        ∙ has_append (filter_map f (map g (take i vs))) (filter_map f (g (get_or vs i d) ∷ [])) s
 
 pub take_sids_end : (sids : List SidValue) (i : ℕ) (first new : List SidValue) → length sids ≤ i
     → Takes (λ s. contains_sid (take i sids) s ≡ true) first new → Takes (λ s. contains_sid sids s ≡ true) first new

@@ -12,33 +12,12 @@ use Rattle.ad_dir_model.specs.Object.{no_sid}
 use Rattle.ad_dir_model.specs.Identity.{self_sid}
 use Rattle.ad_dir_model.specs.Directory.{Directory}
 use Rattle.ad_dir_model.specs.Protection.{has}
-use Rattle.ad_principals.specs.Groups.{is_security_enabled, has_member, IsIn, IsClosed}
-use Rattle.ad_ids.specs.WellKnown.{everyone, authenticated_users}
-use Rattle.ad_principals.specs.Groups.{IsLeast}
-use Rattle.ad_principals.specs.Membership.{is_group, is_group_of}
-use Rattle.ad_principals.specs.Reaching.{first_with, Takes, IsOfOne, IsReaching}
+use Rattle.ad_principals.specs.declared.members.Members.{Members}
+use Rattle.ad_principals.specs.Groups.{is_security_enabled, has_member, history_of, IsIn, Brings, IsClosed, IsLeast}
+use Rattle.ad_principals.specs.Membership.{listed, is_group, is_group_of, AreMembersOf}
+use Rattle.ad_principals.specs.Reaching.{Takes, IsOfOne, IsOfObject, IsReaching}
 use Rattle.ad_principals.proofs.Sets.{has_at, place_in, takes_keep, takes_from, takes_same, takes_more}
 use Rattle.ad_principals.proofs.Identified.{one_of_sid}
-
--- ---- the first groups
-
--- one test after the other
-takes_or : (p q : SidValue → Bool) (old mid new : List SidValue) → Takes (λ s. p s ≡ true) old mid
-    → Takes (λ s. q s ≡ true) mid new
-    → Takes (λ s. (p s || q s) ≡ true) old new
-takes_or p q old mid new = takes_more (λ s. p s ≡ true) (λ s. q s ≡ true) (λ s. (p s || q s) ≡ true) old mid new
-    (λ s is. or_left (p s) (q s) is) (λ s is. or_right (p s) (q s) is) (λ s is. or_cases (p s) (q s) is)
-
-pub first_taken : (primary : SidValue) (extra none one two three four : List SidValue) → none ≡ []
-    → Takes (λ s. same_sid everyone s ≡ true) none one → Takes (λ s. same_sid authenticated_users s ≡ true) one two
-    → Takes (λ s. same_sid primary s ≡ true) two three → Takes (λ s. contains_sid extra s ≡ true) three four
-    → Takes (λ s. contains_sid (first_with primary extra) s ≡ true) [] four
-first_taken primary extra none one two three four empty a b c d =
-    takes_or (same_sid everyone) (λ s. same_sid authenticated_users s || (same_sid primary s || contains_sid extra s))
-    [] one four
-    (subst (λ (old : List SidValue). Takes (λ s. same_sid everyone s ≡ true) old one) empty a)
-    (takes_or (same_sid authenticated_users) (λ s. same_sid primary s || contains_sid extra s) one two four b
-    (takes_or (same_sid primary) (contains_sid extra) two three four c d))
 
 -- ---- the identifiers of some objects
 
@@ -79,40 +58,63 @@ take_group_at dir ns i first old new less t one =
         ]
 
 -- those that the table has at an object are the groups that its identifier is in
-pub groups_are : (dir : Directory) (sid : SidValue) (n : ℕ) (groups : List ℕ) (old new : List SidValue)
-    → AreStanding dir.schema dir.objects
-    → self_sid dir n ≡ Some sid → ((group : ℕ) → has groups group ≡ is_group_of dir n group)
-    → Takes (IsOfOne dir groups) old new → Takes (IsIn dir sid) old new
-groups_are dir sid n groups old new stands own are = takes_same (IsOfOne dir groups) (IsIn dir sid) old new to from
-  where
-    to : (s : SidValue) → IsOfOne dir groups s → IsIn dir sid s
-    to s of =
-        let parts = and_parts (is_group dir of.number) (has_member dir of.number n) (sym (are of.number) ∙ of.there) in
-        let more = and_parts (is_some (self_sid dir of.number)) (is_security_enabled dir of.number) parts.0 in
-        record { group = of.number; member = n; is_group = of.own; is_member = own; enabled = more.1; names = parts.1 }
+in_of : (dir : Directory) (sid : SidValue) (n : ℕ) (groups : List ℕ) → self_sid dir n ≡ Some sid
+    → ((group : ℕ) → has groups group ≡ is_group_of dir n group) → (s : SidValue) → IsOfOne dir groups s
+    → IsIn dir sid s
+in_of dir sid n groups own are s of =
+    let parts = and_parts (is_group dir of.number) (has_member dir of.number n) (sym (are of.number) ∙ of.there) in
+    let more = and_parts (is_some (self_sid dir of.number)) (is_security_enabled dir of.number) parts.0 in
+    record { group = of.number; member = n; is_group = of.own; is_member = own; enabled = more.1; names = parts.1 }
 
-    from : (s : SidValue) → IsIn dir sid s → IsOfOne dir groups s
-    from s is =
-        let same : is.member ≡ n = one_of_sid dir sid is.member n stands is.is_member own in
-        record {
-          number = is.group;
-          there = are is.group ∙ and_from (is_group dir is.group) (has_member dir is.group n)
-              (and_from (is_some (self_sid dir is.group)) (is_security_enabled dir is.group) (ap is_some is.is_group)
-              is.enabled)
-              (subst (λ (m : ℕ). has_member dir is.group m ≡ true) same is.names);
-          own = is.is_group;
-        }
+of_in : (dir : Directory) (sid : SidValue) (n : ℕ) (groups : List ℕ) → AreStanding dir.schema dir.objects
+    → self_sid dir n ≡ Some sid → ((group : ℕ) → has groups group ≡ is_group_of dir n group) → (s : SidValue)
+    → IsIn dir sid s → IsOfOne dir groups s
+of_in dir sid n groups stands own are s is =
+    let same : is.member ≡ n = one_of_sid dir sid is.member n stands is.is_member own in
+    record {
+      number = is.group;
+      there = are is.group ∙ and_from (is_group dir is.group) (has_member dir is.group n)
+          (and_from (is_some (self_sid dir is.group)) (is_security_enabled dir is.group) (ap is_some is.is_group)
+          is.enabled)
+          (subst (λ (m : ℕ). has_member dir is.group m ≡ true) same is.names);
+      own = is.is_group;
+    }
+
+-- the groups that the table has at an object, and then what it had before
+pub object_taken : (dir : Directory) (members : Members) (n : ℕ) (groups : List ℕ) (old mid new : List SidValue)
+    → groups ≡ listed members.groups n → Takes (IsOfOne dir groups) old mid
+    → Takes (λ s. contains_sid (history_of dir n) s ≡ true) mid new → Takes (IsOfObject dir members n) old new
+object_taken dir members n groups old mid new are t u =
+    takes_more (IsOfOne dir (listed members.groups n)) (λ s. contains_sid (history_of dir n) s ≡ true)
+    (IsOfObject dir members n) old mid new (λ s is. inl is) (λ s is. inr is) (λ s is. is)
+    (subst (λ (ns : List ℕ). Takes (IsOfOne dir ns) old mid) are t) u
+
+-- with what the object had before they are all that its identifier brings
+pub brought_are : (dir : Directory) (sid : SidValue) (n : ℕ) (members : Members) (old new : List SidValue)
+    → AreStanding dir.schema dir.objects → AreMembersOf dir members → self_sid dir n ≡ Some sid
+    → Takes (IsOfObject dir members n) old new → Takes (Brings dir sid) old new
+brought_are dir sid n members old new stands are own = takes_same (IsOfObject dir members n) (Brings dir sid) old new
+    to from
+  where
+    to : (s : SidValue) → IsOfObject dir members n s → Brings dir sid s
+    to s (inl group) = inl (in_of dir sid n (listed members.groups n) own (are n) s group)
+    to s (inr had) = inr (record { number = n; own = own; had = had })
+
+    from : (s : SidValue) → Brings dir sid s → IsOfObject dir members n s
+    from s (inl is) = inl (of_in dir sid n (listed members.groups n) stands own (are n) s is)
+    from s (inr had) = inr (subst (λ (m : ℕ). contains_sid (history_of dir m) s ≡ true)
+        (one_of_sid dir sid had.number n stands had.own own) had.had)
 
 -- ---- from the first groups on
 
 pub reaching_starts : (dir : Directory) (user : SidValue) (first begun set : List SidValue)
     → Takes (λ s. contains_sid first s ≡ true) [] begun
-    → Takes (IsIn dir user) begun set → IsReaching dir user first 0 set
+    → Takes (Brings dir user) begun set → IsReaching dir user first 0 set
 reaching_starts dir user first begun set t u = record {
-  begins = λ sid is. takes_keep (IsIn dir user) begun set sid u (t.all sid is);
+  begins = λ sid is. takes_keep (Brings dir user) begun set sid u (t.all sid is);
   of_user = u.all;
   of_groups = λ place group less is. absurd (omega (arith, less));
-  reached = λ sid is. elim (takes_from (IsIn dir user) begun set sid u is) [
+  reached = λ sid is. elim (takes_from (Brings dir user) begun set sid u is) [
     | inl before ↦ elim (takes_from (λ s. contains_sid first s ≡ true) [] begun sid t before) [
       | inl never ↦ absurd (false≢true never)
       | inr is_first ↦ λ other closed. closed.begins sid is_first
@@ -123,11 +125,11 @@ reaching_starts dir user first begun set t u = record {
 
 pub reaching_goes : (dir : Directory) (user : SidValue) (first : List SidValue) (done : ℕ) (at : SidValue)
     (set new : List SidValue) → IsReaching dir user first done set
-    → done < length set → get_or set done no_sid ≡ at → Takes (IsIn dir at) set new → IsReaching dir user first
+    → done < length set → get_or set done no_sid ≡ at → Takes (Brings dir at) set new → IsReaching dir user first
     (done + 1) new
 reaching_goes dir user first done at set new r less is t = record {
-  begins = λ sid there. takes_keep (IsIn dir at) set new sid t (r.begins sid there);
-  of_user = λ group within. takes_keep (IsIn dir at) set new group t (r.of_user group within);
+  begins = λ sid there. takes_keep (Brings dir at) set new sid t (r.begins sid there);
+  of_user = λ group within. takes_keep (Brings dir at) set new group t (r.of_user group within);
   of_groups = of_groups;
   reached = reached;
 }
@@ -139,24 +141,24 @@ reaching_goes dir user first done at set new r less is t = record {
     same_place place within = ap (λ (xs : List SidValue). get_or xs place no_sid) t.is
         ∙ get_or_append_left set t.others no_sid place within
 
-    of_groups : (place : ℕ) (group : SidValue) → place < done + 1 → IsIn dir (get_or new place no_sid) group
+    of_groups : (place : ℕ) (group : SidValue) → place < done + 1 → Brings dir (get_or new place no_sid) group
         → contains_sid new group ≡ true
     of_groups place group l within = elim (cases_lt place done) [
       | inl before ↦
           let inside : place < length set = omega (arith, before, less) in
-          takes_keep (IsIn dir at) set new group t
+          takes_keep (Brings dir at) set new group t
           (r.of_groups place group before
-          (subst (λ (s : SidValue). IsIn dir s group) (same_place place inside) within))
+          (subst (λ (s : SidValue). Brings dir s group) (same_place place inside) within))
       | inr not_before ↦
           let here : place ≡ done = omega (arith, l, not_before) in
           let its : get_or new place no_sid ≡ at = ap (λ (i : ℕ). get_or new i no_sid) here ∙ same_place done less
           ∙ is in
-          t.all group (subst (λ (s : SidValue). IsIn dir s group) its within)
+          t.all group (subst (λ (s : SidValue). Brings dir s group) its within)
     ]
 
     reached : (sid : SidValue) → contains_sid new sid ≡ true → (other : List SidValue) → IsClosed dir user first other
         → contains_sid other sid ≡ true
-    reached sid there other closed = elim (takes_from (IsIn dir at) set new sid t there) [
+    reached sid there other closed = elim (takes_from (Brings dir at) set new sid t there) [
       | inl before ↦ r.reached sid before other closed
       | inr now ↦ closed.of_groups at sid (r.reached at in_set other closed) now
     ]
@@ -172,7 +174,7 @@ reaching_ends dir user first done set r all = record {
         let found = place_in set sid no_sid there in
         let less : found.0 < length set = found.1 in
         r.of_groups found.0 group (omega (arith, less, all))
-        (subst (λ (s : SidValue). IsIn dir s group) (sym found.2) within);
+        (subst (λ (s : SidValue). Brings dir s group) (sym found.2) within);
   };
   reached = r.reached;
 }

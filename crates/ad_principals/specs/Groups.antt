@@ -1,23 +1,42 @@
 -- Who is a principal, and the groups that a directory gives one.
-use Rattle.std.specs.Prelude.{◌≡◌, ℕ, pos, negsuc, nat_lt, ◌^◌, Bool, true, false, ◌==◌, if◌then◌else◌}
-use Rattle.std.specs.Prelude.{filter, is_some, unwrap_or, codes, Option, Some, None, List, ◌∷◌}
+use Rattle.std.specs.Prelude.{◌≡◌, ◌⊎◌, ℕ, pos, negsuc, nat_lt, ◌^◌, Bool, true, false, not, ◌==◌, ◌&&◌, ◌||◌}
+use Rattle.std.specs.Prelude.{if◌then◌else◌, filter, is_some, unwrap_or, codes, Option, Some, None, List, [], ◌∷◌}
+use Rattle.std.specs.Prelude.{filter_map}
 use Rattle.std.specs.Int.{bit_at}
 use Rattle.std.specs.Option.{option_map_or, option_and_then}
+use Rattle.std.specs.Str.{bytes_eq}
 use Rattle.ad_ids.specs.SidValue.{SidValue, contains_sid}
 use Rattle.ad_ids.specs.WellKnown.{everyone, authenticated_users, users}
+use Rattle.ad_value.specs.ValueOf.{sid_of}
 use Rattle.ad_value.specs.declared.value.Key.{Key}
 use Rattle.ad_value.specs.declared.value.Key.TheVariants as key
+use Rattle.ad_dir_model.specs.Object.{Stored, plain_value, stored_in}
 use Rattle.ad_dir_model.specs.Objects.{object_at, numbers}
+use Rattle.ad_dir_model.specs.Tree.{root}
 use Rattle.ad_dir_model.specs.Attributes.{attr_place, primary_group}
-use Rattle.ad_dir_model.specs.Identity.{first_of_attr, self_sid, domain_child}
-use Rattle.ad_dir_model.specs.Protection.{number_in, has_as_member}
+use Rattle.ad_dir_model.specs.Identity.{first_of_attr, is_sid, self_sid, domain_child}
+use Rattle.ad_dir_model.specs.Protection.{number_in, has_as_member, is_of_domain}
 use Rattle.ad_dir_model.specs.Directory.{Directory}
 
 -- ---- principals
 
--- a live object with an identifier; an object that isn't live has none
+-- S-1-5-32, which is the container's of the groups that every domain has
+abbrev pub builtin_domain : SidValue
+builtin_domain = record { authority = 5; sub_authorities = 32 ∷ [] }
+
+-- the first value of isDeleted is TRUE
+unfoldable pub is_deleted : Directory → ℕ → Bool
+is_deleted dir number =
+    option_map_or (λ value. bytes_eq value.shown (codes "TRUE"))
+    (first_of_attr (attr_place dir.schema (codes "isDeleted")) (object_at dir.objects number)) false
+
+-- A live object with an identifier, but for the root, the object of S-1-5-32, and deleted ones. An object that isn't
+-- live has no identifier.
 abbrev pub is_principal : Directory → ℕ → Bool
-is_principal dir number = is_some (self_sid dir number)
+is_principal dir number =
+    is_some (self_sid dir number)
+    && (not (number == root)
+    && (not (is_sid builtin_domain (self_sid dir number)) && not (is_deleted dir number)))
 
 -- all of them, by rising number
 abbrev pub principals : Directory → List ℕ
@@ -74,18 +93,54 @@ pub record IsIn (dir : Directory) (sid group_sid : SidValue) : Type 0 where
   pub enabled : is_security_enabled dir group ≡ true
   pub names : has_member dir group member ≡ true
 
+-- ---- identifiers of before
+
+-- the identifier that a value is
+abbrev pub sid_stored : Stored → Option SidValue
+sid_stored stored = option_and_then (λ value. sid_of value.shown) (plain_value stored)
+
+-- the identifiers that an object had before: the values of its sIDHistory that are some
+unfoldable pub history_of : Directory → ℕ → List SidValue
+history_of dir number =
+    option_map_or (λ attr. filter_map sid_stored (stored_in (object_at dir.objects number).values attr))
+    (attr_place dir.schema (codes "sIDHistory")) []
+
+-- The object of an identifier had another one before.
+pub record HadBefore (dir : Directory) (sid old : SidValue) : Type 0 where
+  pub number : ℕ
+  pub own : self_sid dir number ≡ Some sid
+  pub had : contains_sid (history_of dir number) old ≡ true
+
+-- Who has the first identifier has the second one too: a group's that it is in, or one that its object had before.
+abbrev pub Brings : Directory → SidValue → SidValue → Type 0
+Brings dir sid other = IsIn dir sid other ⊎ HadBefore dir sid other
+
 -- ---- the least set
 
--- Everyone, Authenticated Users, the primary group, and the identifiers that were given
-abbrev pub first_groups : Directory → ℕ → List SidValue → List SidValue
-first_groups dir number extra = everyone ∷ authenticated_users ∷ primary_of dir number ∷ extra
+-- S-1-5-7
+abbrev pub anonymous : SidValue
+anonymous = record { authority = 5; sub_authorities = 7 ∷ [] }
 
--- The set has the first groups, and each group that the user or one of the set is in.
+-- who isn't in Authenticated Users: the domain's Guest, and the objects of S-1-5-7 and S-1-1-0
+unfoldable pub is_unauthenticated : Directory → Option SidValue → Bool
+is_unauthenticated dir sid = is_of_domain dir sid 501 || (is_sid anonymous sid || is_sid everyone sid)
+
+-- Everyone, Authenticated Users but for those, and further identifiers
+abbrev pub first_with : Bool → List SidValue → List SidValue
+first_with true further = everyone ∷ further
+first_with false further = everyone ∷ authenticated_users ∷ further
+
+-- those, the primary group, and the identifiers that were given
+abbrev pub first_groups : Directory → ℕ → List SidValue → List SidValue
+first_groups dir number extra =
+    first_with (is_unauthenticated dir (self_sid dir number)) (primary_of dir number ∷ extra)
+
+-- The set has the first groups, and what the user's identifier and each of the set bring.
 pub record IsClosed (dir : Directory) (user : SidValue) (first set : List SidValue) : Type 0 where
   pub begins : (sid : SidValue) → contains_sid first sid ≡ true → contains_sid set sid ≡ true
-  pub of_user : (group : SidValue) → IsIn dir user group → contains_sid set group ≡ true
-  pub of_groups : (sid group : SidValue) → contains_sid set sid ≡ true → IsIn dir sid group
-      → contains_sid set group ≡ true
+  pub of_user : (other : SidValue) → Brings dir user other → contains_sid set other ≡ true
+  pub of_groups : (sid other : SidValue) → contains_sid set sid ≡ true → Brings dir sid other
+      → contains_sid set other ≡ true
 
 -- the identifier is in every such set
 abbrev pub IsReached : Directory → SidValue → List SidValue → SidValue → Type 0

@@ -40,7 +40,7 @@ fn order(a: &Sid, b: &Sid) -> Ordering
 }
 
 /// The identifiers in rising order of their bytes.
-pub(crate) fn rising(mut sids: Vec<Sid>) -> Vec<Sid>
+pub fn in_order(mut sids: Vec<Sid>) -> Vec<Sid>
     requires { AllByRecursion IsSid sids.items }
     ensures rise { IsDistinct same_sid sids.items → SidsRise result.items }
     ensures same { (sid : SidValue) → contains_sid result.items sid ≡ contains_sid sids.items sid }

@@ -12,8 +12,8 @@
 //!
 //! # Proved
 //!
-//! The token is the one that the rules give the principal: its identifier, and the groups whose member it is,
-//! directly or by others. There is one; more members give no fewer groups; the order of members and identifiers is
+//! The token is the one that the rules give the principal: its identifier, the groups whose member it is, directly or
+//! by others, and what these had as identifiers before. There is one; more members give no fewer groups; the order of members and identifiers is
 //! free; and who has too many groups has none. A text names the object that the rules say, or the fault is theirs.
 //!
 //! # The caller owes
@@ -25,9 +25,12 @@
 //! The members are gone over once for all tokens; a token is linear in the groups that are reached.
 #![tactic(auto)]
 
+mod bringing;
 mod enabled;
 mod fault;
+mod first;
 mod groups;
+mod history;
 mod laws;
 mod lines;
 mod listing;
@@ -40,12 +43,13 @@ mod token;
 mod values;
 
 pub use fault::{NameFault, TokenFault};
+pub use groups::in_order;
 pub use laws::{
     a_principal_has_one_token, more_members_give_no_fewer_groups,
     the_order_of_members_and_identifiers_is_free, who_has_too_many_groups_has_no_token,
 };
 pub use lines::{put, put_ended, put_labelled, put_name, put_sid, put_spaced};
-pub use listing::principals;
+pub use listing::{is_principal, principals};
 pub use members::Members;
 pub use named::{principal_named, sid_of_text};
 pub use token::token_of;

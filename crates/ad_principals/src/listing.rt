@@ -1,15 +1,41 @@
 //! All principals.
 
-ghost use Rattle.std.specs.Prelude.{◌≡◌, filter, IfOk};
-ghost use Rattle.ad_principals.specs.Groups.{is_principal, principals};
+ghost use Rattle.std.specs.Prelude.{◌≡◌, Some, filter, IfOk};
+ghost use Rattle.ad_dir_model.specs.Identity.{is_sid};
+ghost use Rattle.ad_principals.specs.Groups.{builtin_domain, is_deleted, is_principal, principals};
 
-use ad_dir::Dir;
+use crate::values::first_value;
+use ad_dir::{Dir, ROOT};
+use ad_ids::Sid;
 use std::alloc::{AllocError, Global};
 
-fn is_principal(dir: &Dir, number: u32) -> bool
+// Whether the first value of isDeleted is TRUE.
+#[tactic(auto, unfolding(crate::specs::Groups::is_deleted))]
+fn is_deleted(dir: &Dir, number: u32) -> bool
+    ensures { result ≡ is_deleted dir.now number }
+{
+    match first_value(dir, number, dir.schema().attr(b"isDeleted")) {
+        Some(value) => value.shown() == b"TRUE".as_slice(),
+        None => false,
+    }
+}
+
+// Whether it is the identifier of the container of the groups that every domain has.
+fn is_builtin_domain(sid: &Sid) -> bool
+    ensures { result ≡ is_sid builtin_domain (Some sid.now) }
+{
+    sid.is_well_known(5, 32)
+}
+
+/// Whether an object is a principal: live with an objectSid, and neither the root nor the object of S-1-5-32 nor
+/// deleted.
+pub fn is_principal(dir: &Dir, number: u32) -> bool
     ensures { result ≡ is_principal dir.now number }
 {
-    dir.self_sid(number).is_some()
+    match dir.self_sid(number) {
+        Some(sid) => number != ROOT && !is_builtin_domain(sid) && !is_deleted(dir, number),
+        None => false,
+    }
 }
 
 // Those of these objects that are principals.
@@ -25,7 +51,7 @@ fn those_of(alloc: Global, dir: &Dir, numbers: &[u32]) -> Result<Vec<u32>, Alloc
     Ok(those)
 }
 
-/// The numbers of the live objects with an objectSid, rising.
+/// The numbers of all principals, rising.
 ///
 /// # Errors
 ///

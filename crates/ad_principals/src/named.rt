@@ -1,6 +1,7 @@
 //! The object that a text names.
 
-ghost use Rattle.std.specs.Prelude.{◌≡◌, true, Ok, Err, filter, IfOk};
+ghost use Rattle.std.specs.Prelude.{◌≡◌, ◌==◌, ◌<◌, true, Ok, Err, filter, length, position, IfOk, IfSome};
+ghost use Rattle.std.specs.List.{list_any};
 ghost use Rattle.std.specs.Option.{option_map, option_map_or};
 ghost use Rattle.ad_bytes.specs.Reading.{GivesUnless};
 ghost use Rattle.ad_ids.specs.SidFront.{sid_of_text};
@@ -10,11 +11,12 @@ ghost use Rattle.ad_dir_model.specs.Objects.{is_live};
 ghost use Rattle.ad_dir_model.specs.Identity.{with_sid};
 ghost use Rattle.ad_principals.specs.declared.fault.NameFault.TheVariants as name_fault;
 ghost use Rattle.ad_principals.specs.Named.{has_text, numbers_with, only_one, account_named, or_no_object, named};
-ghost use Rattle.ad_principals.specs.Named.{is_memory};
+ghost use Rattle.ad_principals.specs.Named.{is_root_name, names_root, is_domain_name, account_only, backslash};
+ghost use Rattle.ad_principals.specs.Named.{account_at, any_account, is_memory};
 
 use crate::fault::NameFault;
 use crate::values::first_value;
-use ad_dir::Dir;
+use ad_dir::{Dir, ROOT};
 use ad_dn::{DnFault, read};
 use ad_ids::{Sid, what_a_sid_s_text_spells};
 use ad_schema::AttrId;
@@ -100,6 +102,108 @@ fn account_named(alloc: Global, dir: &Dir, name: &[u8]) -> Result<u32, NameFault
     }
 }
 
+// ---- the name of an account of the domain
+
+// Whether the text of a value is the root's name.
+fn is_root_name(alloc: Global, dir: &Dir, value: &Value) -> Result<bool, AllocError>
+    ensures { IfOk result (λ is. is ≡ is_root_name dir.now value.now) }
+{
+    match read(alloc, value.shown()) {
+        Ok(dn) => Ok(dir.find(alloc, &dn)? == Some(ROOT)),
+        Err(DnFault::Memory) => Err(AllocError),
+        Err(DnFault::Bad { place: _ }) => Ok(false),
+    }
+}
+
+#[tactic(auto, unfolding(crate::specs::Named::names_root))]
+fn names_root(alloc: Global, dir: &Dir, number: u32) -> Result<bool, AllocError>
+    ensures { IfOk result (λ names. names ≡ names_root dir.now number) }
+{
+    match first_value(dir, number, dir.schema().attr(b"nCName")) {
+        Some(value) => is_root_name(alloc, dir, value),
+        None => Ok(false),
+    }
+}
+
+// Whether one of these objects names the root.
+fn one_names_root(alloc: Global, dir: &Dir, numbers: &[u32]) -> Result<bool, AllocError>
+    ensures { IfOk result (λ one. one ≡ list_any (names_root dir.now) numbers.now) }
+{
+    for number in numbers {
+        if names_root(alloc, dir, *number)? {
+            return Ok(true);
+        }
+    }
+    Ok(false)
+}
+
+fn is_domain_text(alloc: Global, dir: &Dir, text: &Value) -> Result<bool, AllocError>
+    ensures { IfOk result (λ is. is ≡ is_domain_name dir.now (Ok text.now)) }
+{
+    let numbers = numbers_with(alloc, dir, b"nETBIOSName", text)?;
+    one_names_root(alloc, dir, numbers.as_slice())
+}
+
+fn is_domain_name(alloc: Global, dir: &Dir, name: &[u8]) -> Result<bool, AllocError>
+    ensures { IfOk result (λ is. is
+        ≡ is_domain_name dir.now (normal_or_fault syntax.Unicode name.now)) }
+{
+    match normal(alloc, Syntax::Unicode, name) {
+        Ok(text) => is_domain_text(alloc, dir, &text),
+        Err(ValueFault::Memory) => Err(AllocError),
+        Err(ValueFault::TooLong) => Ok(false),
+        Err(ValueFault::Syntax) => Ok(false),
+    }
+}
+
+fn account_only_with(alloc: Global, dir: &Dir, text: &Value) -> Result<u32, NameFault>
+    ensures { GivesUnless is_memory (λ number. number) result
+        (account_only dir.now (Ok text.now)) }
+{
+    let numbers = numbers_with(alloc, dir, b"sAMAccountName", text)?;
+    only_one(numbers.as_slice())
+}
+
+fn account_only(alloc: Global, dir: &Dir, name: &[u8]) -> Result<u32, NameFault>
+    ensures { GivesUnless is_memory (λ number. number) result
+        (account_only dir.now (normal_or_fault syntax.Unicode name.now)) }
+{
+    match normal(alloc, Syntax::Unicode, name) {
+        Ok(text) => account_only_with(alloc, dir, &text),
+        Err(ValueFault::Memory) => Err(NameFault::Memory),
+        Err(ValueFault::TooLong) => Err(NameFault::NoObject),
+        Err(ValueFault::Syntax) => Err(NameFault::NoObject),
+    }
+}
+
+fn backslash_in(text: &[u8]) -> Option<usize>
+    ensures place { result ≡ position (λ b. b == backslash) text.now }
+    ensures within { IfSome result (λ at. at < length text.now) }
+{
+    text.iter().position(|b| *b == b'\\')
+}
+
+// The account of a text with a backslash at this place.
+fn account_at(alloc: Global, dir: &Dir, text: &[u8], place: usize) -> Result<u32, NameFault>
+    requires { place < length text.now }
+    ensures { GivesUnless is_memory (λ number. number) result (account_at dir.now text.now place) }
+{
+    if is_domain_name(alloc, dir, &text[..place])? {
+        return account_only(alloc, dir, &text[place + 1..]);
+    }
+    account_named(alloc, dir, text)
+}
+
+#[tactic(auto, unfolding(crate::specs::Named::any_account))]
+fn any_account(alloc: Global, dir: &Dir, text: &[u8]) -> Result<u32, NameFault>
+    ensures { GivesUnless is_memory (λ number. number) result (any_account dir.now text.now) }
+{
+    match backslash_in(text) {
+        Some(place) => account_at(alloc, dir, text, place),
+        None => account_named(alloc, dir, text),
+    }
+}
+
 // ---- any name
 
 fn or_no_object(found: Option<u32>) -> Result<u32, NameFault>
@@ -126,11 +230,11 @@ pub fn sid_of_text(text: &[u8]) -> Option<Sid>
 fn sid_or_account(alloc: Global, dir: &Dir, name: &[u8]) -> Result<u32, NameFault>
     ensures { GivesUnless is_memory (λ number. number) result
         (option_map_or (λ sid. or_no_object (with_sid dir.now sid)) (sid_of_text name.now)
-        (account_named dir.now (normal_or_fault syntax.Unicode name.now))) }
+        (any_account dir.now name.now)) }
 {
     match sid_of_text(name) {
         Some(sid) => or_no_object(dir.with_sid(&sid)),
-        None => account_named(alloc, dir, name),
+        None => any_account(alloc, dir, name),
     }
 }
 
@@ -147,8 +251,10 @@ fn object_named(alloc: Global, dir: &Dir, name: &[u8]) -> Result<u32, NameFault>
 }
 
 /// The object that a text names. A text that is a name's (RFC 4514) says the object of that name, one that is an
-/// identifier's (`S-1-..`) the object of that identifier, and any other the one object whose first sAMAccountName, or
-/// where there is none the one whose first userPrincipalName, is the text in UTF-8 after case folding.
+/// identifier's (`S-1-..`) the object of that identifier. One that has a backslash, and before it a NetBIOS name of
+/// the domain, says the one object whose first sAMAccountName is what stands after it. Any other says the one object
+/// whose first sAMAccountName, or where there is none the one whose first userPrincipalName, is the text. Texts are in
+/// UTF-8, and compared after case folding.
 ///
 /// Whether the object is a principal isn't asked: [`Members::token`](crate::Members::token) tells.
 ///

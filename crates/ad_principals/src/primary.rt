@@ -35,9 +35,9 @@ fn primary_rid(dir: &Dir, number: u32) -> Option<u32>
     ))
 }
 
-// The domain's identifier with one more number.
+/// The domain's identifier with one more number.
 #[tactic(auto, unfolding(ad_dir_model::specs::Identity::domain_child, ad_dir_model::specs::Identity::domain_sid))]
-fn domain_child(dir: &Dir, rid: u32) -> Option<Sid>
+pub(crate) fn domain_child(dir: &Dir, rid: u32) -> Option<Sid>
     ensures { result ≡ domain_child dir.now rid }
 {
     match dir.self_sid(ROOT) {

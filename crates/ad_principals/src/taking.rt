@@ -3,11 +3,8 @@
 ghost use Rattle.std.specs.Prelude.{◌≡◌, true, Some, OnOk};
 ghost use Rattle.ad_ids.specs.SidValue.{same_sid, contains_sid};
 ghost use Rattle.ad_dir_model.specs.Identity.{self_sid};
-ghost use Rattle.ad_principals.specs.Groups.{IsIn};
-ghost use Rattle.ad_principals.specs.Membership.{AreMembersOf};
 ghost use Rattle.ad_principals.specs.Reaching.{Takes, IsOfOne};
 
-use crate::members::Members;
 use ad_dir::Dir;
 use ad_ids::Sid;
 use indexmap::IndexSet;
@@ -43,29 +40,16 @@ fn take_group(taken: &mut IndexSet<Sid>, dir: &Dir, group: u32) -> Result<(), Al
     }
 }
 
-// Takes the identifiers of these objects.
-fn take_groups(taken: &mut IndexSet<Sid>, dir: &Dir, groups: &[u32]) -> Result<(), AllocError>
+/// Takes the identifiers of these objects.
+pub(crate) fn take_groups(
+    taken: &mut IndexSet<Sid>,
+    dir: &Dir,
+    groups: &[u32],
+) -> Result<(), AllocError>
     ensures { OnOk result (Takes (IsOfOne dir.now groups.now) taken.old.keys taken.new.keys) }
 {
     for group in groups {
         take_group(taken, dir, *group)?;
     }
     Ok(())
-}
-
-/// Takes the groups that an identifier is in.
-pub(crate) fn take_groups_of(
-    taken: &mut IndexSet<Sid>,
-    dir: &Dir,
-    members: &Members,
-    sid: &Sid,
-) -> Result<(), AllocError>
-    requires { AreMembersOf dir.now members.now }
-    ensures { OnOk result (Takes (IsIn dir.now sid.now) taken.old.keys taken.new.keys) }
-{
-    dir.invariants();
-    match dir.with_sid(sid) {
-        Some(number) => take_groups(taken, dir, members.groups_of(number)),
-        None => Ok(()),
-    }
 }

@@ -1,14 +1,16 @@
 //! The token of a principal.
 
-ghost use Rattle.std.specs.Prelude.{◌≡◌, Some, if◌then◌else◌, IfOk, IfErr};
+ghost use Rattle.std.specs.Prelude.{◌≡◌, ◌≢◌, Some, if◌then◌else◌, IfOk, IfErr};
 ghost use Rattle.ad_ids.specs.SidValue.{contains_sid};
-ghost use Rattle.ad_dir_model.specs.Identity.{self_sid};
 ghost use Rattle.ad_ids.specs.WellKnown.{administrators};
-ghost use Rattle.ad_principals.specs.Tokens.{IsTokenOf, IsTokenFault, privileges_of_administrators};
+ghost use Rattle.ad_principals.specs.Tokens.{IsTokenFrom, IsFaultFrom, IsTokenOf, IsTokenFault};
+ghost use Rattle.ad_principals.specs.Tokens.{privileges_of_administrators};
+ghost use Rattle.ad_principals.specs.declared.fault.TokenFault.TheVariants as token_fault;
 ghost use Rattle.ad_principals.specs.Membership.{AreMembersOf};
 
 use crate::fault::TokenFault;
-use crate::groups::{others, rising};
+use crate::first::{first_with, is_unauthenticated};
+use crate::groups::{in_order, others};
 use crate::members::Members;
 use crate::primary::primary_of;
 use crate::reaching::reached;
@@ -35,46 +37,53 @@ const VERSION: u8 = 2;
 /// The most groups of a token.
 pub(crate) const MAX_GROUPS: usize = 1024;
 
-// The token of a user that is the object of the number.
-fn token_by(
-    alloc: Global,
-    dir: &Dir,
-    members: &Members,
-    user: &Sid,
-    number: u32,
-    extra: &[Sid],
-) -> Result<Token, TokenFault>
-    requires members { AreMembersOf dir.now members.now }
-    requires user { self_sid dir.now number ≡ Some user.now }
-    ensures token { IfOk result (IsTokenOf dir.now number extra.now) }
-    ensures fault { IfErr result (IsTokenFault dir.now number extra.now) }
-{
-    let primary = primary_of(dir, number);
-    let set = reached(alloc, dir, members, user, &primary, extra)?;
-    let groups = rising(others(alloc, set.as_slice(), user)?);
-    if groups.len() > MAX_GROUPS {
-        return Err(TokenFault::TooMany);
-    }
-    Ok(Token {
-        version: VERSION,
-        privileges: privileges(&set),
-        user: *user,
-        owner: *user,
-        primary,
-        groups: Sids::from_vec(groups),
-        deny_only: Sids::new(alloc),
-        restricting: Sids::new(alloc),
-    })
-}
-
 impl Members {
+    /// The token of a user with this identifier, this primary group and these first groups, where these are the
+    /// directory's members.
+    ///
+    /// The time is about linear in the groups with their memberships: no other object is looked at.
+    ///
+    /// # Errors
+    ///
+    /// `TooMany` above 1,024 groups. `Memory` where memory ran out.
+    pub fn token_from(
+        &self,
+        alloc: Global,
+        dir: &Dir,
+        user: &Sid,
+        primary: &Sid,
+        first: &[Sid],
+    ) -> Result<Token, TokenFault>
+        requires { AreMembersOf dir.now self.now }
+        ensures token { IfOk result (IsTokenFrom dir.now (Some user.now) primary.now first.now) }
+        ensures fault { IfErr result (IsFaultFrom dir.now (Some user.now) first.now) }
+        ensures some { IfErr result (λ fault. fault ≢ token_fault.NoSid) }
+    {
+        let set = reached(alloc, dir, self, user, first)?;
+        let groups = in_order(others(alloc, set.as_slice(), user)?);
+        if groups.len() > MAX_GROUPS {
+            return Err(TokenFault::TooMany);
+        }
+        Ok(Token {
+            version: VERSION,
+            privileges: privileges(&set),
+            user: *user,
+            owner: *user,
+            primary: *primary,
+            groups: Sids::from_vec(groups),
+            deny_only: Sids::new(alloc),
+            restricting: Sids::new(alloc),
+        })
+    }
+
     /// The token that a directory gives an object, with these identifiers besides, where these are the directory's
     /// members.
     ///
     /// Version 2. The user and the owner are the object's first objectSid, and the primary group is the domain's
     /// identifier with its primaryGroupID, or else S-1-5-32-545. The groups are the least set that has Everyone,
-    /// Authenticated Users, the primary group and the given identifiers, and with each member of a group that counts
-    /// for access the group; without the user, in rising order of their bytes. With Administrators (S-1-5-32-544) the
+    /// Authenticated Users (but for the domain's Guest, S-1-5-7 and S-1-1-0), the primary group and the given
+    /// identifiers, and with the user and each of the set the groups that count for access and name it as a member,
+    /// and its sIDHistory; without the user, in rising order of their bytes. With Administrators (S-1-5-32-544) the
     /// privileges are to read and write the SACL and to take ownership.
     ///
     /// The time is about linear in the groups with their memberships: no other object is looked at.
@@ -94,10 +103,13 @@ impl Members {
         ensures token { IfOk result (IsTokenOf dir.now number extra.now) }
         ensures fault { IfErr result (IsTokenFault dir.now number extra.now) }
     {
-        match dir.self_sid(number) {
-            Some(user) => token_by(alloc, dir, self, user, number, extra),
-            None => Err(TokenFault::NoSid),
-        }
+        let user = match dir.self_sid(number) {
+            Some(user) => user,
+            None => return Err(TokenFault::NoSid),
+        };
+        let primary = primary_of(dir, number);
+        let first = first_with(alloc, is_unauthenticated(dir, user), &primary, extra)?;
+        self.token_from(alloc, dir, user, &primary, first.as_slice())
     }
 }
 

@@ -2,7 +2,7 @@ use Rattle.std.proofs.Common.{rules, sym}
 use Rattle.std.proofs.lemmas.List.Sorted.{list_any-IsPermutation}
 use Rattle.ad_ids.specs.SidValue.{same_sid}
 use Rattle.ad_principals.proofs.Rising.{sorted_rise}
-use Rattle.ad_principals.proofs.groups.rising.Goals as goal
+use Rattle.ad_principals.proofs.groups.in_order.Goals as goal
 
 pub returns-clause-rise : goal.returns-clause-rise
 returns-clause-rise c =

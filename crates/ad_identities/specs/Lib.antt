@@ -1,0 +1,4 @@
+pub mod Identities
+pub mod Named
+-- only for private contracts, invariants and proofs
+pub mod Told
