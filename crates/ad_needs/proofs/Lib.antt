@@ -10,3 +10,4 @@ pub mod ItemLaws
 pub mod ReachLaws
 pub mod TracedLaws
 pub mod VerdictLaws
+pub mod DecodingLaws

@@ -5,3 +5,4 @@ pub mod Moves
 pub mod Additions
 pub mod ItemWords
 pub mod Steps
+pub mod Decoding

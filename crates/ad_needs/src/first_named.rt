@@ -4,10 +4,11 @@ ghost use Rattle.std.specs.Prelude.{◌≡◌, ◌<◌, ◌++◌, ◌∷◌, [],
 ghost use Rattle.std.specs.List.{list_any};
 ghost use Rattle.ad_needs_rules.specs.Modifying.{is_item_of};
 ghost use Rattle.ad_needs.specs.ItemWords.{AreNamed, AreSent};
+ghost use Rattle.ad_needs.specs.Decoding.{attr_of};
 
 use crate::items::is_named_in;
 use ad_ldap::Item;
-use ad_schema::Schema;
+use ad_schema::{AttrId, Schema};
 use std::alloc::{AllocError, Global};
 
 /// A flag for each attribute of the schema, none of which is set: those of no items, and of no attributes of an
@@ -35,14 +36,21 @@ pub(crate) fn is_first_mark(named: &mut [bool], place: usize) -> bool
     !was
 }
 
-/// Whether an item after others names its attribute for the first time. `named` has the flags of the attributes
-/// that the others name, and then that of this one too.
-pub(crate) fn is_first(schema: &Schema, named: &mut [bool], earlier: &[Item], item: &Item) -> bool
-    requires { AreNamed schema.now named.old earlier.now }
+/// Whether an item after others names its attribute, which is given, for the first time. `named` has the flags of the
+/// attributes that the others name, and then that of this one too.
+pub(crate) fn is_first(
+    schema: &Schema,
+    named: &mut [bool],
+    earlier: &[Item],
+    item: &Item,
+    attr: Option<AttrId>,
+) -> bool
+    requires named { AreNamed schema.now named.old earlier.now }
+    requires attr { attr ≡ attr_of schema.now item.now }
     ensures first { result ≡ not (list_any (is_item_of item.now.attr) earlier.now) }
     ensures named { AreNamed schema.now named.new (earlier.now ++ item.now ∷ []) }
 {
-    match schema.attr(item.attr.as_slice()) {
+    match attr {
         Some(attr) => is_first_mark(named, attr.0 as usize),
         None => !is_named_in(earlier, item.attr.as_slice()),
     }

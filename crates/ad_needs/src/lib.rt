@@ -33,6 +33,7 @@
 #![tactic(auto)]
 
 mod adding;
+mod decoding;
 mod deleting;
 mod first_named;
 mod item_checks;

@@ -1,7 +1,7 @@
 //! Modify: what it needs.
 
 ghost use Rattle.std.specs.Prelude.{◌≡◌, ◌<◌, ◌∷◌, [], true, map, length, IfOk};
-ghost use Rattle.ad_schema.specs.Attributes.{attrs_of};
+ghost use Rattle.ad_schema.specs.Attributes.{attrs_of, attr_named};
 ghost use Rattle.ad_dir_model.specs.Objects.{is_live};
 ghost use Rattle.ad_dir_model.specs.Attributes.{attr_place};
 ghost use Rattle.ad_needs_rules.specs.Checks.{all_met};
@@ -10,7 +10,9 @@ ghost use Rattle.ad_needs_rules.specs.Modifying.{attr_needs, ordinary_needs, ite
 ghost use Rattle.ad_needs_rules.specs.Judged.{bit_of, asked, refusal_of};
 ghost use Rattle.ad_needs.specs.Steps.{Steps};
 ghost use Rattle.ad_needs.specs.ItemWords.{needs_if, named_needs};
+ghost use Rattle.ad_needs.specs.Decoding.{AreDecoded};
 
+use crate::decoding::{Decoded, attr_at};
 use crate::first_named::{is_first, none_named};
 use crate::items::{is_forced, items_of};
 use crate::trying::{Trace, keep_success, require, require_either};
@@ -128,19 +130,17 @@ fn descriptor_refusal(
     dir: &Dir,
     token: &Token,
     number: u32,
-    flags: u8,
-    items: &[Item],
+    sd: &Option<SdParts>,
     trace: &mut Trace,
 ) -> Result<Option<Verdict>, AllocError>
     requires { is_live dir.now.objects number ≡ true }
     ensures refusal { IfOk result (λ refusal. refusal
-        ≡ refusal_of (all_met dir.now token.now
-        (descriptor_needs number (written_sd items.now flags)))) }
+        ≡ refusal_of (all_met dir.now token.now (descriptor_needs number sd.now))) }
     ensures steps { IfOk result (λ refusal. Steps dir.now token.now trace.old
-        (descriptor_needs number (written_sd items.now flags)) trace.new refusal) }
+        (descriptor_needs number sd.now) trace.new refusal) }
 {
-    match written_sd(alloc, items, flags)? {
-        Some(parts) => parts_refusal(alloc, dir, token, number, &parts, trace),
+    match sd {
+        Some(parts) => parts_refusal(alloc, dir, token, number, parts, trace),
         None => Ok(None),
     }
 }
@@ -252,9 +252,11 @@ fn ordinary_refusal(
     number: u32,
     items: &[Item],
     name: &[u8],
+    attr: Option<AttrId>,
     trace: &mut Trace,
 ) -> Result<Option<Verdict>, AllocError>
-    requires { is_live dir.now.objects number ≡ true }
+    requires live { is_live dir.now.objects number ≡ true }
+    requires attr { attr ≡ attr_named dir.now.schema name.now }
     ensures refusal { IfOk result (λ refusal. refusal
         ≡ refusal_of (all_met dir.now token.now
         (ordinary_needs dir.now token.now number (items_of items.now name.now)
@@ -263,7 +265,7 @@ fn ordinary_refusal(
         (ordinary_needs dir.now token.now number (items_of items.now name.now)
         (attr_place dir.now.schema name.now)) trace.new refusal) }
 {
-    match dir.schema().attr(name) {
+    match attr {
         Some(attr) => attr_refusal(alloc, dir, token, number, attr, items, name, trace),
         None => Ok(None),
     }
@@ -278,30 +280,33 @@ fn refusal_if(
     dir: &Dir,
     token: &Token,
     number: u32,
-    flags: u8,
-    items: &[Item],
+    decoded: &Decoded<'_>,
     name: &[u8],
+    attr: Option<AttrId>,
     is_first: bool,
     trace: &mut Trace,
 ) -> Result<Option<Verdict>, AllocError>
-    requires { is_live dir.now.objects number ≡ true }
+    requires live { is_live dir.now.objects number ≡ true }
+    requires attr { attr ≡ attr_named dir.now.schema name.now }
+    requires sd { decoded.now.sd ≡ written_sd decoded.now.items.now decoded.now.flags }
     ensures refusal { IfOk result (λ refusal. refusal
         ≡ refusal_of (all_met dir.now token.now
-        (needs_if is_first (named_needs dir.now token.now number flags items.now name.now)))) }
+        (needs_if is_first (named_needs dir.now token.now number decoded.now.flags
+        decoded.now.items.now name.now)))) }
     ensures steps { IfOk result (λ refusal. Steps dir.now token.now trace.old
-        (needs_if is_first
-        (named_needs dir.now token.now number flags items.now name.now)) trace.new refusal) }
+        (needs_if is_first (named_needs dir.now token.now number decoded.now.flags
+        decoded.now.items.now name.now)) trace.new refusal) }
 {
     if !is_first {
         return Ok(None);
     }
     if is_descriptor(name) {
-        return descriptor_refusal(alloc, dir, token, number, flags, items, trace);
+        return descriptor_refusal(alloc, dir, token, number, &decoded.sd, trace);
     }
     if is_password(name) {
-        return password_refusal(alloc, dir, token, number, items, name, trace);
+        return password_refusal(alloc, dir, token, number, decoded.items, name, trace);
     }
-    ordinary_refusal(alloc, dir, token, number, items, name, trace)
+    ordinary_refusal(alloc, dir, token, number, decoded.items, name, attr, trace)
 }
 
 /// The refusal for the first required right that is missing.
@@ -314,24 +319,28 @@ pub(crate) fn needs_refusal(
     dir: &Dir,
     token: &Token,
     number: u32,
-    flags: u8,
-    items: &[Item],
+    decoded: &Decoded<'_>,
     trace: &mut Trace,
 ) -> Result<Option<Verdict>, AllocError>
-    requires { is_live dir.now.objects number ≡ true }
+    requires live { is_live dir.now.objects number ≡ true }
+    requires decoded { AreDecoded dir.now.schema decoded.now.items.now decoded.now.flags
+        decoded.now.attrs.items decoded.now.sd }
     ensures refusal { IfOk result (λ refusal. refusal
         ≡ refusal_of (all_met dir.now token.now
-        (modify_needs dir.now token.now number flags items.now))) }
+        (modify_needs dir.now token.now number decoded.now.flags decoded.now.items.now))) }
     ensures steps { IfOk result (λ refusal. Steps dir.now token.now trace.old
-        (modify_needs dir.now token.now number flags items.now) trace.new refusal) }
+        (modify_needs dir.now token.now number decoded.now.flags decoded.now.items.now) trace.new
+        refusal) }
 {
+    let items = decoded.items;
     let mut named = none_named(alloc, dir.schema())?;
     'each: for i in 0..items.len() {
         let item = &items[i];
-        let first = is_first(dir.schema(), named.as_mut_slice(), &items[..i], item);
+        let attr = attr_at(decoded, i);
+        let first = is_first(dir.schema(), named.as_mut_slice(), &items[..i], item, attr);
         let name = item.attr.as_slice();
         if let Some(verdict) = refusal_if(
-            alloc, dir, token, number, flags, items, name, first, trace,
+            alloc, dir, token, number, decoded, name, attr, first, trace,
         )? {
             return Ok(Some(verdict));
         }

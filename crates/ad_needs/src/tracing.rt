@@ -9,6 +9,7 @@ ghost use Rattle.ad_needs.specs.Tries.{tries};
 ghost use Rattle.ad_needs.specs.Traces.{requirements, reaches, trace_of};
 
 use crate::adding::{new_sd, unless_creates};
+use crate::decoding::decode;
 use crate::deleting::unless_deletes;
 use crate::judging::verdict;
 use crate::modify_needs::needs_refusal;
@@ -94,16 +95,9 @@ fn tried_modifying(
 {
     let number = found(alloc, dir, token, modify.dn.as_slice())?;
     let items = modify.items.as_slice();
+    let decoded = decode(alloc, dir.schema(), items, settings.sd_flags)?;
     let mut trace = new_trace(alloc);
-    needs_refusal(
-        alloc,
-        dir,
-        token,
-        number,
-        settings.sd_flags,
-        items,
-        &mut trace,
-    )?;
+    needs_refusal(alloc, dir, token, number, &decoded, &mut trace)?;
     Ok(trace.tried)
 }
 

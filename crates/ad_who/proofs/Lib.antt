@@ -1,7 +1,8 @@
 pub mod Deciding
-pub mod Texts
 pub mod Putting
 pub mod Sids
 pub mod WhoLines
 pub mod Refused
 pub mod Refusals
+pub mod Telling
+pub mod Parties

@@ -1,14 +1,15 @@
 -- What is told: the line of a fault, and lines for a token.
-use Rattle.std.proofs.Common.{◌≡◌, ℕ, Bool, false, List, [], Option, Some, Ok, sym, subst}
+use Rattle.std.proofs.Common.{◌≡◌, ◌∙◌, ℕ, Bool, false, List, Option, Some, Ok, sym, ap, subst}
 use Rattle.ad_dir_model.specs.Directory.{Directory}
 use Rattle.ad_who.specs.declared.fault.AskFault.{AskFault}
 use Rattle.ad_ids.specs.declared.token.Token.{Token}
-use Rattle.ad_principals.specs.Tokens.{IsTokenOf}
-use Rattle.ad_principals.specs.Named.{named}
-use Rattle.ad_who.specs.declared.asked.Asked.{Asked}
+use Rattle.ad_identities.specs.declared.identity.Identity.{Identity}
+use Rattle.ad_identities.specs.Identities.{IsIdentityToken}
+use Rattle.ad_identities.specs.Named.{identity_named}
+use Rattle.ad_questions.specs.declared.question.Question.{Question}
+use Rattle.ad_questions.specs.Question.{question_of}
 use Rattle.ad_who.specs.declared.told.Answer.{Answer}
 use Rattle.ad_who.specs.Faults.{fault_line, is_memory}
-use Rattle.ad_who.specs.Asked.{asked_of}
 use Rattle.ad_who.specs.Lines.{can_text}
 use Rattle.ad_who.specs.Answers.{base_named, IsCanText, IsTold}
 
@@ -19,16 +20,16 @@ pub told_refused : (dir : Directory) (IsText : List ℕ → Type 0) (IsRefusal :
 told_refused dir IsText IsRefusal fault told refused said =
     subst (λ (b : Bool). IsTold dir IsText IsRefusal b told.text.items) (sym said.0) (fault, refused, said.1, said.2)
 
-pub can_told : (dir : Directory) (name right : List ℕ) (base : Option (List ℕ)) (number from : ℕ) (a : Asked)
-    (text : List ℕ)
-    → named dir name ≡ Ok number
-    → asked_of dir.schema right ≡ Some a → base_named dir base ≡ Ok from
-    → (token : Token) × IsTokenOf dir number [] token × (text ≡ can_text dir token a from) → IsCanText dir name right
-    base text
-can_told dir name right base number from a text is_named is_asked is_base told = record {
-  number = number;
-  is_named = is_named;
-  asked = a;
+pub can_told : (dir : Directory) (name right : List ℕ) (base : Option (List ℕ)) (found : Option Identity) (from : ℕ)
+    (q : Question) (text : List ℕ)
+    → identity_named dir name ≡ Ok found
+    → question_of dir.schema right ≡ Some q → base_named dir base ≡ Ok from
+    → (identity : Identity) × (found ≡ Some identity) × ((token : Token) × IsIdentityToken dir identity token
+    × (text ≡ can_text dir token q from)) → IsCanText dir name right base text
+can_told dir name right base found from q text is_named is_asked is_base (identity, is, told) = record {
+  identity = identity;
+  is_named = is_named ∙ ap (λ (f : Option Identity). Ok f) is;
+  question = q;
   is_asked = is_asked;
   from = from;
   is_base = is_base;

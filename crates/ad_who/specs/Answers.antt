@@ -6,16 +6,19 @@ use Rattle.ad_ids.specs.SidOfText.{sid_of_text}
 use Rattle.ad_ids.specs.declared.token.Token.{Token}
 use Rattle.ad_dir_model.specs.Directory.{Directory}
 use Rattle.ad_dir_model.specs.Tree.{root}
-use Rattle.ad_principals.specs.Groups.{principals}
-use Rattle.ad_principals.specs.Tokens.{IsTokenOf}
 use Rattle.ad_principals.specs.Named.{named}
 use Rattle.ad_principals.specs.declared.fault.NameFault.{NameFault}
-use Rattle.ad_who.specs.declared.asked.Asked.{Asked}
+use Rattle.ad_identities.specs.declared.identity.Identity.{Identity}
+use Rattle.ad_identities.specs.Identities.{AreIdentities, IsIdentityToken}
+use Rattle.ad_identities.specs.Named.{identity_named}
+use Rattle.ad_questions.specs.declared.question.Question.{Question}
+use Rattle.ad_questions.specs.Question.{question_of}
+use Rattle.ad_questions.specs.Requirements.{requirements}
 use Rattle.ad_who.specs.declared.fault.AskFault.{AskFault}
 use Rattle.ad_who.specs.declared.fault.AskFault.TheVariants.{NoIdentifier, NoRight}
-use Rattle.ad_who.specs.Asked.{asked_of, path_at}
+use Rattle.ad_who.specs.Further.{IsTokenWith}
 use Rattle.ad_who.specs.Lines.{token_text, AreWhoLines, can_text}
-use Rattle.ad_who.specs.Faults.{fault_line, is_memory, IsNameFault, IsNoToken, IsNoTokenIn}
+use Rattle.ad_who.specs.Faults.{fault_line, is_memory, IsNameFault, IsNoToken, IsNoIdentity}
 
 -- ---- token
 
@@ -24,41 +27,42 @@ unfoldable pub sids_of : List (List ℕ) → Option (List SidValue)
 sids_of [] = Some []
 sids_of (text ∷ texts) = option_and_then (λ sid. option_map (λ sids. sid ∷ sids) (sids_of texts)) (sid_of_text text)
 
--- that of the object of a name, with further identifiers
+-- that of the identity of a name, with further identifiers
 pub record IsTokenText (dir : Directory) (name : List ℕ) (texts : List (List ℕ)) (text : List ℕ) : Type 0 where
-  pub number : ℕ
-  pub is_named : named dir name ≡ Ok number
+  pub identity : Identity
+  pub is_named : identity_named dir name ≡ Ok (Some identity)
   pub sids : List SidValue
   pub are_sids : sids_of texts ≡ Some sids
   pub token : Token
-  pub is_token : IsTokenOf dir number sids token
+  pub is_token : IsTokenWith dir identity.sid identity.number sids token
   pub lines : text ≡ token_text token
 
 -- the fault of the name, of the identifiers, or of the token
 abbrev pub IsTokenRefusal : Directory → List ℕ → List (List ℕ) → AskFault → Type 0
 IsTokenRefusal dir name texts fault =
-    IsNameFault (named dir name) fault
-    ⊎ ((number : ℕ) × (named dir name ≡ Ok number)
+    IsNameFault (identity_named dir name) fault
+    ⊎ ((found : Option Identity) × (identity_named dir name ≡ Ok found)
     × (((fault ≡ NoIdentifier) × (sids_of texts ≡ None))
-    ⊎ ((sids : List SidValue) × (sids_of texts ≡ Some sids) × IsNoToken dir number sids fault)))
+    ⊎ ((sids : List SidValue) × (sids_of texts ≡ Some sids) × IsNoToken dir found sids fault)))
 
 -- ---- who
 
--- the lines of all principals, for a right on the object of a name
+-- the lines of all identities, for a question about the object of a name
 pub record IsWhoText (dir : Directory) (right name : List ℕ) (text : List ℕ) : Type 0 where
-  pub asked : Asked
-  pub is_asked : asked_of dir.schema right ≡ Some asked
+  pub question : Question
+  pub is_asked : question_of dir.schema right ≡ Some question
   pub number : ℕ
   pub is_named : named dir name ≡ Ok number
-  pub lines : AreWhoLines dir number (path_at dir number asked.on) asked.bit (principals dir) text
+  pub all : List Identity
+  pub are : AreIdentities dir all
+  pub lines : AreWhoLines dir number (requirements dir question number) all text
 
--- the fault of the right, of the name, or of a token
+-- the fault of the right, or of the name
 abbrev pub IsWhoRefusal : Directory → List ℕ → List ℕ → AskFault → Type 0
 IsWhoRefusal dir right name fault =
-    ((fault ≡ NoRight) × (asked_of dir.schema right ≡ None))
-    ⊎ ((asked : Asked) × (asked_of dir.schema right ≡ Some asked)
-    × (IsNameFault (named dir name) fault
-    ⊎ ((number : ℕ) × (named dir name ≡ Ok number) × IsNoTokenIn dir (principals dir) fault)))
+    ((fault ≡ NoRight) × (question_of dir.schema right ≡ None))
+    ⊎ ((question : Question) × (question_of dir.schema right ≡ Some question)
+    × IsNameFault (named dir name) fault)
 
 -- ---- can
 
@@ -67,27 +71,27 @@ abbrev pub base_named : Directory → Option (List ℕ) → Result ℕ NameFault
 base_named dir None = Ok root
 base_named dir (Some name) = named dir name
 
--- the lines of the objects at and below a base, for the token of the object of a name
+-- the lines of the objects at and below a base, for the token of the identity of a name
 pub record IsCanText (dir : Directory) (name right : List ℕ) (base : Option (List ℕ)) (text : List ℕ) : Type 0 where
-  pub number : ℕ
-  pub is_named : named dir name ≡ Ok number
-  pub asked : Asked
-  pub is_asked : asked_of dir.schema right ≡ Some asked
+  pub identity : Identity
+  pub is_named : identity_named dir name ≡ Ok (Some identity)
+  pub question : Question
+  pub is_asked : question_of dir.schema right ≡ Some question
   pub from : ℕ
   pub is_base : base_named dir base ≡ Ok from
   pub token : Token
-  pub is_token : IsTokenOf dir number [] token
-  pub lines : text ≡ can_text dir token asked from
+  pub is_token : IsIdentityToken dir identity token
+  pub lines : text ≡ can_text dir token question from
 
 -- the fault of the name, of the right, of the base, or of the token
 abbrev pub IsCanRefusal : Directory → List ℕ → List ℕ → Option (List ℕ) → AskFault → Type 0
 IsCanRefusal dir name right base fault =
-    IsNameFault (named dir name) fault
-    ⊎ ((number : ℕ) × (named dir name ≡ Ok number)
-    × (((fault ≡ NoRight) × (asked_of dir.schema right ≡ None))
-    ⊎ ((asked : Asked) × (asked_of dir.schema right ≡ Some asked)
+    IsNameFault (identity_named dir name) fault
+    ⊎ ((found : Option Identity) × (identity_named dir name ≡ Ok found)
+    × (((fault ≡ NoRight) × (question_of dir.schema right ≡ None))
+    ⊎ ((question : Question) × (question_of dir.schema right ≡ Some question)
     × (IsNameFault (base_named dir base) fault
-    ⊎ ((from : ℕ) × (base_named dir base ≡ Ok from) × IsNoToken dir number [] fault)))))
+    ⊎ ((from : ℕ) × (base_named dir base ≡ Ok from) × IsNoIdentity dir found fault)))))
 
 -- ---- what is told
 

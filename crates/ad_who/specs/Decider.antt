@@ -33,10 +33,14 @@ unfoldable pub decider_for : SidValue → List Entry → Holder → Option SidVa
 decider_for owner dacl holder self path bit =
     if granted_as_owner owner dacl holder bit then Owner else deciding_from 1 dacl holder self owner path bit
 
+-- of the right to the SACL: the privilege of security, or nothing
+abbrev pub by_security : Token → Decider
+by_security token = if has_bit token.privileges 0 then Privilege else Nothing
+
 -- of a token, whose only holder is the first
 unfoldable pub decider : SidValue → List Entry → Token → Option SidValue → List Guid → ℕ → Decider
 decider owner dacl token self path bit =
-    if bit == access_system_security then (if has_bit token.privileges 0 then Privilege else Nothing)
+    if bit == access_system_security then by_security token
     else (if (bit == write_owner) && has_bit token.privileges 1 then Privilege
     else decider_for owner dacl (first_holder token) self path bit)
 

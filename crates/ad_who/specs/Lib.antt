@@ -1,5 +1,6 @@
-pub mod Asked
 pub mod Decider
+pub mod Reason
+pub mod Further
 pub mod Lines
 pub mod Faults
 pub mod Answers

@@ -12,12 +12,13 @@ ghost use Rattle.ad_access.specs.Matching.{is_inherit_only};
 ghost use Rattle.ad_access.specs.Grant.{decides, sets_owner_rights, is_implicit_owner_right, granted_as_owner};
 ghost use Rattle.ad_dir_model.specs.Objects.{is_live};
 ghost use Rattle.ad_access_dir.specs.Sight.{is_granted};
-ghost use Rattle.ad_who.specs.Decider.{by_kind, deciding_from, decider_for, decider, grants, decider_at};
+ghost use Rattle.ad_who.specs.Decider.{by_kind, deciding_from, decider_for, by_security};
+ghost use Rattle.ad_who.specs.Decider.{decider, grants, decider_at};
 
 use ad_access::{Rank, is_about, is_inherit_only, is_spoken, matches};
 use ad_acl::{AceIn, AceKind, map_generic};
 use ad_dir::{Dir, live_sd};
-use ad_ids::{Guid, Sid, TAKE_OWNERSHIP, Token};
+use ad_ids::{Guid, SECURITY, Sid, TAKE_OWNERSHIP, Token};
 use ad_sd::SdView;
 use ad_types::Path;
 
@@ -187,6 +188,23 @@ fn may_take(token: &Token) -> bool
     token.privileges & TAKE_OWNERSHIP != 0
 }
 
+// Whether the token has the privilege of security.
+fn may_audit(token: &Token) -> bool
+    ensures { result ≡ has_bit token.now.privileges 0 }
+{
+    token.privileges & SECURITY != 0
+}
+
+// The right to the SACL is that privilege alone.
+fn by_security(token: &Token) -> Decider
+    ensures { result ≡ by_security token.now }
+{
+    if may_audit(token) {
+        return Decider::Privilege;
+    }
+    Decider::Nothing
+}
+
 // What decides, by a view of the descriptor.
 #[tactic(auto, unfolding(crate::specs::Decider::decider))]
 fn decider_in(
@@ -196,10 +214,13 @@ fn decider_in(
     path: &[Guid],
     bit: u32,
 ) -> Decider
-    requires { bit < 20 }
+    requires { bit < 28 }
     ensures { result ≡ decider (seen view.now).owner (seen view.now).dacl.entries token.now
         (option_copied self_sid.entry) path.now bit }
 {
+    if bit == 24 {
+        return by_security(token);
+    }
     if bit == 19 && may_take(token) {
         return Decider::Privilege;
     }
@@ -210,7 +231,7 @@ fn decider_in(
 #[tactic(auto, unfolding(crate::specs::Decider::decider_at))]
 fn decider_at(dir: &Dir, token: &Token, number: u32, path: &Path, bit: u32) -> Decider
     requires live { is_live dir.now.objects number ≡ true }
-    requires bit { bit < 20 }
+    requires bit { bit < 28 }
     ensures { result ≡ decider_at dir.now token.now number (guids_of path.now) bit }
 {
     decider_in(
@@ -224,11 +245,11 @@ fn decider_at(dir: &Dir, token: &Token, number: u32, path: &Path, bit: u32) -> D
 
 /// What decides a right, by its place in a mask, for a token without restricting identifiers, on a live object and a
 /// path: the privilege to take ownership, that the token holds the object's owner, or the first entry of the DACL
-/// that decides ([MS-DTYP] 2.5.3.2). It grants exactly where the access check does. The right is one of those of
-/// objects and descriptors. It takes no memory.
+/// that decides ([MS-DTYP] 2.5.3.2). It grants exactly where the access check does. The right is no generic
+/// one. It takes no memory.
 pub fn decider_on(dir: &Dir, token: &Token, number: u32, path: &Path, bit: u32) -> Decider
     requires live { is_live dir.now.objects number ≡ true }
-    requires bit { bit < 20 }
+    requires bit { bit < 28 }
     ensures decider { result ≡ decider_at dir.now token.now number (guids_of path.now) bit }
     ensures granted { token.now.restricting ≡ [] → grants result ≡ is_granted dir.now token.now
         number (guids_of path.now) bit }

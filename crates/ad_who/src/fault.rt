@@ -1,12 +1,12 @@
 //! Why a question isn't answered, and the line that says so.
 
-ghost use Rattle.std.specs.Prelude.{◌≡◌, true, IfOk};
-ghost use Rattle.ad_dir_model.specs.Objects.{is_live};
+ghost use Rattle.std.specs.Prelude.{◌≡◌, IfOk};
 ghost use Rattle.ad_who.specs.declared.fault.AskFault.TheVariants as ask_fault;
-ghost use Rattle.ad_who.specs.Faults.{fault_line, IsOfLive};
+ghost use Rattle.ad_who.specs.Faults.{fault_line, IsLiveIf, IsOfLive};
 
+use crate::identity::put_name_or;
 use ad_dir::Dir;
-use ad_principals::{put, put_name};
+use ad_principals::put;
 use std::alloc::{AllocError, Global};
 
 /// Why a question isn't answered.
@@ -16,14 +16,14 @@ pub enum AskFault {
     NoObject,
     /// Several accounts have it.
     Several,
-    /// The object of the name has no identifier.
+    /// What has the name is no identity.
     NoPrincipal,
     /// A further identifier isn't the text of one.
     NoIdentifier,
     /// The right is none, or nothing has the name in it.
     NoRight,
-    /// The principal of this number has more groups than a token may.
-    TooMany(u32),
+    /// The identity has more groups than a token may: that of the object of this number, or one without.
+    TooMany(Option<u32>),
     /// Memory ran out.
     Memory,
 }
@@ -42,13 +42,13 @@ fn whole(alloc: Global, line: &[u8]) -> Result<Vec<u8>, AllocError>
     line.to_vec(alloc)
 }
 
-fn many(alloc: Global, dir: &Dir, number: u32) -> Result<Vec<u8>, AllocError>
-    requires { is_live dir.now.objects number ≡ true }
+fn many(alloc: Global, dir: &Dir, number: Option<u32>) -> Result<Vec<u8>, AllocError>
+    requires { IsLiveIf dir.now number }
     ensures { IfOk result (λ text. text.items ≡ fault_line dir.now (ask_fault.TooMany number)) }
 {
     let mut text = Vec::new(alloc);
     put(&mut text, b"too many groups ")?;
-    put_name(alloc, &mut text, dir, number)?;
+    put_name_or(alloc, &mut text, dir, number)?;
     Ok(text)
 }
 

@@ -1,5 +1,5 @@
-//! Who can do what, by the tokens that follow from a directory: which right a text asks for, what decides it for a
-//! token on an object, and the lines that tell it.
+//! Who can do what, by the tokens that follow from a directory: what decides a right for a token on an object, why a
+//! token is told yes to a question, and the lines that tell it.
 //!
 //! The rules are written in `docs/profile/who.md`, and defined in `specs/` apart from the code.
 //!
@@ -17,27 +17,28 @@
 //!
 //! # The caller owes
 //!
-//! A live object, a class of the schema, and a right below 2^20.
+//! A live object, and a right that is no generic one.
 //!
 //! # Cost
 //!
 //! One sweep over a descriptor for each principal or object that is asked about.
 #![tactic(auto)]
 
-mod asked;
-mod codes;
 mod decider;
 mod fault;
 mod having;
+mod identity;
 mod laws;
 mod pieces;
 mod reaching;
+mod reason;
 mod tokens;
 mod told;
 
-pub use asked::{Asked, On, path_on, right_asked};
 pub use decider::{Decider, decider_on};
 pub use laws::{
-    a_right_is_granted_where_what_decides_it_grants, no_question_is_both_answered_and_refused,
+    a_line_stands_where_the_token_is_told_yes, a_right_is_granted_where_what_decides_it_grants,
+    a_right_is_told_by_what_decides_it, no_question_is_both_answered_and_refused,
 };
+pub use reason::{Reason, reason_on};
 pub use told::{Answer, can, token, who};

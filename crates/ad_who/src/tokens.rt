@@ -1,20 +1,32 @@
-//! The token of the object of a name, as lines.
+//! The token of the identity of a name, as lines.
 
-ghost use Rattle.std.specs.Prelude.{◌≡◌, ◌++◌, Ok, Some, None, true, map, IfOk, IfErr, IfSome, IfNone, OnOk};
+ghost use Rattle.std.specs.Prelude.{◌≡◌, ◌≢◌, ◌++◌, ◌||◌, ◌∷◌, [], Ok, Some, None, true, map, if◌then◌else◌};
+ghost use Rattle.std.specs.Prelude.{IfOk, IfErr, IfSome, IfNone, OnOk};
 ghost use Rattle.std.specs.List.{flat_map};
 ghost use Rattle.std.specs.String.{string_bytes};
+ghost use Rattle.ad_ids.specs.SidValue.{same_sid};
+ghost use Rattle.ad_ids.specs.WellKnown.{everyone, authenticated_users};
 ghost use Rattle.ad_dir_model.specs.Objects.{is_live};
+ghost use Rattle.ad_principals.specs.Groups.{is_principal, anonymous};
+ghost use Rattle.ad_principals.specs.Membership.{AreMembersOf};
 ghost use Rattle.ad_principals.specs.Named.{named};
-ghost use Rattle.ad_principals.specs.Tokens.{IsTokenOf};
+ghost use Rattle.ad_principals.specs.Tokens.{IsTokenOf, IsTokenFrom, IsFaultFrom, HasTooManyGroups};
+ghost use Rattle.ad_principals.specs.declared.fault.TokenFault.TheVariants as token_fault;
+ghost use Rattle.ad_identities.specs.Identities.{lone, IsIdentity};
+ghost use Rattle.ad_identities.specs.Named.{identity_named};
+ghost use Rattle.ad_who.specs.Further.{first_further, IsLoneToken, HasTooManyLone, IsTokenWith, HasTooManyWith};
+ghost use Rattle.ad_who.specs.Further.{IsTokenFound};
 ghost use Rattle.ad_who.specs.Lines.{group_line, token_text};
 ghost use Rattle.ad_who.specs.Faults.{IsNameFault, IsNoToken, IsOfLive};
 ghost use Rattle.ad_who.specs.Answers.{sids_of, IsTokenText, IsTokenRefusal};
 
 use crate::fault::AskFault;
+use crate::identity::{identity_lives, token_if};
 use crate::pieces::{put_number_line, put_sid_line};
 use ad_dir::Dir;
+use ad_identities::{Identity, identity_named};
 use ad_ids::{Sid, Token};
-use ad_principals::{NameFault, TokenFault, principal_named, sid_of_text, token_of};
+use ad_principals::{Members, NameFault, TokenFault, principal_named, sid_of_text};
 use std::alloc::{AllocError, Global};
 
 /// The object of a name.
@@ -31,22 +43,176 @@ pub(crate) fn object_named(alloc: Global, dir: &Dir, name: &[u8]) -> Result<u32,
     }
 }
 
-/// The token of an object, where it is a principal's, with further identifiers.
-pub(crate) fn token_for(
+/// The identity of a name, where what it names is one.
+pub(crate) fn identity_asked(
     alloc: Global,
     dir: &Dir,
-    number: u32,
-    sids: &[Sid],
-) -> Result<Token, AskFault>
-    ensures token { IfOk result (IsTokenOf dir.now number sids.now) }
-    ensures fault { IfErr result (IsNoToken dir.now number sids.now) }
+    name: &[u8],
+) -> Result<Option<Identity>, AskFault>
+    ensures found { IfOk result (λ found. identity_named dir.now name.now ≡ Ok found) }
+    ensures known { IfOk result (λ found. IfSome found (IsIdentity dir.now)) }
+    ensures fault { IfErr result (IsNameFault (identity_named dir.now name.now)) }
     ensures live { IfErr result (IsOfLive dir.now) }
 {
-    match token_of(alloc, dir, number, sids) {
-        Ok(token) => Ok(token),
-        Err(TokenFault::NoSid) => Err(AskFault::NoPrincipal),
-        Err(TokenFault::TooMany) => Err(AskFault::TooMany(number)),
-        Err(TokenFault::Memory) => Err(AskFault::Memory),
+    match identity_named(alloc, dir, name) {
+        Ok(found) => Ok(found),
+        Err(NameFault::NoObject) => Err(AskFault::NoObject),
+        Err(NameFault::Several) => Err(AskFault::Several),
+        Err(NameFault::Memory) => Err(AskFault::Memory),
+    }
+}
+
+// ---- the token
+
+// Puts Authenticated Users.
+fn put_accounts(first: &mut Vec<Sid>, is_apart: bool) -> Result<(), AllocError>
+    ensures { OnOk result (first.new.items
+        ≡ first.old.items ++ (if is_apart then [] else authenticated_users ∷ [])) }
+{
+    if is_apart {
+        return Ok(());
+    }
+    first.push(Sid::well_known(5, 11))?;
+    Ok(())
+}
+
+fn is_apart(sid: &Sid) -> bool
+    ensures { result ≡ (same_sid sid.now everyone || same_sid sid.now anonymous) }
+{
+    sid.is_well_known(1, 0) || sid.is_well_known(5, 7)
+}
+
+// Everyone, Authenticated Users but for Everyone and who hasn't bound, and further identifiers.
+fn first_further(alloc: Global, sid: &Sid, sids: &[Sid]) -> Result<Vec<Sid>, AllocError>
+    ensures { IfOk result (λ first. first.items ≡ first_further sid.now sids.now) }
+{
+    let mut first = Vec::new(alloc);
+    first.push(Sid::well_known(1, 0))?;
+    put_accounts(&mut first, is_apart(sid))?;
+    first.extend_from_slice(sids)?;
+    Ok(first)
+}
+
+// The token of an identifier without a principal, with further ones.
+fn with_further(
+    alloc: Global,
+    dir: &Dir,
+    members: &Members,
+    sid: &Sid,
+    sids: &[Sid],
+) -> Result<Token, TokenFault>
+    requires { AreMembersOf dir.now members.now }
+    ensures token { IfOk result (IsTokenFrom dir.now (Some sid.now) everyone
+        (first_further sid.now sids.now)) }
+    ensures fault { IfErr result (IsFaultFrom dir.now (Some sid.now)
+        (first_further sid.now sids.now)) }
+    ensures some { IfErr result (λ fault. fault ≢ token_fault.NoSid) }
+{
+    let first = first_further(alloc, sid, sids)?;
+    members.token_from(alloc, dir, sid, &Sid::well_known(1, 0), first.as_slice())
+}
+
+// The same, where there may be none further.
+fn lone_token(
+    alloc: Global,
+    dir: &Dir,
+    members: &Members,
+    sid: &Sid,
+    sids: &[Sid],
+) -> Result<Option<Token>, AllocError>
+    requires members { AreMembersOf dir.now members.now }
+    requires identity { IsIdentity dir.now (lone sid.now) }
+    ensures token { IfOk result (λ token. IfSome token (IsLoneToken dir.now sid.now sids.now)) }
+    ensures many { IfOk result (λ token. IfNone token (HasTooManyLone dir.now sid.now sids.now)) }
+{
+    match sids {
+        [] => token_if(
+            alloc,
+            dir,
+            members,
+            &Identity {
+                sid: *sid,
+                number: None,
+            },
+        ),
+        [_, ..] => match with_further(alloc, dir, members, sid, sids) {
+            Ok(token) => Ok(Some(token)),
+            Err(TokenFault::NoSid) => unreachable!(),
+            Err(TokenFault::TooMany) => Ok(None),
+            Err(TokenFault::Memory) => Err(AllocError),
+        },
+    }
+}
+
+// The token of a principal, with further identifiers.
+fn principal_token(
+    alloc: Global,
+    dir: &Dir,
+    members: &Members,
+    number: u32,
+    sids: &[Sid],
+) -> Result<Option<Token>, AllocError>
+    requires members { AreMembersOf dir.now members.now }
+    requires principal { is_principal dir.now number ≡ true }
+    ensures token { IfOk result (λ token. IfSome token (IsTokenOf dir.now number sids.now)) }
+    ensures many { IfOk result (λ token. IfNone token (HasTooManyGroups dir.now number sids.now)) }
+{
+    match members.token(alloc, dir, number, sids) {
+        Ok(token) => Ok(Some(token)),
+        Err(TokenFault::NoSid) => unreachable!(),
+        Err(TokenFault::TooMany) => Ok(None),
+        Err(TokenFault::Memory) => Err(AllocError),
+    }
+}
+
+// The token of an identity, with further identifiers; none where it has too many groups.
+fn token_with(
+    alloc: Global,
+    dir: &Dir,
+    identity: &Identity,
+    sids: &[Sid],
+) -> Result<Option<Token>, AllocError>
+    requires { IsIdentity dir.now identity.now }
+    ensures token { IfOk result (λ token. IfSome token (IsTokenWith dir.now identity.now.sid
+        identity.now.number sids.now)) }
+    ensures many { IfOk result (λ token. IfNone token (HasTooManyWith dir.now identity.now.sid
+        identity.now.number sids.now)) }
+{
+    let members = Members::of(alloc, dir)?;
+    match identity.number {
+        Some(number) => principal_token(alloc, dir, &members, number, sids),
+        None => lone_token(alloc, dir, &members, &identity.sid, sids),
+    }
+}
+
+fn token_by(alloc: Global, dir: &Dir, identity: &Identity, sids: &[Sid]) -> Result<Token, AskFault>
+    requires { IsIdentity dir.now identity.now }
+    ensures token { IfOk result (IsTokenWith dir.now identity.now.sid identity.now.number sids.now) }
+    ensures fault { IfErr result (IsNoToken dir.now (Some identity.now) sids.now) }
+    ensures live { IfErr result (IsOfLive dir.now) }
+{
+    identity_lives(dir, identity);
+    match token_with(alloc, dir, identity, sids)? {
+        Some(token) => Ok(token),
+        None => Err(AskFault::TooMany(identity.number)),
+    }
+}
+
+// The token of what a name represents.
+fn token_for(
+    alloc: Global,
+    dir: &Dir,
+    found: Option<Identity>,
+    sids: &[Sid],
+) -> Result<Token, AskFault>
+    requires { IfSome found (IsIdentity dir.now) }
+    ensures token { IfOk result (IsTokenFound dir.now found sids.now) }
+    ensures fault { IfErr result (IsNoToken dir.now found sids.now) }
+    ensures live { IfErr result (IsOfLive dir.now) }
+{
+    match found {
+        Some(identity) => token_by(alloc, dir, &identity, sids),
+        None => Err(AskFault::NoPrincipal),
     }
 }
 
@@ -92,7 +258,7 @@ fn token_text(alloc: Global, token: &Token) -> Result<Vec<u8>, AllocError>
     Ok(text)
 }
 
-/// The token of the object of a name, with the identifiers that further texts are, in lines that end with LF: `user`,
+/// The token of the identity of a name, with the identifiers that further texts are, in lines that end with LF: `user`,
 /// `owner`, `primary` and each `group` with an identifier, and `privileges` with their sum.
 ///
 /// # Errors
@@ -110,11 +276,11 @@ pub(crate) fn token_lines(
     ensures refusal { IfErr result (IsTokenRefusal dir.now name.now (map string_bytes texts.now)) }
     ensures live { IfErr result (IsOfLive dir.now) }
 {
-    let number = object_named(alloc, dir, name)?;
+    let found = identity_asked(alloc, dir, name)?;
     let sids = match sids_of(alloc, texts)? {
         Some(sids) => sids,
         None => return Err(AskFault::NoIdentifier),
     };
-    let token = token_for(alloc, dir, number, sids.as_slice())?;
+    let token = token_for(alloc, dir, found, sids.as_slice())?;
     Ok(token_text(alloc, &token)?)
 }

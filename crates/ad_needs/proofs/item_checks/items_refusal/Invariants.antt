@@ -7,5 +7,5 @@ use Rattle.ad_needs.proofs.item_checks.items_refusal.Given as goal
 -- none so far fails
 abbrev pub invariant-each : goal.invariant-each
 invariant-each l =
-    refusal_of (flat_map (item_checks l.dir l.number l.flags l.items) (drop l.item-index l.items))
-    ≡ refusal_of (flat_map (item_checks l.dir l.number l.flags l.items) l.items)
+    refusal_of (flat_map (item_checks l.dir l.number l.decoded.flags l.decoded.items.now) (drop l.i l.decoded.items.now))
+    ≡ refusal_of (flat_map (item_checks l.dir l.number l.decoded.flags l.decoded.items.now) l.decoded.items.now)

@@ -1,0 +1,5 @@
+pub mod Asked
+pub mod Question
+pub mod Requests
+pub mod Requirements
+pub mod Asking

@@ -1,5 +1,0 @@
-use Rattle.ad_principals.proofs.Identified.{sid_live}
-use Rattle.ad_who.proofs.having.principal_lives.Goals as goal
-
-pub returns : goal.returns
-returns c = sid_live c.args.dir.now c.args.principal c.requires

@@ -1,0 +1,23 @@
+use Rattle.std.proofs.Common.{List, ℕ, Some, ap, ◌++◌, ◌∙◌}
+use Rattle.ad_dir_model.specs.Names.{name_text}
+use Rattle.ad_questions.specs.Requirements.{requirements_seen}
+use Rattle.ad_who.specs.Lines.{reason_text}
+use Rattle.ad_bytes.specs.Puts.{spaced, ended}
+use Rattle.ad_who.proofs.Putting.{where_ok, two_put, no_line, line_is}
+use Rattle.ad_who.proofs.reaching.put_told_line.Goals as goal
+
+pub returns-in-None : goal.returns-in-None
+returns-in-None c =
+    no_line c.args.into.now.items c.args.dir.now c.args.token.now c.args.number (requirements_seen c.args.needed.now)
+    (ended (name_text c.args.dir.now c.args.number)) c.in-None.ensures
+
+pub returns : goal.returns
+returns c =
+    let name = ended (name_text c.args.dir.now c.args.number) in
+    where_ok c.put_name.result
+    (λ last. two_put c.args.into.now.items c.put_reason.new.into.items c.put_name.new.into.items
+    (spaced (reason_text c.in-Some.reason)) name c.in_ok-put_reason.ensures last
+    ∙ ap (λ (line : List ℕ). c.args.into.now.items ++ line)
+    (line_is c.args.dir.now c.args.token.now c.args.number (requirements_seen c.args.needed.now) name
+    (Some c.in-Some.reason) c.in-Some.ensures))
+    c.put_name.ensures
