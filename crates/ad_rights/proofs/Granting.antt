@@ -18,11 +18,12 @@ use Rattle.ad_acl.specs.Mask.{has_bit, mapped_has, write_owner, access_system_se
 use Rattle.ad_sd.specs.declared.parts.Sd.{Sd}
 use Rattle.ad_access.specs.WellKnown.{owner_rights, principal_self}
 use Rattle.ad_access.specs.Holder.{first_holder, second_holder, holds, denies_by, answers_to}
+use Rattle.ad_access.specs.Alike.{AnswerAlike}
 use Rattle.ad_access.specs.Matching.{answers_to_self, matches, speaks}
 use Rattle.ad_access.specs.Grant.{decides, is_allow, granted_by_entries, granted_as_owner, granted_to, granted}
 use Rattle.ad_access.specs.Grant.{is_implicit_owner_right, sets_owner_rights}
 use Rattle.ad_rights.specs.Entry.{meant, is_about_right, is_held, decides_by, granted_by}
-use Rattle.ad_rights.specs.Holding.{has, holds_at, takes}
+use Rattle.ad_rights.specs.Holding.{has, holds_at, takes, audits}
 use Rattle.ad_rights.specs.Set.{IsBare, AreBare, granted_set, is_for_self}
 use Rattle.ad_rights.specs.Standing.{stand_at, decided, by_privilege}
 use Rattle.ad_rights.proofs.Deciding.{begun, decided_step}
@@ -109,13 +110,13 @@ entries_is holders q token (e ∷ others) self owner path bit bare found =
 
 -- what is decided before the entries, and what they decide, is what the rule grants
 pub granted_is : (holders : SidValue → List ℕ) (q : ℕ) (token : Token) (owner : SidValue) (dacl : List Entry) (self : Option SidValue)
-    (path : List Guid) (bit : ℕ) → bit < 20 → IsBare token → IsFound holders q token
+    (path : List Guid) (bit : ℕ) → (bit ≡ access_system_security → ⊥) → IsBare token → IsFound holders q token
     → unwrap_or (decided ((is_implicit_owner_right bit && not (list_any sets_owner_rights dacl))
     && has (holders owner) q) true (by_privilege (bit == write_owner) (takes token)))
     (granted_by holders dacl self owner path bit q)
     ≡ granted owner dacl token self path bit
 unfolding granted_as_owner
-granted_is holders q token owner dacl self path bit lt bare found =
+granted_is holders q token owner dacl self path bit other bare found =
     let implicit : Bool = is_implicit_owner_right bit in
     let unset : Bool = not (list_any sets_owner_rights dacl) in
     let taken : Bool = (bit == write_owner) && takes token in
@@ -131,7 +132,7 @@ granted_is holders q token owner dacl self path bit lt bare found =
     (turned implicit (holds (first_holder token) owner) unset)
     ∙ sym (ap (λ (b : Bool). if b then has_bit token.privileges 0 else (if taken then true
     else (one && ((length token.restricting == 0) || second))))
-    (ne_eqb bit access_system_security (λ (e : bit ≡ access_system_security). omega (arith, e, lt)))
+    (ne_eqb bit access_system_security other)
     ∙ ap (λ (l : List SidValue). if taken then true else (one && ((length l == 0) || second))) bare.restricting
     ∙ ap (λ (b : Bool). if taken then true else b) (and-true one))
 
@@ -170,7 +171,7 @@ held sid token = option_map_or (λ (t : Token). holds (first_holder t) sid) toke
 -- What stands at first is by privilege, then also as the owner, and in the end as the entries have it.
 pub set_is : (holders : SidValue → List ℕ) (tokens : List Token) (takers : List Bool)
     (first second third : List (Option Bool)) (set : List Bool) (owner : SidValue) (dacl : List Entry) (self : Option SidValue) (path : List Guid)
-    (bit : ℕ) → bit < 20 → ((sid : SidValue) (q : ℕ) → has (holders sid) q ≡ holds_at tokens sid q)
+    (bit : ℕ) → (bit ≡ access_system_security → ⊥) → ((sid : SidValue) (q : ℕ) → has (holders sid) q ≡ holds_at tokens sid q)
     → takers ≡ map takes tokens → AreBare tokens → first ≡ map (by_privilege (bit == write_owner)) takers
     → length second ≡ length first
     → ((q : ℕ) → q < length first → stand_at second q
@@ -181,7 +182,7 @@ pub set_is : (holders : SidValue → List ℕ) (tokens : List Token) (takers : L
     ≡ unwrap_or (stand_at second q) (granted_by holders dacl self owner path bit q))
     → set ≡ map (λ (stand : Option Bool). unwrap_or stand false) third → set
     ≡ map (λ (t : Token). granted owner dacl t self path bit) tokens
-set_is holders tokens takers first second third set owner dacl self path bit below are taken bare first_is two second_is three
+set_is holders tokens takers first second third set owner dacl self path bit other are taken bare first_is two second_is three
     third_is whole =
     same_lists set (map grants tokens) (set_long ∙ sym (length-map tokens grants)) at
   where
@@ -221,7 +222,7 @@ set_is holders tokens takers first second third set owner dacl self path bit bel
         ∙ third_is k lt2
         ∙ ap (λ (o : Option Bool). unwrap_or o (granted_by holders dacl self owner path bit k))
         (second_is k lt1 ∙ ap (decided owned true) (first_at k x lt is))
-        ∙ granted_is holders k x owner dacl self path bit below (bare k x is) (λ sid. are sid k ∙ ap (held sid) is)
+        ∙ granted_is holders k x owner dacl self path bit other (bare k x is) (λ sid. are sid k ∙ ap (held sid) is)
         ∙ sym (get_or-map grants tokens k x d lt ∙ ap grants (get_or_from_slice_get tokens k x x is))
 
     at : (k : ℕ) (d : Bool) → k < length set → get_or set k d ≡ get_or (map grants tokens) k d
@@ -237,6 +238,13 @@ pub set_of : (sd : Sd) (owner : SidValue) (tokens : List Token) (self : Option S
 unfolding granted_set
 set_of sd owner tokens self path bit set who is =
     is ∙ ap (λ (o : SidValue). map (λ (t : Token). granted o sd.dacl.entries t self path bit) tokens) who
+
+-- to read and write the SACL is granted by the privilege alone
+pub audited : (sd : Sd) (tokens : List Token) (self : Option SidValue) (path : List Guid) (bit : ℕ) (set : List Bool)
+    → bit ≡ access_system_security → set ≡ map audits tokens → set ≡ granted_set sd tokens self path bit
+unfolding granted_set
+audited sd tokens self path bit set at is =
+    is ∙ sym (ap (λ (n : ℕ). map (λ (t : Token). granted sd.owner sd.dacl.entries t self path n) tokens) at)
 
 -- ---- the laws of sets
 
@@ -258,3 +266,24 @@ sets_alike sd (t ∷ ts) self other path bit none =
     (granted_any sd.owner sd.dacl.entries t self other path bit none)
     ∙ ap (λ (l : List Bool). granted sd.owner sd.dacl.entries t other path bit ∷ l)
     (sets_alike sd ts self other path bit none)
+
+-- ---- the own identifier
+
+none_held : (kind : AceKind) (token : Token) (sid : SidValue) → IsBare token
+    → holds (first_holder token) sid ≡ false → answers_to kind (first_holder token) sid ≡ false
+none_held kind token sid bare none = sym (answers_is kind token sid bare) ∙ none
+
+none_restricting : (kind : AceKind) (token : Token) (sid : SidValue) → IsBare token
+    → answers_to kind (second_holder token) sid ≡ false
+none_restricting Allow token sid bare = ap (λ (l : List SidValue). contains_sid l sid) bare.restricting
+none_restricting Deny token sid bare = ap (λ (l : List SidValue). contains_sid l sid) bare.restricting
+none_restricting Audit token sid bare = ap (λ (l : List SidValue). contains_sid l sid) bare.restricting
+
+-- who doesn't hold it answers to it as little as to none
+pub apart_alike : (token : Token) (self : Option SidValue) → IsBare token
+    → ((sid : SidValue) → self ≡ Some sid → holds (first_holder token) sid ≡ false) → AnswerAlike token self None
+apart_alike token None bare none = record { first = λ kind. refl; second = λ kind. refl }
+apart_alike token (Some sid) bare none = record {
+  first = λ kind. none_held kind token sid bare (none sid refl);
+  second = λ kind. none_restricting kind token sid bare;
+}

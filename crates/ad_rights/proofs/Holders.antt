@@ -14,7 +14,7 @@ use Rattle.ad_ids.specs.SidValue.{SidValue, same_sid, contains_sid}
 use Rattle.ad_ids.proofs.SidLaws.{same_sid-Decides}
 use Rattle.ad_ids.specs.declared.token.Token.{Token}
 use Rattle.ad_access.specs.Holder.{first_holder, holds}
-use Rattle.ad_rights.specs.Holding.{listed, has, Gains, holds_at, takes}
+use Rattle.ad_rights.specs.Holding.{listed, has, Gains, holds_at, takes, audits}
 
 -- ---- what is noted of one token
 
@@ -99,3 +99,8 @@ pub takers_more : (tokens : List Token) (t : Token) (old new : List Bool) → ol
     → new ≡ old ++ takes t ∷ [] → new ≡ map takes (tokens ++ t ∷ [])
 takers_more tokens t old new was more =
     more ∙ ap (λ (l : List Bool). l ++ takes t ∷ []) was ∙ sym (map_push takes tokens t)
+
+pub auditors_more : (tokens : List Token) (t : Token) (old new : List Bool) → old ≡ map audits tokens
+    → new ≡ old ++ audits t ∷ [] → new ≡ map audits (tokens ++ t ∷ [])
+auditors_more tokens t old new was more =
+    more ∙ ap (λ (l : List Bool). l ++ audits t ∷ []) was ∙ sym (map_push audits tokens t)

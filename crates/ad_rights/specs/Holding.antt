@@ -7,7 +7,7 @@ use Rattle.indexmap.specs.IndexMap.{IndexMap, get}
 use Rattle.ad_ids.specs.SidValue.{SidValue, same_sid}
 use Rattle.ad_ids.specs.declared.token.Token.{Token}
 use Rattle.ad_acl.specs.Mask.{has_bit}
-use Rattle.ad_access.specs.Privileges.{take_ownership}
+use Rattle.ad_access.specs.Privileges.{security, take_ownership}
 use Rattle.ad_access.specs.Holder.{first_holder, holds}
 use Rattle.ad_rights.specs.declared.holding.Holding.{Holding}
 
@@ -31,8 +31,13 @@ holds_at tokens sid place = option_map_or (λ token. holds (first_holder token) 
 abbrev pub takes : Token → Bool
 takes token = has_bit token.privileges take_ownership
 
--- The index is of these tokens: it has the places of those that hold each identifier, and which of them have the
+-- the token has the privilege to read and write SACLs
+abbrev pub audits : Token → Bool
+audits token = has_bit token.privileges security
+
+-- The index is of these tokens: it has the places of those that hold each identifier, and which of them have each
 -- privilege.
 pub record IsHoldingOf (tokens : List Token) (h : Holding) : Type 0 where
   pub holders : (sid : SidValue) (place : ℕ) → has (listed h.holders sid) place ≡ holds_at tokens sid place
   pub takers : h.takers.items ≡ map takes tokens
+  pub auditors : h.auditors.items ≡ map audits tokens

@@ -3,20 +3,21 @@
 ghost use Rattle.std.specs.Prelude.{◌≡◌, ◌&&◌, ◌==◌, [], ◌∷◌, ◌++◌, List, length, OnOk};
 ghost use Rattle.ad_ids.specs.SidValue.{same_sid, contains_sid};
 ghost use Rattle.ad_ids.specs.declared.token.Token.{Token as TokenValue};
-ghost use Rattle.ad_rights.specs.Holding.{listed, takes, Gains, IsHoldingOf};
+ghost use Rattle.ad_rights.specs.Holding.{listed, takes, audits, Gains, IsHoldingOf};
 
-use ad_ids::{Sid, TAKE_OWNERSHIP, Token};
+use ad_ids::{SECURITY, Sid, TAKE_OWNERSHIP, Token};
 use indexmap::IndexMap;
 use std::alloc::{AllocError, Global};
 
 type Table = IndexMap<Sid, Vec<usize>>;
 
 /// The tokens of a list by what they hold: the places of those that hold each identifier, and which of them have the
-/// privilege to take ownership. The tokens themselves aren't kept.
+/// privileges to take ownership, and to read and write SACLs. The tokens themselves aren't kept.
 #[derive(Drop)]
 pub struct Holding {
     holders: IndexMap<Sid, Vec<usize>>,
     takers: Vec<bool>,
+    auditors: Vec<bool>,
 }
 
 // Puts a place at the end of those of an identifier.
@@ -66,6 +67,13 @@ fn may_take(token: &Token) -> bool
     token.privileges & TAKE_OWNERSHIP != 0
 }
 
+// Whether the token has the privilege to read and write SACLs.
+fn may_audit(token: &Token) -> bool
+    ensures { result ≡ audits token.now }
+{
+    token.privileges & SECURITY != 0
+}
+
 impl Holding {
     /// Of no token.
     pub fn new(alloc: Global) -> Holding
@@ -74,6 +82,7 @@ impl Holding {
         Holding {
             holders: IndexMap::new(alloc),
             takers: Vec::new(alloc),
+            auditors: Vec::new(alloc),
         }
     }
 
@@ -89,6 +98,7 @@ impl Holding {
         let place = self.count();
         note_token(alloc, &mut self.holders, token, place)?;
         self.takers.push(may_take(token))?;
+        self.auditors.push(may_audit(token))?;
         Ok(())
     }
 
@@ -100,7 +110,7 @@ impl Holding {
     }
 
     /// The places of the tokens that hold an identifier.
-    pub(crate) fn holders_of(&self, sid: &Sid) -> &[usize]
+    pub fn holders_of(&self, sid: &Sid) -> &[usize]
         ensures { result.now ≡ listed self.now.holders sid.now }
     {
         match self.holders.get(sid) {
@@ -114,5 +124,12 @@ impl Holding {
         ensures { result.now ≡ self.now.takers.items }
     {
         self.takers.as_slice()
+    }
+
+    /// Of each token, whether it has the privilege to read and write SACLs.
+    pub(crate) fn auditors(&self) -> &[bool]
+        ensures { result.now ≡ self.now.auditors.items }
+    {
+        self.auditors.as_slice()
     }
 }

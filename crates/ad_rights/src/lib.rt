@@ -17,7 +17,8 @@
 //! # Proved
 //!
 //! The set has at the place of each token whether the access check grants it the right, token by token. Where no
-//! entry of a descriptor is for the object itself, the object's own identifier makes no difference.
+//! entry of a descriptor is for the object itself, the object's own identifier makes no difference; and it makes none
+//! for a token that doesn't hold it.
 //!
 //! # The caller owes
 //!
@@ -38,5 +39,8 @@ mod standing;
 
 pub use entry::names_self;
 pub use holding::Holding;
-pub use laws::{the_own_identifier_counts_where_an_entry_names_it, what_one_token_is_granted};
+pub use laws::{
+    the_own_identifier_counts_for_who_holds_it, the_own_identifier_counts_where_an_entry_names_it,
+    what_one_token_is_granted,
+};
 pub use set::granted_set;

@@ -4,7 +4,7 @@ ghost use Rattle.std.specs.Prelude.{◌≡◌, ◌&&◌, ◌==◌, ◌<◌, not,
 ghost use Rattle.std.specs.List.{list_any};
 ghost use Rattle.std.specs.Option.{option_copied};
 ghost use Rattle.ad_ids.specs.declared.token.Token.{Token as TokenValue};
-ghost use Rattle.ad_acl.specs.Mask.{write_owner};
+ghost use Rattle.ad_acl.specs.Mask.{write_owner, access_system_security};
 ghost use Rattle.ad_sd.specs.Seen.{seen};
 ghost use Rattle.ad_access.specs.Grant.{is_implicit_owner_right, sets_owner_rights};
 ghost use Rattle.ad_rights.specs.Entry.{granted_by};
@@ -19,12 +19,21 @@ use ad_ids::{Guid, Sid};
 use ad_sd::SdView;
 use std::alloc::{AllocError, Global};
 
+/// The places in a mask of the rights that owners have, that a privilege grants, and that privileges alone grant.
+const READ_CONTROL: u32 = 17;
+
+const WRITE_DAC: u32 = 18;
+
+const WRITE_OWNER: u32 = 19;
+
+const ACCESS_SYSTEM_SECURITY: u32 = 24;
+
 // Whether the right is one that owners have, and no entry sets the owner's rights.
 fn is_owners(view: &SdView<'_>, bit: u32) -> bool
     ensures { result ≡ (is_implicit_owner_right bit
         && not (list_any sets_owner_rights (seen view.now).dacl.entries)) }
 {
-    (bit == 17 || bit == 18) && !has_owner_rights(view)
+    (bit == READ_CONTROL || bit == WRITE_DAC) && !has_owner_rights(view)
 }
 
 // Grants to the open tokens that hold the owner, where owners have the right.
@@ -78,7 +87,8 @@ fn judged(
     bit: u32,
     stands: &mut [Option<bool>],
 ) -> Result<Vec<bool>, AllocError>
-    requires bit { bit < 20 }
+    requires bit { bit < 32 }
+    requires other { bit ≡ access_system_security → ⊥ }
     requires begun { stands.old ≡ map (by_privilege (bit == write_owner)) holding.now.takers.items }
     ensures { IfOk result (λ set. (tokens : List TokenValue) → IsHoldingOf tokens holding.now → AreBare
         tokens → set.items ≡ granted_set (seen view.now) tokens (option_copied self_sid.entry)
@@ -90,9 +100,14 @@ fn judged(
     granted_of(alloc, stands)
 }
 
+fn copy_of(alloc: Global, set: &[bool]) -> Result<Vec<bool>, AllocError>
+    ensures { IfOk result (λ copy. copy.items ≡ set.now) }
+{
+    Ok(set.to_vec(alloc)?)
+}
+
 /// The set of the tokens that the descriptor grants the right on the path, by its place in a mask, to an object with
-/// this identifier of its own: for each token of the index whether it is granted it ([MS-DTYP] 2.5.3.2). The right is
-/// one of those of objects and descriptors.
+/// this identifier of its own: for each token of the index whether it is granted it ([MS-DTYP] 2.5.3.2).
 ///
 /// # Errors
 ///
@@ -105,11 +120,14 @@ pub fn granted_set(
     path: &[Guid],
     bit: u32,
 ) -> Result<Vec<bool>, AllocError>
-    requires { bit < 20 }
+    requires { bit < 32 }
     ensures { IfOk result (λ set. (tokens : List TokenValue) → IsHoldingOf tokens holding.now → AreBare
         tokens → set.items ≡ granted_set (seen view.now) tokens (option_copied self_sid.entry)
         path.now bit) }
 {
-    let mut stands = by_privilege(alloc, holding.takers(), bit == 19)?;
+    if bit == ACCESS_SYSTEM_SECURITY {
+        return copy_of(alloc, holding.auditors());
+    }
+    let mut stands = by_privilege(alloc, holding.takers(), bit == WRITE_OWNER)?;
     judged(alloc, view, holding, self_sid, path, bit, &mut stands)
 }

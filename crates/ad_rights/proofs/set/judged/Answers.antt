@@ -16,6 +16,6 @@ returns c =
     IfOk-weaker c.granted_of.result _ _ (λ set whole tokens index bare.
     set_of sd owner tokens self c.args.path.now c.args.bit set.items c.owner-owner.ensures
     (set_is holders tokens c.args.holding.now.takers.items c.args.stands.now c.take_owner.new.stands c.walk.new.stands
-    set.items owner sd.dacl.entries self c.args.path.now c.args.bit c.requires.bit index.holders index.takers bare
+    set.items owner sd.dacl.entries self c.args.path.now c.args.bit c.requires.other index.holders index.takers bare
     c.requires.begun c.take_owner.ensures.len c.take_owner.ensures.each c.walk.ensures.len c.walk.ensures.each whole))
     c.granted_of.ensures

@@ -1,7 +1,7 @@
 use Rattle.std.proofs.Common.{◌≡◌, ◌∙◌, Bool, List, [], ◌∷◌, ◌++◌, length, ap}
 use Rattle.std.proofs.lemmas.List.{length-map}
 use Rattle.ad_rights.specs.Holding.{listed, takes}
-use Rattle.ad_rights.proofs.Holders.{holders_more, takers_more}
+use Rattle.ad_rights.proofs.Holders.{holders_more, takers_more, auditors_more}
 use Rattle.ad_rights.proofs.holding.Holding.add.Goals as goal
 
 pub returns : goal.returns
@@ -13,4 +13,7 @@ returns c = λ tokens was. record {
   takers = takers_more tokens c.args.token.now c.args.self.now.takers.items c.push.new.self.items was.takers
       (c.in_ok-push.ensures.items
       ∙ ap (λ (b : Bool). c.args.self.now.takers.items ++ b ∷ []) c.may_take.ensures);
+  auditors = auditors_more tokens c.args.token.now c.args.self.now.auditors.items c.push-2.new.self.items was.auditors
+      (c.in_ok-push-2.ensures.items
+      ∙ ap (λ (b : Bool). c.args.self.now.auditors.items ++ b ∷ []) c.may_audit.ensures);
 }

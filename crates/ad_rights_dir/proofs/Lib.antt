@@ -1,0 +1,4 @@
+pub mod Refusals
+pub mod Living
+pub mod Apart
+pub mod Answered

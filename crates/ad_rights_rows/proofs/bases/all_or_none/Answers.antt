@@ -1,0 +1,9 @@
+use Rattle.std.proofs.Common.{◌≡◌, ◌∙◌, replicate, ap}
+use Rattle.ad_rights_rows.proofs.Sets.{constant}
+use Rattle.ad_rights_rows.proofs.bases.all_or_none.Goals as goal
+
+pub returns : goal.returns
+returns c =
+    c.in_ok-vec.ensures.items_if_clones_equal (λ y same. same)
+    ∙ ap (λ n. replicate n c.args.there) c.count.ensures
+    ∙ constant c.args.there c.args.tokens.now.all.items

@@ -1,0 +1,4 @@
+pub mod Rows
+pub mod Kept
+-- only for private contracts, invariants and proofs
+pub mod Steps

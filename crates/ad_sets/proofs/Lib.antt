@@ -1,0 +1,5 @@
+pub mod Reading
+pub mod Keeping
+pub mod Changing
+pub mod Numbering
+pub mod Joining
