@@ -4,7 +4,7 @@ use Rattle.std.proofs.Common.{Option, Some, None, arith}
 use Rattle.std.specs.Prelude.{All, slice_get}
 use Rattle.std.specs.Option.{option_map, option_map_or}
 use Rattle.std.proofs.lemmas.Option.{slice_get-map, same_Some, none-some, slice_get-get_or}
-use Rattle.ad_diff_rights.specs.declared.both.Both.{Both}
+use Rattle.ad_both.specs.declared.both.Both.{Both}
 use Rattle.ad_diff_rights.specs.declared.unchanged.Sides.{Sides}
 use Rattle.ad_diff_rights.specs.declared.tokens.Party.{Party}
 use Rattle.ad_diff_rights.specs.Changes.{Differs}

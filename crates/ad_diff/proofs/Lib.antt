@@ -8,3 +8,4 @@ pub mod Used
 pub mod Refusals
 pub mod Whole
 pub mod Steps
+pub mod NoLine

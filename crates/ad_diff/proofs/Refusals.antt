@@ -8,9 +8,10 @@ use Rattle.std.proofs.lemmas.List.Filters.{length-filter_both}
 use Rattle.std.proofs.lemmas.List.{get_or-map}
 use Rattle.ad_dir_model.specs.Directory.{Directory}
 use Rattle.ad_principals.proofs.Remaining.{too_many}
-use Rattle.ad_diff_rights.specs.declared.both.Both.{Both}
+use Rattle.ad_both.specs.declared.both.Both.{Both}
 use Rattle.ad_diff_rights.specs.declared.tokens.DiffFault.{DiffFault}
-use Rattle.ad_diff_rights.specs.Both.{are_principals, objects_of_both, principals_of_both}
+use Rattle.ad_both.specs.Both.{objects_of_both}
+use Rattle.ad_diff_rights.specs.Both.{are_principals, principals_of_both}
 use Rattle.ad_diff_rights.specs.Parties.{HasToken, IsRefused}
 use Rattle.ad_diff.specs.declared.numbering.Grouped.{Grouped}
 use Rattle.ad_diff.specs.Text.{members}

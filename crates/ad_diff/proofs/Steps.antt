@@ -1,6 +1,6 @@
--- The text of columns, and of pieces.
-use Rattle.std.proofs.Common.{◌≡◌, ◌∙◌, ℕ, List, [], get_or, map, sym}
-use Rattle.std.proofs.Common.{◌<◌, ◌+◌, ◌++◌, length, take, ap, arith, append_assoc}
+-- The text of columns.
+use Rattle.std.proofs.Common.{◌≡◌, ◌∙◌, ℕ, List, get_or, map, sym}
+use Rattle.std.proofs.Common.{◌<◌, ◌+◌, ◌++◌, length, take, ap, append_assoc, arith}
 use Rattle.std.proofs.lemmas.List.{map_more, length-map, length-take-le}
 use Rattle.ad_diff.specs.declared.columns.Column.{Column}
 use Rattle.ad_diff.specs.declared.bases.Frame.{Frame}
@@ -48,15 +48,3 @@ table_step i objects frame leaders columns column before mid after lt is count s
     ∙ ap (λ (c : Column). before ++ (table_text 1 rows ++ row_text objects 0 (f c))) same
     ∙ ap (λ (t : List ℕ). before ++ t) (sym (table_more 1 objects rows (f (get_or columns i column)) own))
     ∙ ap (λ (all : List (List (List ℕ))). before ++ table_text 1 all) (sym (map_more f columns i column lt))
-
--- ---- pieces that are put one after the other
-
-two_put : (a b c x y : List ℕ) → b ≡ a ++ x → c ≡ b ++ y → c ≡ a ++ (x ++ y)
-two_put a b c x y e f = f ∙ ap (λ (l : List ℕ). l ++ y) e ∙ append_assoc a x y
-
-pub five_put : (a b c d e f v w x y z : List ℕ) → a ≡ [] → b ≡ a ++ v → c ≡ b ++ w → d ≡ c ++ x → e ≡ d ++ y
-    → f ≡ e ++ z → f ≡ v ++ (w ++ (x ++ (y ++ z)))
-five_put a b c d e f v w x y z ea eb ec ed ee ef =
-    two_put a b f v (w ++ (x ++ (y ++ z))) eb
-    (two_put b c f w (x ++ (y ++ z)) ec (two_put c d f x (y ++ z) ed (two_put d e f y z ee ef)))
-    ∙ ap (λ (t : List ℕ). t ++ (v ++ (w ++ (x ++ (y ++ z))))) ea

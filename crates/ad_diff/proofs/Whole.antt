@@ -1,19 +1,21 @@
 -- The whole text, of principals and objects in groups.
 use Rattle.std.proofs.Common.{◌≡◌, ◌∙◌, ◌<◌, ℕ, List, ◌++◌, length, map, refl, sym, ap, subst}
-use Rattle.std.specs.Prelude.{All, codes}
-use Rattle.std.specs.List.{flat_map}
+use Rattle.std.specs.Prelude.{All}
 use Rattle.std.proofs.lemmas.List.{get_or-map, length-map}
 use Rattle.std.proofs.lemmas.List.Elements.{All-filter}
 use Rattle.ad_dir_model.specs.Directory.{Directory}
-use Rattle.ad_diff_rights.specs.declared.both.Both.{Both}
+use Rattle.ad_both.specs.declared.both.Both.{Both}
 use Rattle.ad_diff_rights.specs.declared.unchanged.Sides.{Sides}
 use Rattle.ad_diff_rights.specs.declared.tokens.Party.{Party}
-use Rattle.ad_diff_rights.specs.Both.{are_principals, objects_of_both, principals_of_both, IsLiveBoth}
+use Rattle.ad_both.specs.Both.{objects_of_both, IsLiveBoth}
+use Rattle.ad_diff_rights.specs.Both.{are_principals, principals_of_both}
+use Rattle.ad_causes.specs.Cause.{causes_text}
+use Rattle.ad_causes.specs.Causes.{causes}
 use Rattle.ad_diff_rights.specs.Parties.{IsParty}
 use Rattle.ad_diff.specs.declared.numbering.Grouped.{Grouped}
 use Rattle.ad_diff.specs.declared.bases.Frame.{Frame}
 use Rattle.ad_diff.specs.declared.columns.Column.{Column}
-use Rattle.ad_diff.specs.Text.{members, principal_line, object_line, row_text, table_text, only_text, IsDiffText}
+use Rattle.ad_diff.specs.Text.{members, row_text, table_text, blocks_text, IsDiffText}
 use Rattle.ad_diff.specs.Frames.{lines_at}
 use Rattle.ad_diff.specs.Table.{ArePlaced, row_of, table_of, AreRows, AreNumbered}
 use Rattle.ad_diff.proofs.Exact.{exact_all, none_of_objects, none_of_principals}
@@ -33,10 +35,9 @@ pub whole : (sides : Sides) (frame : Frame) (columns : List Column) (objects gro
     → AreNumbered (length columns) objects → AreNumbered (length leaders) groups
     → members groups ≡ principals_of_both sides.before.now sides.after.now
     → members objects ≡ objects_of_both sides.before.now sides.after.now
-    → text ≡ flat_map (principal_line sides.after.now) groups ++ (flat_map (object_line sides.after.now) objects
-    ++ (table_text 1 (map (λ (column : Column). row_of leaders (lines_at frame column)) columns)
-    ++ (only_text (codes "only before ") sides.before.now sides.after.now
-    ++ only_text (codes "only after ") sides.after.now sides.before.now)))
+    → text ≡ causes_text (causes sides.before.now sides.after.now)
+    ++ blocks_text sides.after.now groups objects
+    (table_text 1 (map (λ (column : Column). row_of leaders (lines_at frame column)) columns))
     → IsDiffText sides.before.now sides.after.now text
 whole sides frame columns objects groups leaders text same are placed rows things they they_are things_are is =
     let before = sides.before.now in
@@ -53,8 +54,7 @@ whole sides frame columns objects groups leaders text same are placed rows thing
       unlisted_objects = λ k. none_of_objects frame columns leaders k;
       unlisted_principals = λ l. none_of_principals frame columns leaders l;
       of_members = λ l k. cells_of_members frame columns leaders objects groups things.used they.used l k;
-      lines = is ∙ ap (λ (t : List ℕ). flat_map (principal_line after) groups ++ (flat_map (object_line after) objects
-          ++ (t ++ (only_text (codes "only before ") before after ++ only_text (codes "only after ") after before))))
+      lines = is ∙ ap (λ (t : List ℕ). causes_text (causes before after) ++ blocks_text after groups objects t)
           (table_is frame columns leaders);
     }
 

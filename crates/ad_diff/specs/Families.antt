@@ -1,8 +1,8 @@
 -- Only for private contracts, invariants and proofs: objects in families.
 use Rattle.std.specs.Prelude.{◌≡◌, ℕ, Some, List, ◌++◌, All, slice_get}
 use Rattle.ad_dir_model.specs.Directory.{Directory}
-use Rattle.ad_diff_rights.specs.declared.both.Both.{Both}
-use Rattle.ad_diff_rights.specs.Both.{IsLiveBoth}
+use Rattle.ad_both.specs.declared.both.Both.{Both}
+use Rattle.ad_both.specs.Both.{IsLiveBoth}
 use Rattle.ad_diff_rights.specs.Same.{IsAlike}
 use Rattle.ad_diff.specs.declared.numbering.Grouped.{Grouped}
 use Rattle.ad_diff.specs.Text.{members}

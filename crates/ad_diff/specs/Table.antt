@@ -1,6 +1,6 @@
 -- Only for private contracts, invariants and proofs: columns of the table and groups of its rows.
 use Rattle.std.specs.Prelude.{◌≡◌, ℕ, zero, suc, ◌<◌, true, Some, List, [], ◌∷◌, ◌++◌, All, map, get_or, length, slice_get}
-use Rattle.ad_diff_rights.specs.declared.both.Both.{Both}
+use Rattle.ad_both.specs.declared.both.Both.{Both}
 use Rattle.ad_diff_rights.specs.declared.unchanged.Sides.{Sides}
 use Rattle.ad_diff_rights.specs.declared.tokens.Party.{Party}
 use Rattle.ad_diff_rights.specs.Own.{changes_in}

@@ -1,16 +1,19 @@
--- The text of differences: principals and objects in groups, and for a group of each what its members gain and lose.
-use Rattle.std.specs.Prelude.{◌≡◌, ◌⊎◌, ℕ, ◌+◌, ◌^◌, ◌<◌, Bool, true, ◌==◌, if◌then◌else◌, is_some, List, [], ◌∷◌}
+-- The text of differences: the causes; then principals and objects in groups, and for a group of each what its members
+-- gain and lose.
+use Rattle.std.specs.Prelude.{◌≡◌, ◌⊎◌, ℕ, ◌+◌, ◌^◌, ◌<◌, Bool, true, ◌==◌, if◌then◌else◌, List, [], ◌∷◌}
 use Rattle.std.specs.Prelude.{◌++◌, codes, decimal, map, get_or, All}
 use Rattle.std.specs.List.{flat_map, list_any}
 use Rattle.std.specs.Option.{option_map_or}
 use Rattle.ad_bytes.specs.Puts.{spaced, ended, labelled}
 use Rattle.ad_ids.specs.SidText.{sid_text}
 use Rattle.ad_dir_model.specs.Directory.{Directory}
-use Rattle.ad_dir_model.specs.Objects.{numbers}
 use Rattle.ad_dir_model.specs.Names.{name_text}
 use Rattle.ad_dir_model.specs.Identity.{self_sid}
-use Rattle.ad_diff_rights.specs.declared.both.Both.{Both}
-use Rattle.ad_diff_rights.specs.Both.{counterpart, objects_of_both, principals_of_both}
+use Rattle.ad_both.specs.declared.both.Both.{Both}
+use Rattle.ad_both.specs.Both.{objects_of_both}
+use Rattle.ad_diff_rights.specs.Both.{principals_of_both}
+use Rattle.ad_causes.specs.Cause.{causes_text}
+use Rattle.ad_causes.specs.Causes.{causes}
 use Rattle.ad_diff_rights.specs.Changes.{Differs}
 use Rattle.ad_diff.specs.declared.numbering.Grouped.{Grouped}
 
@@ -66,20 +69,17 @@ unfoldable pub table_text : ℕ → List (List (List ℕ)) → List ℕ
 table_text objects [] = []
 table_text objects (row ∷ rows) = row_text objects 0 row ++ table_text (objects + 1) rows
 
--- ---- lines of what isn't compared
-
--- an object that the other directory doesn't have
-abbrev pub only_line : List ℕ → Directory → Directory → ℕ → List ℕ
-only_line label dir other number = if is_some (counterpart dir other number) then []
-    else labelled label (name_text dir number)
-
-unfoldable pub only_text : List ℕ → Directory → Directory → List ℕ
-only_text label dir other = flat_map (only_line label dir other) (numbers dir.objects)
-
 -- ---- all
 
--- Each principal and each object of both is in a group, which has a number. On each object each principal gains and loses exactly what
--- the lines of their groups say. Group 0 of either has no lines, nor has a group that nobody, or nothing, is in.
+-- The lines of principals and of objects in groups, and those of the table. Where the table has none, there are none.
+abbrev pub blocks_text : Directory → List Grouped → List Grouped → List ℕ → List ℕ
+blocks_text after principals objects [] = []
+blocks_text after principals objects (b ∷ bytes) =
+    flat_map (principal_line after) principals ++ (flat_map (object_line after) objects ++ (b ∷ bytes))
+
+-- The causes stand first. Each principal and each object of both is in a group, which has a number. On each object each
+-- principal gains and loses exactly what the lines of their groups say. Group 0 of either has no lines, nor has a group that
+-- nobody, or nothing, is in.
 pub record IsDiffText (before after : Directory) (text : List ℕ) : Type 0 where
   pub principals : List Grouped
   pub objects : List Grouped
@@ -94,7 +94,5 @@ pub record IsDiffText (before after : Directory) (text : List ℕ) : Type 0 wher
   pub unlisted_principals : (objects : ℕ) → cell table objects 0 ≡ []
   pub of_members : (objects_group principals_group : ℕ) → (cell table objects_group principals_group ≡ [])
       ⊎ ((has_member objects objects_group ≡ true) × (has_member principals principals_group ≡ true))
-  pub lines : text ≡ flat_map (principal_line after) principals
-      ++ (flat_map (object_line after) objects
-      ++ (table_text 0 table
-      ++ (only_text (codes "only before ") before after ++ only_text (codes "only after ") after before)))
+  pub lines : text ≡ causes_text (causes before after)
+      ++ blocks_text after principals objects (table_text 0 table)

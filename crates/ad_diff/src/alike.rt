@@ -4,9 +4,9 @@
 ghost use Rattle.std.specs.Prelude.{◌≡◌, true, IfSome};
 ghost use Rattle.ad_dir_model.specs.Objects.{is_live};
 ghost use Rattle.ad_diff_rights.specs.Same.{IsAlike, IsAlikeIn};
-ghost use Rattle.ad_diff_rights.specs.Both.{IsLiveBoth};
+ghost use Rattle.ad_both.specs.Both.{IsLiveBoth};
 
-use ad_diff_rights::Both;
+use ad_both::Both;
 use ad_dir::{Dir, class_of};
 
 // Whether two live objects have the same class and descriptor.

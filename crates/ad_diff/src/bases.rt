@@ -1,12 +1,13 @@
 //! What the principals of each kind gain and lose on the objects of each family where own identifiers don't count.
 
 ghost use Rattle.std.specs.Prelude.{◌≡◌, [], ℕ, true, All, get_or, IfOk};
-ghost use Rattle.ad_diff_rights.specs.Both.{IsLiveBoth};
+ghost use Rattle.ad_both.specs.Both.{IsLiveBoth};
 ghost use Rattle.ad_diff_rights.specs.Sides.{AreFlagged};
 ghost use Rattle.ad_diff_rights.specs.Steps.{texts};
 ghost use Rattle.ad_diff.specs.Frames.{bares_on, all_bares, row_texts, base_at};
 
-use ad_diff_rights::{Both, Sides, changes_at, is_unchanged};
+use ad_both::Both;
+use ad_diff_rights::{Sides, changes_at, is_unchanged};
 use std::alloc::{AllocError, Global};
 
 /// The lines of each kind on each family, and the kind of each principal.

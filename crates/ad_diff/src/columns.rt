@@ -1,7 +1,7 @@
 //! A column of the table: what each principal gains and loses on one object.
 
 ghost use Rattle.std.specs.Prelude.{◌≡◌, ℕ, true, All, IfOk, OnOk};
-ghost use Rattle.ad_diff_rights.specs.Both.{IsLiveBoth};
+ghost use Rattle.ad_both.specs.Both.{IsLiveBoth};
 ghost use Rattle.ad_diff_rights.specs.Parties.{IsParty};
 ghost use Rattle.ad_diff_rights.specs.Same.{IsUnchanged};
 ghost use Rattle.ad_diff_rights.specs.Sides.{AreFlagged};
@@ -12,7 +12,8 @@ use crate::bases::{Frame, base_at};
 use crate::context::Context;
 use crate::holders::holders_of;
 use crate::numbering::Grouped;
-use ad_diff_rights::{Both, Sides, asked_in, changes_at, is_unchanged};
+use ad_both::Both;
+use ad_diff_rights::{Sides, asked_in, changes_at, is_unchanged};
 use indexmap::IndexMap;
 use std::alloc::{AllocError, Global};
 

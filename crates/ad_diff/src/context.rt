@@ -2,7 +2,7 @@
 //! and lose where own identifiers don't count, and who holds an identifier.
 
 ghost use Rattle.std.specs.Prelude.{◌≡◌, true, All, IfOk};
-ghost use Rattle.ad_diff_rights.specs.Both.{IsLiveBoth};
+ghost use Rattle.ad_both.specs.Both.{IsLiveBoth};
 ghost use Rattle.ad_diff_rights.specs.Parties.{IsParty};
 ghost use Rattle.ad_diff_rights.specs.Sides.{AreFlagged};
 ghost use Rattle.ad_diff.specs.Frames.{AreBases, IsContext};
@@ -10,7 +10,8 @@ ghost use Rattle.ad_diff.specs.Frames.{AreBases, IsContext};
 use crate::bases::{Frame, rows_of};
 use crate::holders::{Holders, holders_in};
 use crate::kinds::kinds_of;
-use ad_diff_rights::{Both, Sides, named_by};
+use ad_both::Both;
+use ad_diff_rights::{Sides, named_by};
 use std::alloc::{AllocError, Global};
 
 /// What the columns are made of.

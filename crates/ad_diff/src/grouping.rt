@@ -2,7 +2,7 @@
 
 ghost use Rattle.std.specs.Prelude.{◌≡◌, ◌++◌, ◌∷◌, [], ℕ, true, All, length, slice_get, OnOk, IfOk};
 ghost use Rattle.std.specs.Option.{option_copied};
-ghost use Rattle.ad_diff_rights.specs.Both.{IsLiveBoth};
+ghost use Rattle.ad_both.specs.Both.{IsLiveBoth};
 ghost use Rattle.ad_diff_rights.specs.Parties.{IsParty};
 ghost use Rattle.ad_diff_rights.specs.Sides.{AreFlagged};
 ghost use Rattle.ad_diff.specs.declared.bases.Frame.{Frame as FrameValue};

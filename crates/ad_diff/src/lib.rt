@@ -1,5 +1,6 @@
-//! Which rights differ between two directories: for each principal and each object that stand in both by their name,
-//! what the principal gains and loses on the object, by the tokens and the descriptors of each directory.
+//! Which rights differ between two directories, and why: the causes first; then for each principal and each object that
+//! stand in both by their name, what the principal gains and loses on the object, by the tokens and the descriptors of
+//! each directory.
 //!
 //! The rules are written in `docs/profile/diff.md`, and defined in `specs/` apart from the code.
 //!
@@ -12,8 +13,8 @@
 //!
 //! # Proved
 //!
-//! The lines are those of the rules. Principals and objects stand in groups; on each object each principal gains and
-//! loses exactly what the lines of their groups say.
+//! The lines are those of the rules. The causes stand first. Principals and objects stand in groups; on each object each
+//! principal gains and loses exactly what the lines of their groups say. From a sound directory to itself there are none.
 //!
 //! # The caller owes
 //!
@@ -47,7 +48,7 @@ mod rows;
 mod table;
 mod telling;
 
-pub use ad_diff_rights::Both;
-pub use laws::no_difference_is_both_told_and_refused;
+pub use ad_both::Both;
+pub use laws::{equal_directories_have_no_line, no_difference_is_both_told_and_refused};
 pub use numbering::Grouped;
 pub use telling::{Answer, diff};

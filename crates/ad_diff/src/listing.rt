@@ -1,13 +1,12 @@
-//! The lines of groups, and of what stands in one directory alone.
+//! The lines of groups.
 
 ghost use Rattle.std.specs.Prelude.{◌≡◌, ◌++◌, true, All, OnOk};
 ghost use Rattle.std.specs.List.{flat_map};
 ghost use Rattle.ad_dir_model.specs.Objects.{is_live};
-ghost use Rattle.ad_diff.specs.Text.{principal_line, object_line, only_line, only_text};
+ghost use Rattle.ad_diff.specs.Text.{principal_line, object_line, blocks_text};
 
 use crate::numbering::Grouped;
-use crate::pieces::{put_name_line, put_number, put_sid_of};
-use ad_diff_rights::counterpart;
+use crate::pieces::{put_number, put_sid_of};
 use ad_dir::Dir;
 use ad_principals::{put, put_name};
 use std::alloc::{AllocError, Global};
@@ -91,60 +90,32 @@ pub(crate) fn put_object_lines(
     Ok(())
 }
 
-// ---- what stands in one alone
+// ---- both, before what stands in the table
 
-fn put_only_line(
-    alloc: Global,
-    into: &mut Vec<u8>,
-    label: &[u8],
-    dir: &Dir,
-    other: &Dir,
-    number: u32,
-) -> Result<(), AllocError>
-    requires { is_live dir.now.objects number ≡ true }
-    ensures { OnOk result (into.new.items ≡ into.old.items
-        ++ only_line label.now dir.now other.now number) }
-{
-    if counterpart(alloc, dir, other, number)?.is_some() {
-        return Ok(());
-    }
-    put_name_line(alloc, into, label, dir, number)
-}
-
-fn put_only_lines(
-    alloc: Global,
-    into: &mut Vec<u8>,
-    label: &[u8],
-    dir: &Dir,
-    other: &Dir,
-    numbers: &[u32],
-) -> Result<(), AllocError>
-    requires { All (λ number. is_live dir.now.objects number ≡ true) numbers.now }
-    ensures { OnOk result (into.new.items ≡ into.old.items
-        ++ flat_map (only_line label.now dir.now other.now) numbers.now) }
-{
-    for number in numbers {
-        put_only_line(alloc, into, label, dir, other, *number)?;
-    }
-    Ok(())
-}
-
-/// The line of each object that the other directory doesn't have.
+/// The lines of principals and of objects, and those of the table; none where the table has none.
 ///
 /// # Errors
 ///
 /// Out of memory.
-#[tactic(auto, unfolding(crate::specs::Text::only_text))]
-pub(crate) fn put_only(
+pub(crate) fn put_blocks(
     alloc: Global,
     into: &mut Vec<u8>,
-    label: &[u8],
-    dir: &Dir,
-    other: &Dir,
+    after: &Dir,
+    principals: &[Grouped],
+    objects: &[Grouped],
+    table: &[u8],
 ) -> Result<(), AllocError>
+    requires principals { All (λ g. is_live after.now.objects g.both.after ≡ true) principals.now }
+    requires objects { All (λ g. is_live after.now.objects g.both.after ≡ true) objects.now }
     ensures { OnOk result (into.new.items ≡ into.old.items
-        ++ only_text label.now dir.now other.now) }
+        ++ blocks_text after.now principals.now objects.now table.now) }
 {
-    let numbers = dir.numbers(alloc)?;
-    put_only_lines(alloc, into, label, dir, other, numbers.as_slice())
+    match table {
+        [] => Ok(()),
+        table => {
+            put_principal_lines(alloc, into, after, principals)?;
+            put_object_lines(alloc, into, after, objects)?;
+            put(into, table)
+        }
+    }
 }

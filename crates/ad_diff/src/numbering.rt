@@ -2,7 +2,7 @@
 
 ghost use Rattle.std.specs.Prelude.{◌≡◌, ◌<◌, ◌^◌, IfOk};
 
-use ad_diff_rights::Both;
+use ad_both::Both;
 use std::alloc::AllocError;
 
 /// What stands in both directories, with the number of its group, which is 0 where nothing differs.

@@ -11,7 +11,7 @@ use crate::alike::{NOTHING, mixed, mixed_bytes};
 use crate::bases::Frame;
 use crate::columns::{Column, lines_at};
 use crate::numbering::{Grouped, group_fits, number_of};
-use ad_diff_rights::Both;
+use ad_both::Both;
 use indexmap::IndexMap;
 use std::alloc::{AllocError, Global};
 

@@ -1,11 +1,13 @@
 //! The differences of two directories.
 
-ghost use Rattle.std.specs.Prelude.{◌≡◌, ◌++◌, false, true, All, map, codes, IfOk, IfErr, OnOk};
-ghost use Rattle.std.specs.List.{flat_map};
-ghost use Rattle.ad_diff_rights.specs.Both.{objects_of_both, principals_of_both, IsLiveBoth};
+ghost use Rattle.std.specs.Prelude.{◌≡◌, ◌++◌, All, map, IfOk, IfErr};
+ghost use Rattle.ad_both.specs.Both.{objects_of_both, IsLiveBoth};
+ghost use Rattle.ad_diff_rights.specs.Both.{principals_of_both};
 ghost use Rattle.ad_diff_rights.specs.Parties.{IsParty, AreNoParties, IsOfLive};
 ghost use Rattle.ad_diff_rights.specs.Sides.{AreFlagged};
-ghost use Rattle.ad_diff.specs.Text.{principal_line, object_line, table_text, only_text, IsDiffText};
+ghost use Rattle.ad_causes.specs.Cause.{causes_text};
+ghost use Rattle.ad_causes.specs.Causes.{causes};
+ghost use Rattle.ad_diff.specs.Text.{table_text, blocks_text, IsDiffText};
 ghost use Rattle.ad_diff.specs.Answers.{DiffTold};
 ghost use Rattle.ad_diff.specs.Frames.{lines_at};
 ghost use Rattle.ad_diff.specs.Table.{row_of};
@@ -14,13 +16,12 @@ use crate::bases::Frame;
 use crate::context::comparison_context;
 use crate::families::families_of;
 use crate::grouping::{Placing, placed};
-use crate::listing::{put_object_lines, put_only, put_principal_lines};
+use crate::listing::put_blocks;
 use crate::refusing::line_of;
 use crate::rows::{Rows, grouped};
 use crate::table::put_table;
-use ad_diff_rights::{
-    Both, DiffFault, Sides, objects_of_both, parties, principals_among, unchanged_flags,
-};
+use ad_both::{Both, objects_of_both};
+use ad_diff_rights::{DiffFault, Sides, parties, principals_among, unchanged_flags};
 use ad_dir::Dir;
 use std::alloc::{AllocError, Global};
 
@@ -31,7 +32,7 @@ pub struct Answer {
     pub text: Vec<u8>,
 }
 
-// The text of groups and columns.
+// The text of groups and columns, after the causes.
 fn text_of(
     alloc: Global,
     before: &Dir,
@@ -44,25 +45,27 @@ fn text_of(
         rows.now.groups.items }
     requires objects { All (λ g. IsLiveBoth before.now after.now g.both)
         placing.now.objects.items }
-    ensures { IfOk result (λ text. text.items ≡ flat_map (principal_line after.now)
-        rows.now.groups.items
-        ++ (flat_map (object_line after.now) placing.now.objects.items
-        ++ (table_text 1 (map (λ column. row_of rows.now.leaders.items
-        (lines_at frame.now column)) placing.now.columns.items)
-        ++ (only_text (codes "only before ") before.now after.now
-        ++ only_text (codes "only after ") after.now before.now)))) }
+    ensures { IfOk result (λ text. text.items ≡ causes_text (causes before.now after.now)
+        ++ blocks_text after.now rows.now.groups.items placing.now.objects.items
+        (table_text 1 (map (λ column. row_of rows.now.leaders.items
+        (lines_at frame.now column)) placing.now.columns.items))) }
 {
-    let mut text = Vec::new(alloc);
-    put_principal_lines(alloc, &mut text, after, rows.groups.as_slice())?;
-    put_object_lines(alloc, &mut text, after, placing.objects.as_slice())?;
+    let mut text = ad_causes::causes(alloc, before, after)?;
+    let mut table = Vec::new(alloc);
     put_table(
-        &mut text,
+        &mut table,
         frame,
         placing.columns.as_slice(),
         rows.leaders.as_slice(),
     )?;
-    put_only(alloc, &mut text, b"only before ", before, after)?;
-    put_only(alloc, &mut text, b"only after ", after, before)?;
+    put_blocks(
+        alloc,
+        &mut text,
+        after,
+        rows.groups.as_slice(),
+        placing.objects.as_slice(),
+        table.as_slice(),
+    )?;
     Ok(text)
 }
 
@@ -165,9 +168,9 @@ fn refusal(alloc: Global, before: &Dir, after: &Dir, fault: DiffFault) -> Result
     })
 }
 
-/// What each principal of two directories gains and loses on each object of both, by the tokens and the descriptors
-/// of each: lines of principals and of objects in numbered groups, and for a group of each the lines of what is
-/// gained (`+`) and lost (`-`); and a line for each object that stands in one directory alone. Or the line that names
+/// The causes from one directory to the other; then what each principal of both gains and loses on each object of both,
+/// by the tokens and the descriptors of each: lines of principals and of objects in numbered groups, and for a group of
+/// each the lines of what is gained (`+`) and lost (`-`). Or the line that names
 /// the first principal of both with more than 1,024 groups, of which directory.
 ///
 /// # Errors

@@ -22,7 +22,7 @@ use Rattle.ad_access.specs.Grant.{decides, is_allow, sets_owner_rights, is_impli
 use Rattle.ad_access.specs.Grant.{granted_as_owner, granted_to, granted_to_holders, granted}
 use Rattle.ad_dir_model.specs.Directory.{Directory}
 use Rattle.ad_dir_model.specs.Objects.{sd_at}
-use Rattle.ad_diff_rights.specs.declared.both.Both.{Both}
+use Rattle.ad_both.specs.declared.both.Both.{Both}
 use Rattle.ad_diff_rights.specs.declared.tokens.Party.{Party}
 use Rattle.ad_diff_rights.specs.Rights.{class_at}
 use Rattle.ad_diff_rights.specs.Changes.{change_lines}

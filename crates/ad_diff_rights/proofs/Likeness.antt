@@ -4,7 +4,7 @@ use Rattle.ad_ids.specs.declared.token.Token.{Token}
 use Rattle.ad_sd.specs.declared.parts.Sd.{Sd}
 use Rattle.ad_dir_model.specs.Directory.{Directory}
 use Rattle.ad_dir_model.specs.Objects.{sd_at}
-use Rattle.ad_diff_rights.specs.declared.both.Both.{Both}
+use Rattle.ad_both.specs.declared.both.Both.{Both}
 use Rattle.ad_diff_rights.specs.Rights.{rights_by, grants_by, class_at}
 use Rattle.ad_diff_rights.specs.Changes.{change_lines}
 use Rattle.ad_diff_rights.specs.Own.{rights_in, changes_in}

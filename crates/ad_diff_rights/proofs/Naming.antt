@@ -4,7 +4,7 @@ use Rattle.ad_ids.specs.SidValue.{SidValue}
 use Rattle.ad_sd.specs.declared.parts.Sd.{Sd}
 use Rattle.ad_dir_model.specs.Directory.{Directory}
 use Rattle.ad_dir_model.specs.Objects.{sd_at}
-use Rattle.ad_diff_rights.specs.declared.both.Both.{Both}
+use Rattle.ad_both.specs.declared.both.Both.{Both}
 use Rattle.ad_diff_rights.specs.Named.{Grows, IsNamed, IsNamedBoth}
 
 pub one_still : (old new : List SidValue) (sd : Sd) → Grows old new → IsNamed old sd → IsNamed new sd

@@ -12,7 +12,7 @@ use Rattle.ad_sd.specs.declared.parts.Sd.{Sd}
 use Rattle.ad_schema.specs.declared.line.SchemaRecord.{SchemaRecord}
 use Rattle.ad_dir_model.specs.Directory.{Directory}
 use Rattle.ad_dir_model.specs.Objects.{object_at, sd_at}
-use Rattle.ad_diff_rights.specs.declared.both.Both.{Both}
+use Rattle.ad_both.specs.declared.both.Both.{Both}
 use Rattle.ad_diff_rights.specs.declared.tokens.Party.{Party}
 use Rattle.ad_diff_rights.specs.Rights.{rights_by, grants_by}
 use Rattle.ad_diff_rights.specs.Changes.{has_label, line_unless, lines_without, change_lines}
@@ -49,7 +49,7 @@ none_without : (sign : List ℕ) (all : List (List ℕ)) → lines_without sign 
 unfolding lines_without
 none_without sign all = none_behind sign [] all
 
-no_change : (all : List (List ℕ)) → change_lines all all ≡ []
+pub no_change : (all : List (List ℕ)) → change_lines all all ≡ []
 unfolding change_lines
 no_change all =
     ap (λ (t : List ℕ). t ++ lines_without (codes "- ") all all) (none_without (codes "+ ") all)

@@ -16,7 +16,7 @@ use Rattle.ad_access.proofs.Alike.{granted_alike}
 use Rattle.ad_dir_model.specs.Directory.{Directory}
 use Rattle.ad_dir_model.specs.Objects.{sd_at}
 use Rattle.ad_dir_model.specs.Identity.{self_sid}
-use Rattle.ad_diff_rights.specs.declared.both.Both.{Both}
+use Rattle.ad_both.specs.declared.both.Both.{Both}
 use Rattle.ad_diff_rights.specs.Rights.{grants_by, class_at, rights}
 use Rattle.ad_diff_rights.specs.Changes.{change_lines, changes}
 use Rattle.ad_diff_rights.specs.Own.{is_for_self, own_sid, asked_in, grants_in, rights_in, changes_in, holds_own}

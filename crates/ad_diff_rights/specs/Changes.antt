@@ -6,7 +6,7 @@ use Rattle.ad_bytes.specs.Puts.{labelled}
 use Rattle.ad_ids.specs.declared.token.Token.{Token}
 use Rattle.ad_dir_model.specs.Directory.{Directory}
 use Rattle.ad_principals.specs.Tokens.{IsTokenOf}
-use Rattle.ad_diff_rights.specs.declared.both.Both.{Both}
+use Rattle.ad_both.specs.declared.both.Both.{Both}
 use Rattle.ad_diff_rights.specs.Rights.{rights}
 
 -- the label is among these

@@ -7,7 +7,7 @@ use Rattle.ad_sd.specs.declared.parts.Sd.{Sd}
 use Rattle.ad_access.specs.Holder.{first_holder, holds}
 use Rattle.ad_dir_model.specs.Directory.{Directory}
 use Rattle.ad_dir_model.specs.Objects.{sd_at}
-use Rattle.ad_diff_rights.specs.declared.both.Both.{Both}
+use Rattle.ad_both.specs.declared.both.Both.{Both}
 use Rattle.ad_diff_rights.specs.declared.tokens.Party.{Party}
 
 -- ---- what descriptors name

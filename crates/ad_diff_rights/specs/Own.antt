@@ -10,7 +10,7 @@ use Rattle.ad_access.specs.Holder.{first_holder, holds}
 use Rattle.ad_dir_model.specs.Directory.{Directory}
 use Rattle.ad_dir_model.specs.Objects.{sd_at}
 use Rattle.ad_dir_model.specs.Identity.{self_sid}
-use Rattle.ad_diff_rights.specs.declared.both.Both.{Both}
+use Rattle.ad_both.specs.declared.both.Both.{Both}
 use Rattle.ad_diff_rights.specs.Rights.{rights_by, grants_by, class_at}
 use Rattle.ad_diff_rights.specs.Changes.{change_lines}
 

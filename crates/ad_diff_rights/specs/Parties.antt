@@ -4,7 +4,7 @@ use Rattle.ad_ids.specs.declared.token.Token.{Token}
 use Rattle.ad_dir_model.specs.Directory.{Directory}
 use Rattle.ad_dir_model.specs.Objects.{is_live}
 use Rattle.ad_principals.specs.Tokens.{IsTokenOf, HasTooManyGroups}
-use Rattle.ad_diff_rights.specs.declared.both.Both.{Both}
+use Rattle.ad_both.specs.declared.both.Both.{Both}
 use Rattle.ad_diff_rights.specs.declared.tokens.Party.{Party}
 use Rattle.ad_diff_rights.specs.declared.tokens.DiffFault.{DiffFault}
 use Rattle.ad_diff_rights.specs.declared.tokens.DiffFault.TheVariants.{Before, After, Memory}

@@ -6,11 +6,11 @@ ghost use Rattle.ad_bytes.specs.Puts.{labelled};
 ghost use Rattle.ad_diff_rights.specs.Changes.{has_label, line_unless, lines_without, change_lines};
 ghost use Rattle.ad_diff_rights.specs.Own.{changes_in};
 ghost use Rattle.ad_diff_rights.specs.Steps.{texts};
-ghost use Rattle.ad_diff_rights.specs.Both.{IsLiveBoth};
+ghost use Rattle.ad_both.specs.Both.{IsLiveBoth};
 
-use crate::both::Both;
 use crate::rights::rights;
 use crate::sought::{Near, has_in, has_near, labels_from, table_of};
+use ad_both::Both;
 use ad_dir::Dir;
 use ad_ids::Token;
 use ad_principals::put_labelled;

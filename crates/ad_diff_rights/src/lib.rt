@@ -1,12 +1,12 @@
-//! What a principal gains and loses on an object from one directory to another: which objects and principals stand in
-//! both, which token each directory gives a principal, and which rights a token is granted on an object, as lines.
+//! What a principal gains and loses on an object from one directory to another: which principals stand in both, which
+//! token each directory gives a principal, and which rights a token is granted on an object, as lines.
 //!
 //! The rules are written in `docs/profile/diff.md`, and defined in `specs/` apart from the code.
 //!
 //! # Example
 //!
 //! ```text
-//! let objects = ad_diff_rights::objects_of_both(alloc, &before, &after)?;
+//! let objects = ad_both::objects_of_both(alloc, &before, &after)?;
 //! let principals = ad_diff_rights::principals_among(alloc, &before, &after, objects.as_slice())?;
 //! let parties = ad_diff_rights::parties(alloc, &before, &after, principals.as_slice())?;
 //! ```
@@ -42,7 +42,7 @@ mod sought;
 mod tokens;
 mod unchanged;
 
-pub use both::{Both, counterpart, objects_of_both, principals_among};
+pub use both::principals_among;
 pub use named::named_by;
 pub use own::asked_in;
 pub use same::is_unchanged;

@@ -4,10 +4,10 @@ ghost use Rattle.std.specs.Prelude.{◌≡◌, true, All, OnOk, IfOk};
 ghost use Rattle.ad_sd.specs.Seen.{seen};
 ghost use Rattle.ad_ids.specs.SidValue.{contains_sid};
 ghost use Rattle.ad_dir_model.specs.Objects.{is_live, sd_at};
-ghost use Rattle.ad_diff_rights.specs.Both.{IsLiveBoth};
+ghost use Rattle.ad_both.specs.Both.{IsLiveBoth};
 ghost use Rattle.ad_diff_rights.specs.Named.{Grows, IsForOne, IsNamed, IsNamedBoth};
 
-use crate::both::Both;
+use ad_both::Both;
 use ad_dir::{Dir, live_sd};
 use ad_ids::Sid;
 use ad_sd::SdView;

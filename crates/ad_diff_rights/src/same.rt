@@ -3,10 +3,10 @@
 ghost use Rattle.std.specs.Prelude.{◌≡◌, true};
 ghost use Rattle.ad_sd.specs.Seen.{seen};
 ghost use Rattle.ad_diff_rights.specs.Same.{IsUnchanged};
-ghost use Rattle.ad_diff_rights.specs.Both.{IsLiveBoth};
+ghost use Rattle.ad_both.specs.Both.{IsLiveBoth};
 
-use crate::both::Both;
 use crate::own::same_sid;
+use ad_both::Both;
 use ad_dir::{Dir, class_of, live_sd};
 use ad_ids::{Sid, Token};
 use ad_schema::{Line, SchemaRecord};

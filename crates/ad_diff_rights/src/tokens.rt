@@ -6,12 +6,12 @@ ghost use Rattle.ad_dir_model.specs.Objects.{is_live};
 ghost use Rattle.ad_principals.specs.Groups.{is_principal};
 ghost use Rattle.ad_principals.specs.Membership.{AreMembersOf};
 ghost use Rattle.ad_principals.specs.Tokens.{IsTokenOf, IsTokenFault};
-ghost use Rattle.ad_diff_rights.specs.declared.both.Both.{Both as BothValue};
+ghost use Rattle.ad_both.specs.declared.both.Both.{Both as BothValue};
 ghost use Rattle.ad_diff_rights.specs.declared.tokens.DiffFault.TheVariants as diff_fault;
 ghost use Rattle.ad_diff_rights.specs.Both.{are_principals};
 ghost use Rattle.ad_diff_rights.specs.Parties.{IsParty, AreNoParties, IsOfLive, IsNoToken};
 
-use crate::both::Both;
+use ad_both::Both;
 use ad_dir::Dir;
 use ad_ids::Token;
 use ad_principals::{Members, TokenFault};

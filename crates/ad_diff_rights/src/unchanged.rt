@@ -2,15 +2,15 @@
 
 ghost use Rattle.std.specs.Prelude.{◌≡◌, true, Some, slice_get, IfOk};
 ghost use Rattle.ad_dir_model.specs.Directory.{Directory};
-ghost use Rattle.ad_diff_rights.specs.Both.{IsLiveBoth};
+ghost use Rattle.ad_both.specs.Both.{IsLiveBoth};
 ghost use Rattle.ad_diff_rights.specs.Own.{changes_in};
 ghost use Rattle.ad_diff_rights.specs.Same.{IsUnchanged, IsUnchangedParty, AreUnchangedParties};
 ghost use Rattle.ad_diff_rights.specs.Sides.{changes_at, AreFlagged};
 
-use crate::both::Both;
 use crate::changes::changes;
 use crate::same::{same_schema, same_token};
 use crate::tokens::{Party, party_at};
+use ad_both::Both;
 use ad_dir::Dir;
 use std::alloc::{AllocError, Global};
 

@@ -1,6 +1,6 @@
 use Rattle.std.proofs.Common.{◌∙◌, ◌++◌, ◌∷◌, [], List, sym, ap, get_or}
 use Rattle.std.proofs.lemmas.List.{take_more}
-use Rattle.ad_diff_rights.specs.declared.both.Both.{Both}
+use Rattle.ad_both.specs.declared.both.Both.{Both}
 use Rattle.ad_diff.proofs.families.families_of.Goals as goal
 
 pub loop-o-preserved : goal.loop-o-preserved

@@ -3,7 +3,7 @@ use Rattle.std.specs.List.{All}
 use Rattle.std.proofs.lemmas.List.Elements.{All-append, All-cons, All-nil}
 use Rattle.std.proofs.lemmas.Result.{on_ok_weaker}
 use Rattle.ad_dir.proofs.NameLaws.{if_ok}
-use Rattle.ad_diff_rights.specs.Both.{IsLiveBoth}
+use Rattle.ad_both.specs.Both.{IsLiveBoth}
 use Rattle.ad_diff.specs.Families.{IsOfFamily}
 use Rattle.ad_diff.proofs.Contexts.{family_same}
 use Rattle.ad_diff.proofs.families.family_of.Goals as goal

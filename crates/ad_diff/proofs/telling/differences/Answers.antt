@@ -1,9 +1,10 @@
 use Rattle.std.proofs.Common.{◌≡◌, ◌∙◌, true, List, map, sym, subst}
 use Rattle.std.specs.List.{All}
 use Rattle.std.proofs.lemmas.List.Elements.{filter_passes}
-use Rattle.ad_diff_rights.specs.declared.both.Both.{Both}
+use Rattle.ad_both.specs.declared.both.Both.{Both}
 use Rattle.ad_diff_rights.specs.declared.tokens.Party.{Party}
-use Rattle.ad_diff_rights.specs.Both.{are_principals, objects_of_both}
+use Rattle.ad_both.specs.Both.{objects_of_both}
+use Rattle.ad_diff_rights.specs.Both.{are_principals}
 use Rattle.ad_diff_rights.specs.Parties.{IsParty}
 use Rattle.ad_diff_rights.specs.Same.{AreUnchangedParties}
 use Rattle.ad_diff.proofs.telling.differences.Goals as goal

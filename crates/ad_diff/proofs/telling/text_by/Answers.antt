@@ -1,7 +1,7 @@
 use Rattle.std.proofs.Common.{◌∙◌, List, sym, ap, subst}
 use Rattle.std.specs.List.{All}
 use Rattle.ad_dir.proofs.NameLaws.{if_ok}
-use Rattle.ad_diff_rights.specs.Both.{IsLiveBoth}
+use Rattle.ad_both.specs.Both.{IsLiveBoth}
 use Rattle.ad_diff.specs.declared.columns.Column.{Column}
 use Rattle.ad_diff.specs.declared.numbering.Grouped.{Grouped}
 use Rattle.ad_diff.specs.Text.{members}
