@@ -1,0 +1,11 @@
+pub mod Marked
+pub mod Indexing
+pub mod Asking
+pub mod Following
+pub mod Levelling
+pub mod ChainLaws
+pub mod PassageLaws
+pub mod Joined
+pub mod WayLaws
+pub mod Directions
+pub mod Turned

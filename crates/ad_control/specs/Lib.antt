@@ -1,0 +1,5 @@
+pub mod Kinds
+pub mod Edges
+pub mod Chains
+pub mod Graph
+pub mod Lines

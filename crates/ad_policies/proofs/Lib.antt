@@ -1,0 +1,4 @@
+pub mod Cutting
+pub mod LinkLaws
+pub mod Climbing
+pub mod Putting

@@ -1,0 +1,5 @@
+pub mod Policies
+-- examples, that compute
+pub mod examples
+-- only for private contracts, invariants and proofs
+pub mod Seen
