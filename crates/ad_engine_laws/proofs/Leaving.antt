@@ -86,7 +86,7 @@ message_one dir token bytes = reading_one dir token (message_of bytes)
 
 -- ---- the frame of a message
 
-message_at : (dir : Directory) (tokens : List (Option Token)) (frame : Frame) (bytes : List ℕ) → frame.body
+pub message_at : (dir : Directory) (tokens : List (Option Token)) (frame : Frame) (bytes : List ℕ) → frame.body
     ≡ body.Message bytes
     → answer dir tokens frame ≡ message_answered dir tokens frame.connection bytes
 unfolding answer

@@ -6,3 +6,4 @@ pub mod SameCode
 pub mod Staying
 pub mod Leaving
 pub mod Taking
+pub mod Granting

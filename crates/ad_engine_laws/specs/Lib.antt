@@ -1,4 +1,5 @@
 pub mod Bytes
 pub mod Reads
 pub mod Results
+pub mod Granted
 pub mod Log

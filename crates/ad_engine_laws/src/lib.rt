@@ -12,7 +12,9 @@
 //! # Proved
 //!
 //! What a frame is answered leaves a sound directory sound. A message that is refused or only asks changes nothing.
-//! Machines that took the same entries of one log have one directory and gave the same answers.
+//! A message that changes something is granted each right that its operation requires.
+//! Machines that took the same entries of one log have one directory and gave the same answers. Who hasn't bound is
+//! judged by the same token here as where rights are asked for.
 //!
 //! # The caller owes
 //!
@@ -26,10 +28,11 @@
 mod refusing;
 mod replicas;
 mod soundness;
+mod unbound;
 
 pub use refusing::{
-    a_message_changes_only_where_it_succeeds, a_refused_message_changes_nothing,
-    what_changes_nothing,
+    a_change_is_granted, a_message_changes_only_where_it_succeeds,
+    a_refused_message_changes_nothing, what_changes_nothing,
 };
 pub use replicas::{
     a_log_is_taken_entry_by_entry, an_entry_is_answered_alike,
@@ -39,3 +42,4 @@ pub use soundness::{
     an_answer_keeps_a_directory_sound, frames_keep_a_directory_sound,
     frames_that_are_read_are_of_bytes, the_domain_of_a_sound_directory_has_its_form,
 };
+pub use unbound::who_has_not_bound_has_the_token_of_a_connection_without_one;

@@ -1,4 +1,4 @@
-//! What is refused, and what only asks, changes nothing.
+//! What is refused, and what only asks, changes nothing; and what changes something is granted.
 
 ghost use Rattle.std.specs.Prelude.{◌≡◌, ◌≢◌, ◌⊎◌, ℕ, List, [], Option, Ok};
 ghost use Rattle.ad_ids.specs.declared.token.Token.{Token};
@@ -14,6 +14,7 @@ ghost use Rattle.ad_engine.specs.Answer.{answer};
 ghost use Rattle.ad_engine_store.specs.Tokens.{token_of};
 ghost use Rattle.ad_engine_laws.specs.Reads.{IsNoChange, IsQuestion, IsRead};
 ghost use Rattle.ad_engine_laws.specs.Results.{LeavesAll, HasCode, Succeeds};
+ghost use Rattle.ad_engine_laws.specs.Granted.{IsGranted};
 
 /// A message leaves the directory as it was, or it is answered by success (0), and the tokens stay.
 pub fn a_message_changes_only_where_it_succeeds()
@@ -54,4 +55,13 @@ pub fn what_changes_nothing()
         → effect dir (token_of tokens frame.connection) m.op s ≡ changes_to dir
         → LeavesAll dir tokens (answer dir tokens frame) × Succeeds frame.connection
         (answer dir tokens frame) }
+{}
+
+/// A message that changes the directory is granted what it asks for: its connection's token has each right that the
+/// operation requires, on the directory from before. So who isn't granted a right changes nothing by what requires it.
+pub fn a_change_is_granted()
+    ensures { (dir : Directory) (tokens : List (Option Token)) (frame : Frame) (bytes : List ℕ)
+        → frame.body ≡ body.Message bytes
+        → (answer dir tokens frame).directory ≢ dir
+        → IsGranted dir (token_of tokens frame.connection) bytes }
 {}

@@ -71,7 +71,7 @@ right_letters = (
   ),
 )
 
-flag_letters : AreLetters flag_codes
+pub flag_letters : AreLetters flag_codes
 unfolding flag_codes
 flag_letters = (refl, (refl, (refl, (refl, (refl, (refl, (refl, tt)))))))
 
@@ -90,12 +90,15 @@ or_dash_word (b ∷ bytes) e = e
 
 -- ---- the rights and the flags of an entry
 
-pub rights_word : (mask : ℕ) → is_word (or_dash (rights_text mask)) ≡ true
-rights_word mask = or_dash_word (rights_text mask) (by (is_covered mask))
+pub rights_text_word : (mask : ℕ) → is_word (rights_text mask) ≡ true
+rights_text_word mask = by (is_covered mask)
   where
     by : (t : Bool) → is_word (if t then codes_text right_codes mask else codes "0x" ++ hex_text 8 mask) ≡ true
     by true = codes_word right_codes mask right_letters
     by false = two_words (codes "0x") (hex_text 8 mask) refl (hex_text_word 8 mask)
+
+pub rights_word : (mask : ℕ) → is_word (or_dash (rights_text mask)) ≡ true
+rights_word mask = or_dash_word (rights_text mask) (rights_text_word mask)
 
 own_word : (flags : ℕ) (code : Code) → is_word code.letters ≡ true → is_word (own_flag flags code) ≡ true
 own_word flags code e = by (code.bits == 16)

@@ -1,6 +1,7 @@
 -- The lines of diff are read back.
 use Rattle.std.proofs.Common.{◌≡◌, ℕ, ◌^◌, ◌<◌, true, Option, Some, List, ◌++◌, codes, decimal, refl, ap}
 use Rattle.std.specs.Prelude.{option_map}
+use Rattle.std.specs.Option.{option_or}
 use Rattle.std.specs.List.{AllByRecursion}
 use Rattle.ad_bytes.specs.Puts.{spaced}
 use Rattle.ad_ids.specs.SidValue.{SidValue}
@@ -10,8 +11,10 @@ use Rattle.ad_dn.specs.declared.rdn.Dn.{Dn}
 use Rattle.ad_dn.specs.Value.{AreRdns}
 use Rattle.ad_dn.specs.Text.{dn_text}
 use Rattle.ad_text_laws.specs.Lines.{is_line, word_of, facts_of}
-use Rattle.ad_text_laws.specs.Diff.{DiffLine, principal, object, block, gained, lost, only_before, only_after, diff_line}
+use Rattle.ad_text_laws.specs.Diff.{DiffLine, cause, principal, object, block, gained, lost, diff_line}
 use Rattle.ad_text_laws.specs.Diff.{principal_of, object_of, block_of, diff_line_of, IsDiffLine, diff_text}
+use Rattle.ad_text_laws.specs.CauseLines.{object_cause}
+use Rattle.ad_text_laws.proofs.CauseLaws.{cause_line_is, cause_back}
 use Rattle.ad_text_laws.proofs.LineLaws.{IsRead, two_lines, word_is_line, facts_back}
 use Rattle.ad_text_laws.proofs.WordLaws.{word_then, decimal_word, number_back, sid_word, sid_back, name_line, name_back}
 use Rattle.ad_text_laws.proofs.FactLaws.{all_read, spaced_line}
@@ -59,6 +62,7 @@ block_back principals objects small few =
 
 line_read : (line : DiffLine) → IsDiffLine line → IsRead diff_line_of diff_line line
 unfolding diff_line_of word_of
+line_read (cause c) is = record { one_line = cause_line_is c is; back = cause_back c is }
 line_read (principal group sid name) is = record {
   one_line = two_lines (codes "principal ") (spaced (decimal group) ++ (spaced (sid_text sid) ++ dn_text name)) refl
       (two_lines (spaced (decimal group)) (spaced (sid_text sid) ++ dn_text name) (number_line group is.0)
@@ -69,7 +73,8 @@ line_read (principal group sid name) is = record {
 line_read (object group name) is = record {
   one_line = two_lines (codes "object ") (spaced (decimal group) ++ dn_text name) refl
       (two_lines (spaced (decimal group)) (dn_text name) (number_line group is.0) (name_line name is.1));
-  back = object_back group name is.0 is.1;
+  back = ap (λ (o : Option DiffLine). option_or o (option_map cause (object_cause (spaced (decimal group) ++ dn_text name))))
+      (object_back group name is.0 is.1);
 }
 line_read (block principals objects) is = record {
   one_line = two_lines (codes "principals ") (spaced (decimal principals) ++ (spaced (codes "objects") ++ decimal objects))
@@ -81,14 +86,6 @@ line_read (block principals objects) is = record {
 }
 line_read (gained label) is = record { one_line = two_lines (codes "+ ") label refl is; back = refl }
 line_read (lost label) is = record { one_line = two_lines (codes "- ") label refl is; back = refl }
-line_read (only_before name) is = record {
-  one_line = two_lines (codes "only before ") (dn_text name) refl (name_line name is);
-  back = ap (λ (o : Option Dn). option_map only_before o) (name_back name is);
-}
-line_read (only_after name) is = record {
-  one_line = two_lines (codes "only after ") (dn_text name) refl (name_line name is);
-  back = ap (λ (o : Option Dn). option_map only_after o) (name_back name is);
-}
 
 pub diff_lines_back : (lines : List DiffLine) → AllByRecursion IsDiffLine lines
     → facts_of diff_line_of (diff_text lines) ≡ Some lines

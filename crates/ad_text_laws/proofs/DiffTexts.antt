@@ -1,14 +1,13 @@
 -- The text of diff is of the lines that its answer tells.
 use Rattle.std.proofs.Common.{Bool, ◌≡◌, ◌∙◌, ℕ, suc, ◌+◌, ◌^◌, ◌<◌, true, false, if◌then◌else◌, Option, Some, None}
-use Rattle.std.proofs.Common.{List, [], ◌∷◌, ◌++◌, length, get_or, codes, decimal, refl, sym, ap, subst, append_assoc, arith}
-use Rattle.std.proofs.Common.{inl, inr}
-use Rattle.std.specs.Prelude.{All, ◌==◌, ◌||◌, is_some, unwrap_or}
+use Rattle.std.proofs.Common.{List, [], ◌∷◌, ◌++◌, get_or, codes, decimal, refl, sym, ap, subst, append_assoc, arith}
+use Rattle.std.proofs.Common.{inl, inr, map}
+use Rattle.std.specs.Prelude.{All, ◌==◌, is_some, unwrap_or}
 use Rattle.std.specs.List.{AllByRecursion, flat_map}
 use Rattle.std.specs.Option.{option_map_or}
-use Rattle.std.proofs.lemmas.Bool.{and_parts, false≢true, cases_Bool}
-use Rattle.std.proofs.lemmas.Bool.Decides.{Decides-eqb}
+use Rattle.std.proofs.lemmas.Bool.{and_parts, false≢true}
 use Rattle.std.proofs.lemmas.List.{append-nil}
-use Rattle.std.proofs.lemmas.List.Elements.{filter_passes, All-from_recursion}
+use Rattle.std.proofs.lemmas.List.Elements.{filter_passes}
 use Rattle.std.proofs.lemmas.Grind.{flat_map-append}
 use Rattle.ad_bytes.specs.Puts.{spaced, ended, labelled}
 use Rattle.ad_ids.specs.SidValue.{SidValue}
@@ -16,25 +15,34 @@ use Rattle.ad_ids.specs.SidText.{sid_text}
 use Rattle.ad_dn.specs.declared.rdn.Dn.{Dn}
 use Rattle.ad_dn.specs.Text.{dn_text}
 use Rattle.ad_dir_model.specs.Directory.{Directory}
-use Rattle.ad_dir_model.specs.Objects.{is_live, numbers}
+use Rattle.ad_dir_model.specs.Objects.{is_live}
 use Rattle.ad_dir_model.specs.Identity.{self_sid}
 use Rattle.ad_dir_model.specs.Names.{name_text}
-use Rattle.ad_dir_model.proofs.Counting.{all_numbers}
-use Rattle.ad_diff_rights.specs.declared.both.Both.{Both}
-use Rattle.ad_diff_rights.specs.Both.{counterpart, are_principals, objects_of_both, IsLiveBoth}
+use Rattle.ad_both.specs.declared.both.Both.{Both}
+use Rattle.ad_both.specs.Both.{objects_of_both, IsLiveBoth}
+use Rattle.ad_diff_rights.specs.Both.{are_principals}
+use Rattle.ad_causes.specs.Cause.{Cause, cause_line, causes_text}
+use Rattle.ad_causes.specs.Causes.{causes}
 use Rattle.ad_diff_rights.specs.Rights.{rights}
 use Rattle.ad_diff_rights.specs.Changes.{has_label, line_unless, lines_without, change_lines, changes, Differs}
-use Rattle.ad_diff_rights.proofs.Live.{all_live, principals_live}
+use Rattle.ad_both.proofs.Live.{all_live}
+use Rattle.ad_diff_rights.proofs.Live.{principals_live}
 use Rattle.ad_diff.specs.declared.numbering.Grouped.{Grouped}
-use Rattle.ad_diff.specs.Text.{has_member, HasNumber, cell, principal_line, object_line, cell_text, row_text}
-use Rattle.ad_diff.specs.Text.{table_text, only_line, only_text, IsDiffText}
+use Rattle.ad_diff.specs.Text.{HasNumber, cell, principal_line, object_line, cell_text, row_text, table_text}
+use Rattle.ad_diff.specs.Text.{blocks_text, IsDiffText}
 use Rattle.ad_diff.proofs.Whole.{all_members}
+use Rattle.ad_diff.proofs.NoLine.{no_group, member_at}
 use Rattle.ad_text_laws.specs.Lines.{is_line, facts_of}
+use Rattle.ad_principals.specs.Groups.{is_principal}
+use Rattle.ad_principals.proofs.Identified.{principal_has}
 use Rattle.ad_text_laws.specs.Printed.{HasForms, name_at}
-use Rattle.ad_text_laws.specs.Diff.{DiffLine, principal, object, block, gained, lost, only_before, only_after, diff_line}
+use Rattle.ad_text_laws.specs.Diff.{DiffLine, cause, principal, object, block, gained, lost, diff_line}
 use Rattle.ad_text_laws.specs.Diff.{diff_line_of, IsDiffLine, diff_text}
 use Rattle.ad_text_laws.specs.DiffTold.{IsTellable, principal_told, object_told, cell_told, row_told, table_told}
-use Rattle.ad_text_laws.specs.DiffTold.{only_told, lines_told, IsRead}
+use Rattle.ad_text_laws.specs.DiffTold.{blocks_told, lines_told, IsRead}
+use Rattle.ad_text_laws.specs.CauseLines.{IsCauseLine}
+use Rattle.ad_text_laws.proofs.CauseLaws.{cause_line_ended}
+use Rattle.ad_text_laws.proofs.CauseForms.{causes_form}
 use Rattle.ad_text_laws.proofs.DiffLaws.{diff_lines_back}
 use Rattle.ad_text_laws.proofs.DiffLabels.{AreLines, granted_are}
 
@@ -181,20 +189,6 @@ cell_is objects principals (b ∷ bytes) lines few small is =
       form = ((omega (arith, small), omega (arith, few)), subst (AllByRecursion IsDiffLine) (sym back) is.form);
     }
 
-no_group : Grouped
-no_group = record { both = record { before = 0; after = 0 }; group = 0 }
-
--- a member of a group
-member_at : (groups : List Grouped) (n : ℕ) → has_member groups n ≡ true
-    → (i : ℕ) × (i < length groups) × ((get_or groups i no_group).group ≡ n)
-member_at [] n is = absurd (false≢true is)
-member_at (g ∷ groups) n is = elim (cases_Bool (g.group == n)) [
-  | inl own ↦ (0, omega arith, (Decides-eqb g.group n).0 own)
-  | inr other ↦
-      let rest = member_at groups n (ap (λ (t : Bool). t || has_member groups n) (sym other) ∙ is) in
-      (suc rest.0, omega (arith, rest.1), rest.2)
-]
-
 module _ (before after : Directory) (text : List ℕ) (told : IsDiffText before after text)
     (first : IsTellable before) (second : IsTellable after) where
   differs_is : (p o : Both) (lines : List ℕ) → Differs before after p o lines
@@ -260,23 +254,37 @@ table_is n (row ∷ rows) each =
     subst (λ (m : ℕ). IsCellText n m (get_or row p [])) same (own p)))
     (table_is (n + 1) rows later)
 
--- ---- what isn't compared
+-- ---- what stands before the table
 
-only_is : (label : List ℕ) (make : Dn → DiffLine) (dir other : Directory) (number : ℕ)
-    → ((name : Dn) → labelled label (dn_text name) ≡ ended (diff_line (make name))) → IsDiffLine (make (name_at dir number))
-    → IsText (only_line label dir other number) (only_told make dir other number)
-unfolding name_text
-only_is label make dir other number same is = by (is_some (counterpart dir other number))
-  where
-    by : (t : Bool) → IsText (if t then [] else labelled label (dn_text (name_at dir number)))
-        (if t then [] else make (name_at dir number) ∷ [])
-    by true = none_text
-    by false = subst (λ (t : List ℕ). IsText t (make (name_at dir number) ∷ [])) (sym (same (name_at dir number)))
-        (one_text (make (name_at dir number)) is)
+no_end : (x y : List ℕ) → [] ≡ (x ++ (10 ∷ [])) ++ y → ⊥
+no_end [] y e = absurd cc
+no_end (b ∷ x) y e = absurd cc
 
-numbers_are : (dir : Directory) → All (λ (n : ℕ). is_live dir.objects n ≡ true) (numbers dir.objects)
-numbers_are dir = All-from_recursion (λ (n : ℕ). is_live dir.objects n ≡ true) (numbers dir.objects)
-    (all_numbers (λ (n : ℕ). is_live dir.objects n ≡ true) dir.objects (λ n live. live))
+not_nil : (b : ℕ) (bytes : List ℕ) → b ∷ bytes ≡ [] → ⊥
+not_nil b bytes e = absurd cc
+
+blocks_is : (after : Directory) (principals objects : List Grouped) (bytes : List ℕ) (lines : List DiffLine)
+    → IsText (flat_map (principal_line after) principals) (flat_map (principal_told after) principals)
+    → IsText (flat_map (object_line after) objects) (flat_map (object_told after) objects)
+    → IsText bytes lines
+    → IsText (blocks_text after principals objects bytes) (blocks_told after principals objects lines)
+blocks_is after principals objects [] [] p o t = none_text
+blocks_is after principals objects [] (line ∷ lines) p o t =
+    absurd (no_end (diff_line line) (diff_text lines) t.is)
+blocks_is after principals objects (b ∷ bytes) [] p o t = absurd (not_nil b bytes t.is)
+blocks_is after principals objects (b ∷ bytes) (line ∷ lines) p o t =
+    both_texts (flat_map (principal_line after) principals) _ (flat_map (principal_told after) principals) _ p
+    (both_texts (flat_map (object_line after) objects) (b ∷ bytes) (flat_map (object_told after) objects) (line ∷ lines)
+    o t)
+
+-- ---- causes
+
+causes_are : (cs : List Cause) → AllByRecursion IsCauseLine cs → IsText (causes_text cs) (map cause cs)
+causes_are [] is = none_text
+causes_are (c ∷ cs) is =
+    both_texts (cause_line c) (causes_text cs) (cause c ∷ []) (map cause cs)
+    (subst (λ (t : List ℕ). IsText t (cause c ∷ [])) (sym (cause_line_ended c)) (one_text (cause c) is.0))
+    (causes_are cs is.1)
 
 -- ---- all
 
@@ -303,31 +311,20 @@ module _ (before after : Directory) (text : List ℕ) (told : IsDiffText before 
       (cell_at before after text told first second o p)
 
   whole : IsText text (lines_told before after told.principals told.objects told.table)
-  unfolding only_text
   whole = subst (λ (t : List ℕ). IsText t (lines_told before after told.principals told.objects told.table))
       (sym told.lines)
-      (both_texts (flat_map (principal_line after) told.principals) _ (flat_map (principal_told after) told.principals) _
+      (both_texts (causes_text (causes before after)) _ (map cause (causes before after)) _
+      (causes_are (causes before after) (causes_form before after first second))
+      (blocks_is after told.principals told.objects (table_text 0 told.table) (table_told 0 told.table)
       (each_text (principal_line after) (principal_told after) told.principals
       (λ i d lt. principal_is after (get_or told.principals i d) second.forms (told.numbered_principals i d lt)
-      (principals_stand i d lt).second (and_parts _ _ (principals_are i d lt)).1))
-      (both_texts (flat_map (object_line after) told.objects) _ (flat_map (object_told after) told.objects) _
+      (principals_stand i d lt).second (principal_has after (get_or told.principals i d).both.after
+      (and_parts (is_principal before (get_or told.principals i d).both.before)
+      (is_principal after (get_or told.principals i d).both.after) (principals_are i d lt)).1)))
       (each_text (object_line after) (object_told after) told.objects
       (λ i d lt. object_is after (get_or told.objects i d) second.forms (told.numbered_objects i d lt)
       (objects_stand i d lt).second))
-      (both_texts (table_text 0 told.table) _ (table_told 0 told.table) _
-      (table_is 0 told.table cells)
-      (both_texts (flat_map (only_line (codes "only before ") before after) (numbers before.objects)) _
-      (flat_map (only_told only_before before after) (numbers before.objects)) _
-      (each_text (only_line (codes "only before ") before after) (only_told only_before before after)
-      (numbers before.objects)
-      (λ i d lt. only_is (codes "only before ") only_before before after (get_or (numbers before.objects) i d)
-      (λ name. sym (append_assoc (codes "only before ") (dn_text name) (10 ∷ [])))
-      (first.forms.names (get_or (numbers before.objects) i d) (numbers_are before i d lt))))
-      (each_text (only_line (codes "only after ") after before) (only_told only_after after before)
-      (numbers after.objects)
-      (λ i d lt. only_is (codes "only after ") only_after after before (get_or (numbers after.objects) i d)
-      (λ name. sym (append_assoc (codes "only after ") (dn_text name) (10 ∷ [])))
-      (second.forms.names (get_or (numbers after.objects) i d) (numbers_are after i d lt))))))))
+      (table_is 0 told.table cells)))
 
   pub diff_read : IsRead before after text told
   diff_read = record {

@@ -9,6 +9,11 @@ pub mod CodeWords
 pub mod SchemaWords
 pub mod EffectiveLaws
 pub mod PrintedLaws
+pub mod CauseLaws
+pub mod CauseForms
 pub mod DiffLaws
 pub mod DiffLabels
 pub mod DiffTexts
+pub mod RightsLaws
+pub mod RightsFacts
+pub mod RightsTexts

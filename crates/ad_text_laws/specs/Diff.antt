@@ -2,6 +2,7 @@
 use Rattle.std.specs.Prelude.{◌≡◌, ℕ, ◌^◌, ◌<◌, true, Option, Some, None, option_map, option_and_then, List, ◌++◌}
 use Rattle.std.specs.Prelude.{if◌then◌else◌, codes, decimal}
 use Rattle.std.specs.List.{flat_map}
+use Rattle.std.specs.Option.{option_or}
 use Rattle.std.specs.Str.{bytes_eq}
 use Rattle.ad_bytes.specs.Puts.{spaced, ended}
 use Rattle.ad_ids.specs.SidValue.{SidValue}
@@ -12,20 +13,22 @@ use Rattle.ad_dn.specs.declared.rdn.Dn.{Dn}
 use Rattle.ad_dn.specs.Value.{AreRdns}
 use Rattle.ad_dn.specs.Text.{dn_text}
 use Rattle.ad_dn.specs.Reading.{dn_of}
+use Rattle.ad_causes.specs.Cause.{Cause}
 use Rattle.ad_text_laws.specs.Lines.{is_line, word_of, number_of}
+use Rattle.ad_text_laws.specs.CauseLines.{cause_text, object_cause, cause_by, IsCauseLine}
 
--- A principal or an object with the number of its group; the groups of principals and of objects that a block is of; a
--- label that is gained or lost within it; and what stands in one directory alone.
+-- A cause; a principal or an object with the number of its group; the groups of principals and of objects that a block is
+-- of; and a label that is gained or lost within it.
 pub data DiffLine : Type 0 where
+  cause : Cause → DiffLine
   principal : ℕ → SidValue → Dn → DiffLine
   object : ℕ → Dn → DiffLine
   block : ℕ → ℕ → DiffLine
   gained : List ℕ → DiffLine
   lost : List ℕ → DiffLine
-  only_before : Dn → DiffLine
-  only_after : Dn → DiffLine
 
 abbrev pub diff_line : DiffLine → List ℕ
+diff_line (cause c) = cause_text c
 diff_line (principal group sid name) =
     codes "principal " ++ (spaced (decimal group) ++ (spaced (sid_text sid) ++ dn_text name))
 diff_line (object group name) = codes "object " ++ (spaced (decimal group) ++ dn_text name)
@@ -33,8 +36,6 @@ diff_line (block principals objects) =
     codes "principals " ++ (spaced (decimal principals) ++ (spaced (codes "objects") ++ decimal objects))
 diff_line (gained label) = codes "+ " ++ label
 diff_line (lost label) = codes "- " ++ label
-diff_line (only_before name) = codes "only before " ++ dn_text name
-diff_line (only_after name) = codes "only after " ++ dn_text name
 
 -- ---- reading
 
@@ -59,21 +60,18 @@ block_of text =
     if bytes_eq label (codes "objects") then option_and_then (λ (principals : ℕ). option_map (λ (objects : ℕ).
     block principals objects) (number_of other)) (number_of number) else None))
 
-abbrev pub only_by : List ℕ → List ℕ → Option DiffLine
-only_by label rest =
-    if bytes_eq label (codes "before") then option_map only_before (dn_of rest)
-    else if bytes_eq label (codes "after") then option_map only_after (dn_of rest)
-    else None
+-- an object in a group, or one that is one directory's alone
+abbrev pub object_by : List ℕ → Option DiffLine
+object_by rest = option_or (object_of rest) (option_map cause (object_cause rest))
 
 abbrev pub diff_line_by : List ℕ → List ℕ → Option DiffLine
 diff_line_by label rest =
     if bytes_eq label (codes "principal") then principal_of rest
-    else if bytes_eq label (codes "object") then object_of rest
+    else if bytes_eq label (codes "object") then object_by rest
     else if bytes_eq label (codes "principals") then block_of rest
     else if bytes_eq label (codes "+") then Some (gained rest)
     else if bytes_eq label (codes "-") then Some (lost rest)
-    else if bytes_eq label (codes "only") then then_by rest only_by
-    else None
+    else option_map cause (cause_by label rest)
 
 unfoldable pub diff_line_of : List ℕ → Option DiffLine
 diff_line_of line = then_by line diff_line_by
@@ -82,13 +80,12 @@ diff_line_of line = then_by line diff_line_by
 
 -- numbers are below 2^64, and a label has no line end
 abbrev pub IsDiffLine : DiffLine → Type 0
+IsDiffLine (cause c) = IsCauseLine c
 IsDiffLine (principal group sid name) = (group < 2 ^ 64) × IsSid sid × AreRdns name.rdns
 IsDiffLine (object group name) = (group < 2 ^ 64) × AreRdns name.rdns
 IsDiffLine (block principals objects) = (principals < 2 ^ 64) × (objects < 2 ^ 64)
 IsDiffLine (gained label) = is_line label ≡ true
 IsDiffLine (lost label) = is_line label ≡ true
-IsDiffLine (only_before name) = AreRdns name.rdns
-IsDiffLine (only_after name) = AreRdns name.rdns
 
 -- the text of lines
 abbrev pub diff_text : List DiffLine → List ℕ

@@ -5,5 +5,8 @@ pub mod Events
 pub mod Listings
 pub mod Words
 pub mod Printed
+pub mod CauseLines
 pub mod Diff
 pub mod DiffTold
+pub mod Rights
+pub mod RightsTold

@@ -15,14 +15,14 @@ pub fn the_lines_of_diff_read_back()
         ≡ Some lines }
 {}
 
-/// What diff prints is of such lines: each principal and each object in a group, with the number of the group; for a
-/// group of each that has differences what its members gain and lose; and what one directory alone has.
+/// What diff prints is of such lines: each cause; each principal and each object in a group, with the number of the group;
+/// and for a group of each that has differences what its members gain and lose.
 pub fn what_diff_prints_reads_back()
     ensures { (before after : Directory) (text : List ℕ) (told : IsDiffText before after text)
         → IsTellable before → IsTellable after → IsRead before after text told }
 {}
 
-/// Two answers of one text tell the same: the text determines who gains and who loses what on what.
+/// Two answers of one text tell the same: the text determines the causes, and who gains and who loses what on what.
 pub fn answers_of_one_text_tell_the_same()
     ensures { (before after other_before other_after : Directory) (text : List ℕ)
         (told : IsDiffText before after text) (other : IsDiffText other_before other_after text)

@@ -3,7 +3,8 @@
 //! A name is one line, since no control stands in its text (`ad_dn`); identifiers, numbers and codes are words, in which
 //! no blank stands either. So whoever splits a text at its line ends, and a line at its blanks, has what was told, and no
 //! name can be made to read as another line. The definitions say how: `Lines` splits, and `Facts`, `Tokens`, `Events`,
-//! `Listings`, `Diff` and `Words` say what each line tells; `Printed` and `DiffTold` say which lines are printed.
+//! `Listings`, `Diff`, `Rights` and `Words` say what each line tells; `Printed`, `DiffTold` and `RightsTold` say which
+//! lines are printed.
 //!
 //! # Example
 //!
@@ -14,9 +15,9 @@
 //!
 //! # Proved
 //!
-//! The lines of `token`, `who`, `can`, `list`, `audit` and `diff` give back the facts that they were written of, in their
-//! order; `effective` is of lines of words, and these give back their words. The names of a schema are words there: those
-//! of attributes and classes always are, and a right whose `cn` is none is told by its GUID.
+//! The lines of `token`, `who`, `can`, `rights`, `list`, `audit` and `diff` give back the facts that they were written
+//! of, in their order; `effective` is of lines of words, and these give back their words. The names of a schema are words
+//! there: those of attributes and classes always are, and a right whose `cn` is none is told by its GUID.
 //!
 //! # The caller owes
 //!
@@ -32,6 +33,7 @@ mod diff;
 mod effective;
 mod lines;
 mod list;
+mod rights;
 mod token;
 mod who;
 mod words;
@@ -43,6 +45,7 @@ pub use diff::{
 pub use effective::the_text_of_effective_is_of_words;
 pub use lines::a_text_gives_back_its_lines;
 pub use list::the_lines_of_list_read_back;
+pub use rights::{the_lines_of_rights_read_back, what_rights_prints_reads_back};
 pub use token::the_lines_of_a_token_read_back;
 pub use who::{
     the_lines_of_can_read_back, the_lines_of_who_read_back, what_can_prints_reads_back,

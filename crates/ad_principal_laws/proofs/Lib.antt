@@ -1,0 +1,5 @@
+pub mod Tokens
+pub mod Putting
+pub mod Protecting
+pub mod Served
+pub mod Written

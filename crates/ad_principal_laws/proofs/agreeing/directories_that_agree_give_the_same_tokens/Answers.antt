@@ -1,0 +1,5 @@
+use Rattle.ad_principal_laws.proofs.Tokens.{same_tokens}
+use Rattle.ad_principal_laws.proofs.agreeing.directories_that_agree_give_the_same_tokens.Goals as goal
+
+pub returns : goal.returns
+returns c = same_tokens
