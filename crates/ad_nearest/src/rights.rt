@@ -12,8 +12,9 @@ static CODES: [&str; 13] = [
 ];
 
 /// What is said where nothing is near.
-const REMARK: &str =
-    ": a right is CC, DC, LC, SW, RP, WP, DT, LO, CR, SD, RC, WD or WO; after CC, DC, SW, RP, WP and CR may be a : and a name";
+const REMARK: &str = ": a right is CC, DC, LC, SW, RP, WP, DT, LO, CR, SD, RC, WD or WO; \
+    after CC, DC, SW, RP, WP and CR may be a : and a name; and one may intend to see, read:ATTRIBUTE, write:ATTRIBUTE, \
+    reset, join, add:CLASS, delete, dacl or owner";
 
 /// What a name after a right's letters is of.
 #[derive(Clone, Copy, PartialEq, Eq)]

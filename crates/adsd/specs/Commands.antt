@@ -13,6 +13,7 @@ use Rattle.cmd_change.specs.Change.{ChangeDoes}
 use Rattle.cmd_diff.specs.Compares.{DiffDoes}
 use Rattle.cmd_grants.specs.Grants.{GrantsDoes}
 use Rattle.cmd_who.specs.Asks.{TokenDoes, WhoDoes, CanDoes}
+use Rattle.cmd_rights.specs.Rights.{RightsDoes}
 use Rattle.cmd_plain.specs.Access.{AccessDoes}
 use Rattle.cmd_plain.specs.Sddl.{SddlDoes}
 use Rattle.cmd_store.specs.Load.{LoadDoes}
@@ -24,7 +25,7 @@ use Rattle.cmd_store.specs.Settle.{SettleDoes}
 use Rattle.cmd_store_serve.specs.serving.Does.{ServeDoes}
 use Rattle.cmd_words.specs.Command.{CommandValue}
 use Rattle.cmd_words.specs.Command.CommandValue.{Access, Sddl, Change, Load, Serve, Settle, Check, Audit, Grants}
-use Rattle.cmd_words.specs.Command.CommandValue.{Listing, Effective, Token, Who, Can, Diff, Sample}
+use Rattle.cmd_words.specs.Command.CommandValue.{Listing, Effective, Token, Who, Can, Rights, Diff, Sample}
 use Rattle.cmd_words.specs.Table.{has_store, may_end}
 
 module _ {I S T : Type 0} (source : SourceGhosts I) (site : SiteGhosts S) (other : SiteGhosts T) where
@@ -67,6 +68,8 @@ module _ {I S T : Type 0} (source : SourceGhosts I) (site : SiteGhosts S) (other
   Rules (Who store right name) from to old new before after outcome = WhoDoes site right name old new outcome
       × (to ≡ from) × (after ≡ before)
   Rules (Can store name right base) from to old new before after outcome = CanDoes site name right base old new outcome
+      × (to ≡ from) × (after ≡ before)
+  Rules (Rights store right base) from to old new before after outcome = RightsDoes site right base old new outcome
       × (to ≡ from) × (after ≡ before)
   Rules (Diff store second) from to old new before after outcome = DiffDoes site other old new before after outcome
       × (to ≡ from)

@@ -9,6 +9,7 @@ use cmd_change::change;
 use cmd_diff::diff;
 use cmd_grants::grants;
 use cmd_plain::{access, sddl};
+use cmd_rights::rights;
 use cmd_store::{check, effective, list, load, settle};
 use cmd_store_serve::{sample, serve};
 use cmd_who::{can, token, who};
@@ -55,6 +56,8 @@ use std::alloc::Global;
 /// - `can STORE NAME RIGHT BASE`: what is emitted is a line for each object at or below BASE on which the right is
 ///   granted to the token of the object of this name, with what decides. BASE may be left out, and is the root then;
 ///   an empty one is a name that nothing has. All else is as by `token`.
+/// - `rights STORE RIGHT BASE`: what is emitted says to whom the right is granted on each object at or below BASE, each
+///   set of identities once and each object by its set. BASE may be left out, as of `can`. All else is as by `token`.
 /// - `diff STORE STORE2`: what is emitted are the lines that say who gains and who loses which right from the
 ///   directory of the first store to that of the second one. The slots of STORE2 are those of the second site; both may
 ///   have the same. The input isn't read, no slot is written, and nothing is emitted by the second site. Slots that
@@ -94,6 +97,7 @@ pub fn run_command<I: Source, S: Site, T: Site>(
             base,
             ..
         } => can(alloc, site, name, right, base),
+        Command::Rights { right, base, .. } => rights(alloc, site, right, base),
         Command::Diff { .. } => diff(alloc, site, other),
         Command::Sample { size, .. } => sample(alloc, site, size),
     }

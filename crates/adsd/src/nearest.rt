@@ -98,6 +98,7 @@ fn in_command<'a>(
             base,
             ..
         } => in_can(alloc, dir, name, right, base),
+        Command::Rights { right, base, .. } => in_right_and_base(alloc, dir, right, base),
         _ => Ok(None),
     }
 }

@@ -53,7 +53,7 @@ fn is_near(alloc: Global, word: &str, name: &str) -> bool {
 
 // The number of the form whose command's name is nearest to a word, where one is near.
 fn nearest(alloc: Global, word: &str) -> Option<usize>
-    ensures { IfSome result (λ i. i < 16) }
+    ensures { IfSome result (λ i. i < 17) }
 {
     for i in 0..FORMS.len() {
         if is_near(alloc, word, FORMS[i].0) {
@@ -73,9 +73,7 @@ pub fn tell_words(rt: &HostRuntime, words: &[String]) {
         Some(i) => {
             let (name, others) = FORMS[i];
             if first == name {
-                eprintln!(rt;
-                    "adsd: the words are none of its forms; the nearest one: adsd {name}{others}"
-                )
+                eprintln!(rt; "adsd: wrong arguments; the nearest form: adsd {name}{others}")
             } else {
                 let word = Shown { text: first };
                 eprintln!(rt;

@@ -94,18 +94,23 @@ JudgesEach view want (Err fault) question = is_memory fault ≡ false → questi
 abbrev pub AreNone : List ℕ → Type 0
 AreNone masks = (place : ℕ) → slice_index_or masks place 0 ≡ 0
 
--- Masks are put at the start, or none where there is too little room.
+-- no right is given from a place on
+abbrev pub AreNoneFrom : ℕ → List ℕ → Type 0
+AreNoneFrom first masks = (place : ℕ) → first ≤ place → slice_index_or masks place 0 ≡ 0
+
+-- Masks are put at the start, and after them no right is given; or none where there is too little room.
 abbrev pub PutsEach : List ℕ → ℕ → List ℕ → Type 0
 PutsEach found code masks =
     ((code ≡ answered) × (length found ≤ length masks)
-    × ((place : ℕ) → place < length found → slice_index_or masks place 0 ≡ slice_index_or found place 0))
+    × ((place : ℕ) → place < length found → slice_index_or masks place 0 ≡ slice_index_or found place 0)
+    × AreNoneFrom (length found) masks)
     ⊎ ((code ≡ no_room) × (length masks < length found) × AreNone masks)
 
--- The masks; with any code but that of an answer no right is given, as where there is room for fewer masks than there
--- are nodes.
+-- The masks, and no right after them; with any code but that of an answer no right is given, as where there is room
+-- for fewer masks than there are nodes.
 abbrev pub TellsEach : ℕ → Result TreeQuestion Refusal → ℕ → List ℕ → Type 0
 TellsEach want (Ok q) code masks =
-    ((code ≡ answered) × AreMasks want q masks)
+    ((code ≡ answered) × AreMasks want q masks × AreNoneFrom (length q.nodes) masks)
     ⊎ ((code ≡ no_room) × (length masks < length q.nodes) × AreNone masks)
 TellsEach want (Err fault) code masks = (code ≡ code_of fault) × AreNone masks
 

@@ -4,7 +4,7 @@ use Rattle.std.specs.Str.{bytes_eq}
 use Rattle.cmd_words.specs.Size.{size_of}
 use Rattle.cmd_words.specs.Command.{CommandValue}
 use Rattle.cmd_words.specs.Command.CommandValue.{Access, Sddl, Change, Load, Serve, Settle, Check, Audit, Grants}
-use Rattle.cmd_words.specs.Command.CommandValue.{Listing, Effective, Token, Who, Can, Diff, Sample}
+use Rattle.cmd_words.specs.Command.CommandValue.{Listing, Effective, Token, Who, Can, Rights, Diff, Sample}
 
 -- one word alone
 abbrev pub alone : List ℕ → Option CommandValue
@@ -45,14 +45,16 @@ with_text word store text =
     else (if bytes_eq word (codes "effective") then Some (Effective store text)
     else (if bytes_eq word (codes "diff") then with_other store text
     else (if bytes_eq word (codes "sample") then with_size store text
-    else None)))
+    else (if bytes_eq word (codes "rights") then Some (Rights store text None)
+    else None))))
 
 -- a word, a store and two texts
 abbrev pub with_two : List ℕ → List ℕ → List ℕ → List ℕ → Option CommandValue
 with_two word store first second =
     if bytes_eq word (codes "who") then Some (Who store first second)
     else (if bytes_eq word (codes "can") then Some (Can store first second None)
-    else None)
+    else (if bytes_eq word (codes "rights") then Some (Rights store first (Some second))
+    else None))
 
 -- a word, a store and three texts
 abbrev pub with_three : List ℕ → List ℕ → List ℕ → List ℕ → List ℕ → Option CommandValue

@@ -2,7 +2,7 @@
 use Rattle.std.specs.Prelude.{ℕ, ◌==◌, Bool, false, ◌||◌, List, [], ◌∷◌, Option, Some, None, is_some}
 use Rattle.cmd_words.specs.Command.{CommandValue}
 use Rattle.cmd_words.specs.Command.CommandValue.{Access, Sddl, Change, Load, Serve, Settle, Check, Audit, Grants}
-use Rattle.cmd_words.specs.Command.CommandValue.{Listing, Effective, Token, Who, Can, Diff, Sample}
+use Rattle.cmd_words.specs.Command.CommandValue.{Listing, Effective, Token, Who, Can, Rights, Diff, Sample}
 use Rattle.cmd_words.specs.declared.command.Opening.{Opening}
 use Rattle.cmd_words.specs.declared.command.Opening.TheVariants.{NoStore, Makes, Writes, Reads}
 
@@ -21,6 +21,7 @@ opening_of (Effective store name) = Reads
 opening_of (Token store name sids) = Reads
 opening_of (Who store right name) = Reads
 opening_of (Can store name right base) = Reads
+opening_of (Rights store right base) = Reads
 opening_of (Diff store other) = Reads
 opening_of (Sample store size) = Makes
 
@@ -40,6 +41,7 @@ store_of (Effective store name) = Some store
 store_of (Token store name sids) = Some store
 store_of (Who store right name) = Some store
 store_of (Can store name right base) = Some store
+store_of (Rights store right base) = Some store
 store_of (Diff store other) = Some store
 store_of (Sample store size) = Some store
 
@@ -59,6 +61,7 @@ other_store_of (Effective store name) = None
 other_store_of (Token store name sids) = None
 other_store_of (Who store right name) = None
 other_store_of (Can store name right base) = None
+other_store_of (Rights store right base) = None
 other_store_of (Diff store other) = Some other
 other_store_of (Sample store size) = None
 
@@ -83,6 +86,7 @@ statuses_of (Effective store name) = 0 ∷ 1 ∷ 3 ∷ 4 ∷ 5 ∷ 6 ∷ []
 statuses_of (Token store name sids) = 0 ∷ 3 ∷ 5 ∷ 6 ∷ []
 statuses_of (Who store right name) = 0 ∷ 3 ∷ 5 ∷ 6 ∷ []
 statuses_of (Can store name right base) = 0 ∷ 3 ∷ 5 ∷ 6 ∷ []
+statuses_of (Rights store right base) = 0 ∷ 3 ∷ 5 ∷ 6 ∷ []
 statuses_of (Diff store other) = 0 ∷ 3 ∷ 5 ∷ 6 ∷ []
 statuses_of (Sample store size) = 0 ∷ 1 ∷ 3 ∷ 5 ∷ 6 ∷ []
 

@@ -67,6 +67,12 @@ pub enum Command<'a> {
         right: &'a str,
         base: Option<&'a str>,
     },
+    /// Who has a right on which objects, at or below the base where one is given.
+    Rights {
+        store: &'a str,
+        right: &'a str,
+        base: Option<&'a str>,
+    },
     /// Who gains and who loses which right from the first store to the second one.
     Diff {
         store: &'a str,
@@ -117,13 +123,14 @@ impl<'a> Command<'a> {
             | Command::Check { store }
             | Command::Audit { store }
             | Command::Grants { store }
-            | Command::List { store, .. }
+            | Command::Sample { store, .. } => Some(store),
+            Command::List { store, .. }
             | Command::Effective { store, .. }
             | Command::Token { store, .. }
             | Command::Who { store, .. }
             | Command::Can { store, .. }
-            | Command::Diff { store, .. }
-            | Command::Sample { store, .. } => Some(store),
+            | Command::Rights { store, .. }
+            | Command::Diff { store, .. } => Some(store),
         }
     }
 

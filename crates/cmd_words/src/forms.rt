@@ -1,7 +1,7 @@
 //! The forms of the words as they are told: what help, completion and the documents say is made of them or compared.
 
 /// Each command's name, and the words after it.
-pub static FORMS: [(&str, &str); 16] = [
+pub static FORMS: [(&str, &str); 17] = [
     ("access", ""),
     ("sddl", ""),
     ("change", ""),
@@ -16,6 +16,7 @@ pub static FORMS: [(&str, &str); 16] = [
     ("token", " STORE NAME SID.., and there may be no SID"),
     ("who", " STORE RIGHT NAME"),
     ("can", " STORE NAME RIGHT BASE, and BASE may be left out"),
+    ("rights", " STORE RIGHT BASE, and BASE may be left out"),
     ("diff", " STORE STORE2"),
     ("sample", " STORE N, and N is from 1 to 1000"),
 ];

@@ -62,6 +62,12 @@ fn with_text<'a>(word: &str, store: &'a str, text: &'a str) -> Option<Command<'a
         with_other(store, text)
     } else if word == "sample" {
         with_size(store, text)
+    } else if word == "rights" {
+        Some(Command::Rights {
+            store,
+            right: text,
+            base: None,
+        })
     } else {
         None
     }
@@ -107,6 +113,12 @@ fn with_two<'a>(word: &str, store: &'a str, first: &'a str, second: &'a str) -> 
             name: first,
             right: second,
             base: None,
+        })
+    } else if word == "rights" {
+        Some(Command::Rights {
+            store,
+            right: first,
+            base: Some(second),
         })
     } else {
         None

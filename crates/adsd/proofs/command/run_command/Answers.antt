@@ -95,6 +95,12 @@ returns-in-Can g c =
     c.args.other.now c.args.other.now c.can.result c.in-Can.is (c.can.ensures.does, refl, refl) refl (of_list
     c.can.result c.can.ensures.does.only) refl (λ failed. inl (c.can.ensures.site_failed failed))
 
+pub returns-in-Rights : goal.returns-in-Rights
+returns-in-Rights g c =
+    deaf g.I.Source g.S.Site g.T.Site c.args.command.now _ c.args.source.now c.args.site.now c.rights.new.site
+    c.args.other.now c.args.other.now c.rights.result c.in-Rights.is (c.rights.ensures.does, refl, refl) refl (of_list
+    c.rights.result c.rights.ensures.does.only) refl (λ failed. inl (c.rights.ensures.site_failed failed))
+
 pub returns-in-Diff : goal.returns-in-Diff
 returns-in-Diff g c =
     deaf g.I.Source g.S.Site g.T.Site c.args.command.now _ c.args.source.now c.args.site.now c.diff.new.site
