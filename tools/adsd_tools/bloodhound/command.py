@@ -17,8 +17,8 @@ from .library import Library, Missing
 from .nodes import Nodes, NoDomain
 from .written import Writer
 
-ABOUT = """Writes a store's users, groups, computers, units, containers and domain as BloodHound CE reads them (version 6), with
-the edges of rights: users.json, groups.json, computers.json, ous.json, containers.json and domains.json.
+ABOUT = """Writes a store's users, groups, computers, units, containers, policies and domain as BloodHound CE reads them (version 6), with
+the edges of rights: users.json, groups.json, computers.json, ous.json, containers.json, gpos.json and domains.json.
 
     adsd-bloodhound corp --output edges
     adsd-bloodhound corp --zip corp.zip
@@ -40,7 +40,7 @@ def parsed(arguments):
                  formatter_class=argparse.RawDescriptionHelpFormatter)
     form.add_argument("store", metavar="STORE", help="the store, as `adsd` is given it")
     form.add_argument("--output", metavar="FOLDER", help="where the files are put; made where it isn't there (bloodhound)")
-    form.add_argument("--zip", metavar="FILE", help="write one archive of the six files instead, as BloodHound takes it too")
+    form.add_argument("--zip", metavar="FILE", help="write one archive of the seven files instead, as BloodHound takes it too")
     form.add_argument("--library", metavar="FILE", help="libadsd.so.1; if not given that of ADSD_LIBRARY, else what is installed")
     made = form.parse_args(arguments)
     if made.output and made.zip:
@@ -60,7 +60,7 @@ def zipped(files):
 def put(folder, files):
     """Writes some files into a folder, which is made where it isn't there."""
     if os.path.islink(folder):
-        raise OSError(errno.EEXIST, "it is a link, and no folder", folder)
+        raise OSError(errno.EEXIST, "it is a symbolic link, not a folder", folder)
     os.makedirs(folder, mode=0o700, exist_ok=True)
     for name, data in files.items():
         write(os.path.join(folder, name), data)

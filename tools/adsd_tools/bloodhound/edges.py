@@ -3,6 +3,7 @@
 from dataclasses import dataclass
 from typing import List, Tuple
 
+from adsd_tools.forms import descriptor
 from adsd_tools.forms.descriptor import ALLOW, INHERIT_ONLY, INHERITED
 from adsd_tools.forms.sids import NOBODY, guid_of_text, sid_of_text, text_of_sid
 from adsd_tools.rows import store
@@ -10,14 +11,15 @@ from adsd_tools.rows import store
 from .library import token_of
 
 SW, RP, WP, CR, WD, WO, ALL = 0x8, 0x10, 0x20, 0x100, 0x40000, 0x80000, 0xF01FF
-RESET, SELF_MEMBERSHIP, CHANGES, CHANGES_ALL = map(guid_of_text, (
+RESET, SELF_MEMBERSHIP, CHANGES, CHANGES_ALL, CHANGES_FILTERED = map(guid_of_text, (
     "00299570-246d-11d0-a768-00aa006e0529", "bf9679c0-0de6-11d0-a285-00aa003049e2",
-    "1131f6aa-9c07-11d1-f79f-00c04fc2dcd2", "1131f6ad-9c07-11d1-f79f-00c04fc2dcd2"))
+    "1131f6aa-9c07-11d1-f79f-00c04fc2dcd2", "1131f6ad-9c07-11d1-f79f-00c04fc2dcd2",
+    "89e95b76-444d-4c62-991a-0facbeda640c"))
 LAPS = ("ms-mcs-admpwd", "mslaps-password", "mslaps-encryptedpassword")
 # The groups that every token has.
 EVERYBODY = [sid_of_text(text) for text in ("S-1-1-0", "S-1-5-11")]
 # On which kinds of objects BloodHound takes control access, and write property, for several rights.
-WITH_RIGHTS, WITH_WRITE = {"User", "Computer", "Domain"}, {"User", "Group", "Computer", "OU", "Domain"}
+WITH_RIGHTS, WITH_WRITE = {"User", "Computer", "Domain"}, {"User", "Group", "Computer", "OU", "Domain", "GPO"}
 # Identifiers at which no edge begins: of the system, of services and kinds of logon, which SharpHound leaves out too; and of creators,
 # owner rights and the object itself, which no token has.
 NO_START = {f"S-1-5-{number}" for number in (2, 3, 4, 6, 7, 10, 18, 19, 20)} | {"S-1-2", "S-1-2-0", "S-1-0-0"}
@@ -77,17 +79,36 @@ class Edges:
         made = []
         if kind == "User":
             made += [by_right("ForceChangePassword", RESET), self.by_write("WriteSPN", of_class, "serviceprincipalname")]
+        if kind in ("User", "Computer"):
+            made.append(self.by_write("AddKeyCredentialLink", of_class, "msds-keycredentiallink"))
+        if kind == "Computer":
+            made.append(self.by_write("AddAllowedToAct", of_class, "msds-allowedtoactonbehalfofotheridentity"))
         if kind == "Group":
             made += [self.by_write("AddMember", of_class, "member"),
                      Narrow("AddSelf", [([SELF_MEMBERSHIP], SW, 0)], "", ("GenericWrite", "AddMember"))]
         if kind == "Domain":
-            made += [by_right("GetChanges", CHANGES), by_right("GetChangesAll", CHANGES_ALL)]
+            made += [by_right("GetChanges", CHANGES), by_right("GetChangesAll", CHANGES_ALL),
+                     by_right("GetChangesInFilteredSet", CHANGES_FILTERED)]
+        if kind in ("OU", "Domain"):
+            made.append(self.by_write("WriteGPLink", of_class, "gplink"))
         if passwords:
             # (control access on a confidential attribute is the right that counts, and whoever has it may read the others)
             masks = [(CR, RP) if self.schema.is_confidential(name) else (RP, 0) for name in passwords]
             ways = [(self.attribute(of_class, name), *mask) for name, mask in zip(passwords, masks)]
             made.append(Narrow("ReadLAPSPassword", ways, *RIGHTS))
         return [one for one in made if one.ways]
+
+    def named_in(self, data, want):
+        """The identifiers to which a descriptor that stands in an attribute grants something of a mask, each alone and with
+        everybody's groups."""
+        try:
+            parsed, _ = descriptor.read(data)
+            normal = normal_of(parsed)
+        except (descriptor.Unreadable, IndexError, ValueError):
+            return []
+        named = [entry.sid for entry in parsed.dacl.entries if entry.kind == ALLOW and not entry.flags & INHERIT_ONLY]
+        both = ((sid, (token_of(sid, [one for one in EVERYBODY if one != sid]), token_of(sid))) for sid in dict.fromkeys(map(bytes, named)))
+        return [sid for sid, tokens in both if starts(sid) and all(self.library.granted(normal, token, [], want) for token in tokens)]
 
     def by_write(self, name, of_class, attribute):
         path = self.attribute(of_class, attribute)
@@ -133,6 +154,13 @@ class Edges:
                  ("AllExtendedRights", whole & CR and kind in WITH_RIGHTS and "AllExtendedRights" not in lacks),
                  ("GenericWrite", whole & WP and kind in WITH_WRITE and "GenericWrite" not in lacks)]
         return [name for name, is_so in broad if is_so] + [one.name for one in single]
+
+
+def normal_of(parsed):
+    """The normal bytes of a descriptor (docs/profile/descriptors.md), of its owner and DACL; nobody owns it where it names none."""
+    entries = [descriptor.entry_bytes(entry) for entry in parsed.dacl.entries] if parsed.dacl else []
+    head = b"\0" + (parsed.owner or NOBODY) + (parsed.group or NOBODY)
+    return head + len(entries).to_bytes(8, "big") + b"".join(entries) + bytes(8)
 
 
 def told(found, narrow):

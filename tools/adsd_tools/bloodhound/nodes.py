@@ -1,19 +1,22 @@
 """The objects of a store as BloodHound names them: kinds, identifiers, names and properties."""
 
 import calendar
+import re
 import time
 import uuid
 
 from adsd_tools.forms.known import WELL_KNOWN
-from adsd_tools.forms.sids import text_of_guid, text_of_sid
+from adsd_tools.forms.sids import sid_at, text_of_guid, text_of_sid
 from adsd_tools.rows import store
 from adsd_tools.rows.accounts import Accounts
 
 from .edges import LAPS
 
 ROOT, COUNTS, SERVER_TRUST = 1, 0x80000000, 0x2000
-# Of a class, or one above it: the first that fits. None: objects of it, and all below these, aren't written.
-KINDS = (("grouppolicycontainer", None), ("msds-groupmanagedserviceaccount", "User"), ("msds-managedserviceaccount", "User"),
+# What stands in gPLink: links with their options.
+LINK, LINK_DISABLED, LINK_ENFORCED = re.compile(r"\[LDAP://([^;\]]+);([0-9]{1,9})\]", re.IGNORECASE), 1, 2
+# Of a class, or one above it: the first that fits. What stands below a policy isn't written.
+KINDS = (("grouppolicycontainer", "GPO"), ("msds-groupmanagedserviceaccount", "User"), ("msds-managedserviceaccount", "User"),
          ("computer", "Computer"), ("user", "User"), ("group", "Group"), ("organizationalunit", "OU"), ("container", "Container"))
 # Identifiers that are the same everywhere and no groups.
 USERS = {"S-1-0-0", "S-1-5-7", "S-1-5-18", "S-1-5-19", "S-1-5-20"}
@@ -40,8 +43,9 @@ class Nodes:
         self.objects, self.sids = self.directory.objects, self.accounts.sids
         self.names = {number: name.decode("utf-8", "backslashreplace")
                       for number, name in store.names_of(self.directory, self.schema.naming).items()}
+        self.by_name = {name.casefold(): number for number, name in self.names.items()}
         if ROOT not in self.sids:
-            raise NoDomain("its root has no objectSid, and BloodHound names all by the domain's")
+            raise NoDomain("the root has no objectSid, by which BloodHound names the domain")
         self.domain_sid = text_of_sid(self.sids[ROOT])
         parts = [part.partition("=") for part in self.names[ROOT].split(",")]
         self.domain = ".".join(value for name, _, value in parts if name.upper() == "DC").upper() or self.names[ROOT].upper()
@@ -63,10 +67,11 @@ class Nodes:
             below.setdefault(one.parent, []).append(number)
         for number in order:
             kind = "Domain" if number == ROOT else self.kind_of_class(self.objects[number].of_class)
-            if kind is None or self.objects[number].parent in left_out:
+            if self.objects[number].parent in left_out:
                 left_out.add(number)
             elif kind:
                 self.kinds[number] = kind
+                left_out.update([number] if kind == "GPO" else [])
             order += below.get(number, [])
         for number in reversed(order):
             parent = self.objects[number].parent
@@ -110,9 +115,24 @@ class Nodes:
         sids = [self.sids[one] for one in map(as_number, self.values(number, "member")) if one in self.sids]
         return [{"ObjectIdentifier": name, "ObjectType": kind} for name, kind in map(self.of_sid, sids)]
 
+    def links(self, number):
+        """The policies that are linked to a unit or the domain by links that are followed, and whether each is enforced."""
+        made = []
+        for value in self.values(number, "gPLink"):
+            for name, options in LINK.findall(value.decode("utf-8", "backslashreplace")):
+                found = self.by_name.get(name.casefold())
+                if self.kinds.get(found) == "GPO" and not int(options) & LINK_DISABLED:
+                    made.append({"GUID": self.identifier(found), "IsEnforced": bool(int(options) & LINK_ENFORCED)})
+        return made
+
     def primary_group(self, number):
         value = whole(next(iter(self.values(number, "primaryGroupID")), None))
         return None if value is None or not 0 <= value < 2**32 else f"{self.domain_sid}-{value}"
+
+    def history(self, number):
+        """Whose identifiers an account has besides its own."""
+        sids = [sid_at(value, 0, len(value)) for value in self.values(number, "sIDHistory")]
+        return [{"ObjectIdentifier": name, "ObjectType": kind} for name, kind in (self.of_sid(sid) for sid in sids if sid)]
 
     def passwords(self, number):
         """The attributes of LAPS that a computer has a password in; those that would have one, where it has a time of its end."""
@@ -131,6 +151,9 @@ class Nodes:
         kind, own = self.kinds[number], self.text(number, "sAMAccountName")
         if kind == "Domain":
             return self.domain
+        if kind == "GPO":
+            own = self.text(number, "displayName")
+            return f"{own or self.objects[number].naming.decode('utf-8', 'backslashreplace')}@{self.domain}".upper()
         own = own if own and kind in ("User", "Group", "Computer") else self.objects[number].naming.decode("utf-8", "backslashreplace")
         return (f"{own.rstrip('$')}.{self.domain}" if kind == "Computer" else f"{own}@{self.domain}").upper()
 
@@ -147,6 +170,10 @@ class Nodes:
             made["whencreated"] = created
         if kind in ("User", "Computer"):
             made.update(self.of_account(number))
+        if kind == "OU":
+            made["blocksinheritance"] = whole(self.text(number, "gPOptions")) == 1
+        if kind == "GPO":
+            made["gpcpath"] = self.text(number, "gPCFileSysPath") or ""
         if kind == "Computer":
             made["haslaps"] = bool(self.passwords(number))
         return made

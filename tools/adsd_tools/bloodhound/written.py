@@ -1,8 +1,9 @@
 """The files of BloodHound CE's ingest, version 6: what stands in each."""
 
-from .edges import Edges
+from .edges import ALL, RP, Edges
 
-FILES = {"User": "users", "Group": "groups", "Computer": "computers", "OU": "ous", "Container": "containers", "Domain": "domains"}
+FILES = {"User": "users", "Group": "groups", "Computer": "computers", "OU": "ous", "Container": "containers", "GPO": "gpos",
+         "Domain": "domains"}
 # What is collected: groups, lists, containers and properties, as SharpHound counts them.
 METHODS, VERSION = 1 | 64 | 128 | 512, 6
 GPO_CHANGES = ("AffectedComputers", "LocalAdmins", "RemoteDesktopUsers", "DcomUsers", "PSRemoteUsers")
@@ -27,7 +28,14 @@ class Writer:
                 continue
             identifier, kind = nodes.of_sid(sid)
             made.append({"PrincipalSID": identifier, "PrincipalType": kind, "RightName": name, "IsInherited": inherited})
+        for identifier, kind in self.named_in(number, "msDS-GroupMSAMembership", RP):
+            made.append({"PrincipalSID": identifier, "PrincipalType": kind, "RightName": "ReadGMSAPassword", "IsInherited": False})
         return made
+
+    def named_in(self, number, attribute, want):
+        """The identifiers and kinds of those to whom a descriptor in an attribute grants something of a mask."""
+        return [self.nodes.of_sid(sid) for value in self.nodes.values(number, attribute) for sid in self.edges.named_in(value, want)
+                if sid != self.nodes.sids.get(number)]
 
     def item(self, number):
         nodes, kind = self.nodes, self.nodes.kinds[number]
@@ -36,18 +44,19 @@ class Writer:
                 "IsDeleted": False, "IsACLProtected": nodes.is_protected(number),
                 "ContainedBy": nodes.pair(parent) if parent in nodes.kinds else None}
         if kind in ("User", "Computer"):
-            made.update(PrimaryGroupSID=nodes.primary_group(number), AllowedToDelegate=[], HasSIDHistory=[])
+            made.update(PrimaryGroupSID=nodes.primary_group(number), AllowedToDelegate=[], HasSIDHistory=nodes.history(number))
         if kind == "User":
             made.update(SPNTargets=[])
         if kind == "Computer":
-            made.update(AllowedToAct=[], DumpSMSAPassword=[], LocalGroups=[], UserRights=[], Status=None, IsDC=nodes.is_controller(number),
+            acts = self.named_in(number, "msDS-AllowedToActOnBehalfOfOtherIdentity", ALL)
+            made.update(AllowedToAct=[{"ObjectIdentifier": name, "ObjectType": of} for name, of in acts], DumpSMSAPassword=[], LocalGroups=[], UserRights=[], Status=None, IsDC=nodes.is_controller(number),
                         Sessions=nothing_collected(), PrivilegedSessions=nothing_collected(), RegistrySessions=nothing_collected())
         if kind == "Group":
             made.update(Members=nodes.members(number))
         if kind in ("OU", "Container", "Domain"):
             made.update(ChildObjects=[nodes.pair(child) for child in nodes.children.get(number, [])])
         if kind in ("OU", "Domain"):
-            made.update(Links=[], GPOChanges={name: [] for name in GPO_CHANGES})
+            made.update(Links=nodes.links(number), GPOChanges={name: [] for name in GPO_CHANGES})
         if kind == "Domain":
             made.update(Trusts=[])
         return made

@@ -33,7 +33,7 @@ class Api:
         self.explorer = explorer
         self.reads = {one.__name__: one for one in (
             self.start, self.children, self.find, self.object, self.askable, self.classes, self.whom, self.who,
-            self.principal, self.can, self.exposed, self.moment, self.gains, self.gained, self.frames)}
+            self.principal, self.can, self.exposed, self.audited, self.moment, self.gains, self.gained, self.frames)}
         self.writes = {"try": self.attempt, "write": self.write}
 
     def answer(self, name, words, body=None):
@@ -113,23 +113,26 @@ class Api:
     def exposed(self, words):
         return self.explorer.principals.exposed(self.at(words))
 
+    def audited(self, words):
+        return self.explorer.auditing.told()
+
     # ---- what-ifs
 
     def changes_of(self, given):
         """The changes of a request, looked through."""
         if not isinstance(given, list):
-            raise Wrong("changes are a list")
+            raise Wrong("changes have to be a list")
         return [self.change_of(one) for one in given]
 
     def change_of(self, one):
         word = one.get("op") if isinstance(one, dict) else None
         keys = OPS.get(word) if isinstance(word, str) else None
         if keys is None or any(type(one.get(key)) is not SHAPES[key] for key in keys):
-            raise Wrong("a change of no kind")
+            raise Wrong("unknown kind of change")
         if any(isinstance(one[key], str) and len(one[key]) > MOST_TEXT for key in keys):
-            raise Wrong("a text that is too long")
+            raise Wrong("a text is too long")
         if "n" in keys and one["n"] not in self.explorer.world.objects:
-            raise Wrong("a change of no object")
+            raise Wrong("the change names no object")
         made = {"op": word, **{key: one[key] for key in keys}}
         if "sid" in keys:
             made["sid"] = text_of_sid(asked.sid(one["sid"], "the owner" if word == "owner" else "that"))
@@ -201,7 +204,7 @@ class Api:
         if words["form"] == "text":
             return Raw("adsd.txt", "".join(f"{line}\n" for line in plan.lines).encode())
         if words["form"]:
-            raise Wrong("frames are told as text or as bytes")
+            raise Wrong("frames have to be text or bytes")
         return {"lines": plan.lines, "grants": plan.grants}
 
     def write(self, body):

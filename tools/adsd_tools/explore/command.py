@@ -16,7 +16,7 @@ ABOUT = """Serves a web page on a loopback address that explores the rights in a
 can do what and by which entry and groups, what somebody may do and where, ranked by harm; and what-ifs: lists changed
 on a copy, who gains and loses before, while and after they are passed down.
 
-    adsd-explore /tmp/corp
+    adsd-explore corp
 
 It prints the address, which has a secret in it, and ends at Ctrl-C. The store is copied, and only the copy is asked.
 With --write, and never without, a button of the page writes a what-if to the store itself, and names first what it
@@ -43,7 +43,7 @@ def say(line):
 
 def port(text):
     if not text.isdigit() or int(text) > 65535:
-        raise argparse.ArgumentTypeError(f"{text!r} is no port")
+        raise argparse.ArgumentTypeError(f"{text!r} isn't a port")
     return int(text)
 
 

@@ -12,8 +12,8 @@ from .trying import Lists
 CI, NP, IO, SUCCESS, FAILURE = 0x02, 0x04, 0x08, 0x40, 0x80
 DACL_ALONE = 4
 FULL = {0xF01FF: "everything", RIGHTS["GA"]: "everything"}
-NOTES = {SELF: "whoever the object itself is",
-         OWNER_RIGHTS: "stands for the owner, and takes from it what it has by itself",
+NOTES = {SELF: "the object itself (SELF)",
+         OWNER_RIGHTS: "owner rights: the owner has these instead of reading and writing the list",
          CREATOR_OWNER: "on each object below: its owner", CREATOR_GROUP: "on each object below: its group"}
 OF_TYPE = {48: "property set", 256: "extended right", 8: "validated write"}
 
@@ -42,7 +42,7 @@ class Describing:
             return [["GA" if mask == RIGHTS["GA"] else "all", FULL[mask]]]
         made = [[code, CODES[code]] for code, bit in RIGHTS.items() if mask & bit]
         left = mask & ~sum(RIGHTS.values())
-        return made + ([[f"0x{left:x}", "bits without a name"]] if left else [])
+        return made + ([[f"0x{left:x}", "unnamed bits"]] if left else [])
 
     def target(self, guid):
         """On what an entry is, in words; nothing where it is on the object as a whole."""

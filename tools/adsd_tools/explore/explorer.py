@@ -18,6 +18,7 @@ from adsd_tools.run import ADSD
 
 from . import private, tokens, walks
 from .answers import Answers
+from .auditing import Auditing
 from .principals import Principals
 from .texts import told
 from .trying import Plan, Wrong
@@ -98,6 +99,7 @@ class Explorer:
         self.answers = Answers(self.world, self.calls)
         self.views = Views(self.world, self.answers, self.protected)
         self.principals = Principals(self.views)
+        self.auditing = Auditing(self.source, self.place, self.slots, self.tell)
         self.walks = walks.Stable(lambda: walks.Walk(self.program, self.slots, self.place, self.world, self.operator))
 
     def find_protected(self, walk):
@@ -155,7 +157,7 @@ class Explorer:
 
     def open_plan(self, key):
         if key not in self.plans:
-            raise NotThere("this what-if isn't open any more: try it again")
+            raise NotThere("this what-if isn't open any more: run it again")
         return self.plans[key]
 
     def moment(self, key, step):
@@ -170,12 +172,12 @@ class Explorer:
     def write(self, key, settle):
         """Serves the frames of a plan on the store itself; what the program said to each."""
         if not self.may_write:
-            raise Wrong("the store is explored without --write")
+            raise Wrong("the explorer was started without --write")
         plan = self.open_plan(key)
         if not all(one["ok"] for one in plan.told):
             raise Wrong("a change is refused, so nothing is written")
         if self.stamp() != self.stamped:
-            raise Changed("the store was written by another program since it was read: start the explorer anew")
+            raise Changed("another program has written the store since it was read: start the explorer again")
         frames = plan.frames + ([requests.frame(walks.STEPS, 0, struct.pack(">I", walks.ALL_STEPS))] if settle else [])
         # (the launcher, which looks whose the files are)
         serving = program.Serving(ADSD, self.source)

@@ -2,7 +2,7 @@
 
 import re
 from dataclasses import dataclass
-from typing import Dict, List
+from typing import Dict, List, Optional
 
 MOST_HEAD, MOST_FIELDS = 16_384, 100
 END = b"\r\n\r\n"
@@ -24,19 +24,19 @@ class Head:
     fields: Dict[str, List[str]]
     goes_on: bool
 
-    def one(self, name, other=""):
+    def one(self, name: str, other: str = "") -> Optional[str]:
         """The value of a field that stands there once; None where it stands there more often."""
         found = self.fields.get(name, [other])
         return found[0] if len(found) == 1 else None
 
 
-def read(data):
+def read(data: bytes) -> Head:
     """The head of bytes without the empty line that ends it."""
     first, *lines = data.split(b"\r\n")
     found = FIRST.fullmatch(first)
     if not found or len(lines) > MOST_FIELDS:
         raise Bad
-    fields = {}
+    fields: Dict[str, List[str]] = {}
     for line in lines:
         name, colon, value = line.partition(b":")
         if not colon or not NAME.fullmatch(name) or not VALUE.fullmatch(value):

@@ -18,7 +18,13 @@ class Principals:
 
     def __init__(self, views):
         self.views, self.world, self.answers = views, views.world, views.answers
-        self.kinds = {}
+        self.kinds, self.heads = {}, None
+
+    def ruled(self):
+        """What rules the domain, in the order in which it is looked at: the root and AdminSDHolder first."""
+        if self.heads is None:
+            self.heads = {number: place for place, number in enumerate(ruling(self.world, self.views.accounts))}
+        return self.heads
 
     def kinds_of(self, moment):
         """The objects by class, descriptor, whether they have an identifier and whether they are protected."""
@@ -44,7 +50,7 @@ class Principals:
 
     def ranked(self, sid, moment):
         """What somebody may do, the worst first."""
-        token, rows = self.views.accounts.token(sid), [[] for _ in HARMS]
+        token, rows, heads = self.views.accounts.token(sid), [[] for _ in HARMS], self.ruled()
         for numbers, on, ranks, dangers in self.found(token, moment):
             for place in range(len(HARMS)):
                 if ranks >> place & 1:
@@ -52,7 +58,8 @@ class Principals:
         made = []
         for place, found in enumerate(rows):
             if found:
-                found.sort(key=lambda row: (row[0][0] not in self.views.protected, -len(row[0]), row[0][0]))
+                found.sort(key=lambda row: (heads.get(row[0][0], len(heads)), row[0][0] not in self.views.protected,
+                                            -len(row[0]), row[0][0]))
                 told = [self.row(token, place, *one) for one in found[:MOST_ROWS]]
                 made.append({**self.views.rank(place), "count": sum(len(row[0]) for row in found), "rows": told,
                              "more": sum(len(row[0]) for row in found[MOST_ROWS:])})

@@ -59,7 +59,7 @@ class Lists:
             raise Wrong("a list begins with D: and has nothing else")
         entries = entries_of(text)
         if any(INHERITED & self.flags(one) for one in entries):
-            raise Wrong("an entry with the flag ID is inherited, and none of the object's own")
+            raise Wrong("an entry with the flag ID is inherited: it can't be added here")
         return entries, text.startswith("D:P")
 
     def flags(self, entry):
@@ -73,9 +73,9 @@ class Lists:
             found = re.fullmatch(r"at character (\d+)(: .*)", str(wrong))
             raise Wrong(f"at character {max(1, int(found[1]) - 2)}{found[2]}" if found else str(wrong)) from None
         if len(entries) != 1:
-            raise Wrong(f"one entry is wanted, and here are {len(entries)}")
+            raise Wrong(f"expected one entry, not {len(entries)}")
         if entries[0].startswith(("(AU;", "(OU;")):
-            raise Wrong("an audit entry stands in the system list")
+            raise Wrong("an audit entry belongs in the SACL")
         return entries[0]
 
 
@@ -93,10 +93,10 @@ def put(entries, change, lists):
     if op == "revoke":
         kept = [one for one in made if one[1:-1].split(";")[5] != change["sid"]]
         if len(kept) == len(made):
-            raise Wrong("no entry of the object's own is for it")
+            raise Wrong("the object has no explicit entry for it")
         return kept
     if change["old"] not in made:
-        raise Wrong("the object has no such entry of its own now")
+        raise Wrong("the object no longer has this explicit entry")
     place = made.index(change["old"])
     made[place : place + 1] = [lists.entry(change["ace"])] if op == "edit" else []
     return made
@@ -194,7 +194,7 @@ class Plan:
         flags, text, grant = DACL, None, None
         if change["op"] == "owner":
             if sid_of_text(change["sid"]) is None:
-                raise Wrong("the owner is no identifier")
+                raise Wrong("the owner isn't a SID")
             flags, text = OWNER, f"O:{change['sid']}"
         elif change["op"] == "list":
             text = list_text(*self.lists.read(change["sddl"]))
@@ -215,7 +215,7 @@ class Plan:
         after = walk.changed.get(number, self.world.objects[number].normal)
         word = f"refused, {CODES.get(code, code)}" if code else "done"
         if code == 0 and after == before:
-            word = "nothing is another than before"
+            word = "nothing changes"
         self.told.append({"ok": code == 0, "said": word + (f": {told(said)}" if said else ""), "text": text})
         self.grants.append(grant)
 

@@ -221,7 +221,7 @@ def only(pairs, why):
     if not pairs:
         raise NotThere(why)
     if len({name for name, _ in pairs}) > 1:
-        raise Wrong("several things of the schema have names that are told alike")
+        raise Wrong("several classes, attributes or rights of the schema have the same name")
     return pairs[0][1]
 
 

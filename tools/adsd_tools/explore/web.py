@@ -195,9 +195,9 @@ def words_of(query):
         pairs = urllib.parse.parse_qsl(query, keep_blank_values=True, strict_parsing=bool(query), errors="strict",
                                        max_num_fields=MOST_WORDS)
     except ValueError:
-        raise Wrong("the words of the query can't be read") from None
+        raise Wrong("the query string can't be read") from None
     if len(dict(pairs)) < len(pairs):
-        raise Wrong("a word of the query is given twice")
+        raise Wrong("a parameter is given twice")
     return dict(pairs)
 
 
@@ -208,5 +208,5 @@ def object_of(data):
     except (ValueError, RecursionError):
         made = None
     if not isinstance(made, dict):
-        raise Wrong("the body is no object of JSON")
+        raise Wrong("the body isn't a JSON object")
     return made

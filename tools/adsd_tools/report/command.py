@@ -4,19 +4,22 @@ import argparse
 import os
 import sys
 import tempfile
+from typing import Dict, List, NoReturn, Optional, Set, Tuple
 
 from adsd_tools import incomplete
 from adsd_tools.ask import words
 from adsd_tools.forms import ber, filters
 from adsd_tools.rows import store
+from adsd_tools.lines import Event
 from adsd_tools.rows.accounts import Accounts
 from adsd_tools.shown import brief, shown
 
 from . import cards, library, program, tokens
 from .deciding import Deciding
 from .front import BadFrames, Front, frames_of
+from .made import Made
 from .names import Principals
-from .page import Made, page
+from .page import page
 from .protection import protected
 from .state import State
 
@@ -24,12 +27,12 @@ ABOUT = """Writes one page of HTML without outside parts about a store and a tok
 dangerous, by rank, and by which entry; then which rights come and go as a list is passed down, moment by moment; then,
 folded, the tree, each right with the entry that decides it, and who else has it.
 
-    adsd-report /tmp/corp --user S-1-5-21-1-2-3-1001 --group AU --group WD >page.html
-    adsd-report /tmp/corp --user ann >page.html
-    adsd-report /tmp/corp --user BA --frames day.txt --steps 1 >page.html
+    adsd-report corp --user S-1-5-21-1-2-3-1001 --group AU --group WD >page.html
+    adsd-report corp --user ann >page.html
+    adsd-report corp --user BA --frames day.txt --steps 1 >page.html
 
 A name alone has the whole token that the store gives it, as `adsd token` tells it; of another token the page says what
-that has besides. The store is copied, and only the copy is asked and changed. Frames are made on the copy first: the tree is that behind
+that has besides. The store is copied, and only the copy is asked and changed. Frames are made on the copy first: the tree is that after
 them. Steps go on from there, as many at a time as are told, until nothing is pending; the tree doesn't show them. The
 program is the launcher's, or the one that the environment's ADSD names, and what decides is asked of the proved library
 (ADSD_LIBRARY may name it). This script is not proved."""
@@ -40,22 +43,22 @@ STATUSES = """status: 0 written; 1 the store, the frames or a word can't be take
 class Words(argparse.ArgumentParser):
     """The words of the command. A fault is told in one line."""
 
-    def error(self, message):
+    def error(self, message: str) -> NoReturn:
         say(message)
         sys.exit(2)
 
 
-def say(line):
+def say(line: object) -> None:
     sys.stderr.write(f"adsd-report: {shown(str(line))}\n")
 
 
-def positive(text):
+def positive(text: str) -> int:
     if not text.isdigit() or not 0 < int(text) <= 1_000_000:
-        raise argparse.ArgumentTypeError(f"{text!r} is no number from 1 to 1000000")
+        raise argparse.ArgumentTypeError(f"{text!r} isn't a number from 1 to 1000000")
     return int(text)
 
 
-def parsed(arguments):
+def parsed(arguments: List[str]) -> argparse.Namespace:
     form = Words(prog="adsd-report", description=ABOUT, epilog=STATUSES,
                  formatter_class=argparse.RawDescriptionHelpFormatter)
     form.add_argument("store", help="the store, as `adsd` is given it")
@@ -63,36 +66,36 @@ def parsed(arguments):
                       help="the token's user: an identifier, an alias, or the name of an account of the store")
     form.add_argument("--group", action="append", default=[], metavar="SID",
                       help="a group of the token; * are all that the store gives the user, as `adsd token` tells them")
-    form.add_argument("--deny-only", action="append", default=[], metavar="SID", help="a group that only denies")
-    form.add_argument("--restricting", action="append", default=[], metavar="SID", help="a restricting identifier")
+    form.add_argument("--deny-only", action="append", default=[], metavar="SID", help="a deny-only group")
+    form.add_argument("--restricting", action="append", default=[], metavar="SID", help="a restricting SID")
     form.add_argument("--privilege", action="append", default=[], choices=words.PRIVILEGES)
     form.add_argument("--base", metavar="DN", help="show the objects at and below this name alone")
-    form.add_argument("--frames", metavar="FILE", help="frames, or the lines of adsd-ask, made on the copy first")
-    form.add_argument("--steps", metavar="N", type=positive, help="look ahead, so many steps at a time")
-    form.add_argument("--moments", metavar="N", type=positive, default=24, help="moments that are shown (%(default)s)")
+    form.add_argument("--frames", metavar="FILE", help="requests (frames, or lines of adsd-ask) that are made on the copy first")
+    form.add_argument("--steps", metavar="N", type=positive, help="then make so many propagation steps at a time, and show each moment")
+    form.add_argument("--moments", metavar="N", type=positive, default=24, help="how many moments are shown (%(default)s)")
     form.add_argument("--jobs", metavar="N", type=positive, default=min(4, os.cpu_count() or 1),
-                      help="how many questions are asked at once (%(default)s)")
-    form.add_argument("--progress", action="store_true", 
-                      help="tell how far it is, also where standard error is no terminal")
+                      help="how many queries run at once (%(default)s)")
+    form.add_argument("--progress", action="store_true",
+                      help="show progress, also where standard error is no terminal")
     return form.parse_args(arguments)
 
 
-def agreed(path, copy, state):
+def agreed(path: str, copy: str, state: State) -> None:
     """Refuses a store of which the program counts otherwise than what was read of it."""
     said, read = program.counts(path, copy), state.counts()
     if said != read:
         raise store.Broken(f"the program's check says {said}, and what was read of its rows is {read}")
 
 
-def chosen(state, base):
+def chosen(state: State, base: Optional[str]) -> List[Tuple[int, int]]:
     """The objects that are shown, in the order of the tree, with their depths."""
     number = 1 if base is None else state.found(base)
     if number is None:
-        raise words.Wrong(f"--base {brief(base)}: no object has this name")
+        raise words.Wrong(f"--base {brief(base or '')}: no object has this name")
     return list(state.in_tree_order(number))
 
 
-def seen_of(path, copy, state, token, made):
+def seen_of(path: str, copy: str, state: State, token: bytes, made: List[str]) -> Set[int]:
     """The numbers of the objects that the program shows the token; a note where its answer isn't whole."""
     names, code = program.seen(path, copy, token, state.names[1])
     if code != 0:
@@ -104,9 +107,12 @@ def seen_of(path, copy, state, token, made):
     return {by_name[name] for name in names}
 
 
-def reasons_of(state, numbers, token, deciding):
+def reasons_of(state: State, numbers: List[Tuple[int, int]], token: tokens.Token,
+               deciding: Deciding) -> Dict[int, cards.Seen]:
     """Why each object is seen or not: once for all below one, where it hangs on that one alone."""
-    made, known, lists_objects = {}, {}, state.lists_objects()
+    made: Dict[int, cards.Seen] = {}
+    known: Dict[int, cards.Seen] = {}
+    lists_objects = state.lists_objects()
     for number, _ in numbers:
         key = number if lists_objects else -state.objects[number].parent
         if key not in known:
@@ -115,18 +121,19 @@ def reasons_of(state, numbers, token, deciding):
     return made
 
 
-def given_of(asked, accounts):
+def given_of(asked: argparse.Namespace, accounts: Accounts) -> List[bytes]:
     """The frames that are made on the copy first."""
     with open(asked.frames, "rb") as opened:
         return frames_of(opened.read(), accounts)
 
 
-def events_of(asked, path, copy, accounts):
+def events_of(asked: argparse.Namespace, path: str, copy: str, accounts: Accounts) -> Optional[List[Event]]:
     """The events that the frames leave, where there are frames and the program tells them."""
     return program.events(path, copy, given_of(asked, accounts)) if asked.frames else None
 
 
-def shots_of(asked, path, copy, token, accounts, tell):
+def shots_of(asked: argparse.Namespace, path: str, copy: str, token: Tuple[tokens.Token, bytes], accounts: Accounts,
+             tell: program.Tell) -> Front:
     """The moments of the frames and of the steps ahead; the frames stay made on `copy`."""
     given = given_of(asked, accounts) if asked.frames else []
     front = Front(path, copy, token, asked.moments, tell)
@@ -141,7 +148,7 @@ def shots_of(asked, path, copy, token, accounts, tell):
     return front
 
 
-def built(asked, place):
+def built(asked: argparse.Namespace, place: str) -> str:
     """The text of the page."""
     tell = program.teller(asked.progress)
     copy = store.copied(asked.store, place)
@@ -157,7 +164,8 @@ def built(asked, place):
     front = shots_of(asked, path, copy, token, accounts, tell) if asked.frames or asked.steps else None
     state = State(copy, known=accounts.directory)
     agreed(path, copy, state)
-    numbers, notes = chosen(state, asked.base), []
+    numbers = chosen(state, asked.base)
+    notes: List[str] = []
     sees = seen_of(path, copy, state, token[1], notes)
     reasons = reasons_of(state, numbers, token[0], deciding)
     copies = program.Copies(path, copy, asked.jobs, tell)
@@ -171,7 +179,7 @@ def built(asked, place):
     return page(whole)
 
 
-def main(arguments):
+def main(arguments: List[str]) -> int:
     """Runs the command; the status."""
     asked = parsed(arguments)
     try:

@@ -2,15 +2,23 @@
 the answer changes, the entry that came last decides. No rule of access stands here."""
 
 from dataclasses import dataclass
-from typing import Tuple
+from typing import Callable, Dict, List, Optional, Sequence, Tuple, Union
 
 from adsd_tools.ask import words
+from adsd_tools.forms.descriptor import ALLOW, DENY
 from adsd_tools.forms.rights import RIGHTS
-from adsd_tools.forms.sids import OWNER_RIGHTS, sid_of_text, text_of_sid
+from adsd_tools.forms.sids import OWNER_RIGHTS, known_sid, text_of_sid
 
 from . import normals
+from .library import Calls
+from .tokens import Token
 
-SELF = sid_of_text("S-1-5-10")
+# What decides: the place of an entry, or a word; and what a list grants, by how many of its first entries.
+By = Union[int, str, None]
+Fronts = Tuple[List[int], List[int]]
+# Who has a right: an identifier, what decides, and whom a denial before it names.
+Other = Tuple[Optional[bytes], By, Tuple[bytes, ...]]
+SELF = known_sid("S-1-5-10")
 ALL = 0x0FFFFFFF
 
 
@@ -19,7 +27,7 @@ class Reason:
     """Whether a right is granted, and by what: the place of an entry from 0 on, "owner", "privilege", or None."""
 
     granted: bool
-    by: object
+    by: By
 
 
 @dataclass(frozen=True)
@@ -28,27 +36,29 @@ class Why:
     entry decides; or the one word "privilege"."""
 
     granted: bool
-    by: Tuple
+    by: Tuple[By, ...]
 
 
-def marker(aces):
-    """What stands behind the first entries of a list where some entry is for owner rights: one for them without rights,
+def marker(aces: Sequence[normals.Ace]) -> Tuple[bytes, ...]:
+    """What stands after the first entries of a list where some entry is for owner rights: one for them without rights,
     so that an owner has of the first entries what they have of all."""
     return tuple(normals.entry(0, OWNER_RIGHTS) for ace in aces if ace.sid == OWNER_RIGHTS and not ace.is_inherit_only)[:1]
 
 
-def fronts(granted, parts, aces, sid):
-    """The rights that the first entries grant, from none to all of them; and those that they leave to an entry behind them
+def fronts(granted: Callable[[bytes], int], parts: normals.Parts, aces: Sequence[normals.Ace], sid: bytes) -> Fronts:
+    """The rights that the first entries grant, from none to all of them; and those that they leave to an entry after them
     that allows the identifier everything. `granted` asks the library for a descriptor in normal bytes."""
-    behind, probe, has, may = marker(aces), (normals.entry(normals.ALLOW_ALL, sid),), [], []
+    last, probe = marker(aces), (normals.entry(normals.ALLOW_ALL, sid),)
+    has: List[int] = []
+    may: List[int] = []
     for count in range(len(parts.dacl) + 1):
         first = parts.dacl[:count]
-        has.append(granted(parts.normal(first + behind)))
-        may.append(granted(parts.normal(first + probe + behind)))
+        has.append(granted(parts.normal(first + last)))
+        may.append(granted(parts.normal(first + probe + last)))
     return has, may
 
 
-def reason(has, may, bit):
+def reason(has: Sequence[int], may: Sequence[int], bit: int) -> Reason:
     """What decides on one right."""
     if has[-1] & bit:
         lacking = [place for place, mask in enumerate(has) if not mask & bit]
@@ -60,16 +70,19 @@ def reason(has, may, bit):
 class Deciding:
     """Asks about descriptors in normal bytes, and keeps what was said."""
 
-    def __init__(self, calls):
+    def __init__(self, calls: Calls) -> None:
         self.calls, self.known = calls, normals.Known()
-        self.kept, self.alone, self.held = {}, {}, {}
+        self.kept: Dict[Tuple[bytes, Optional[bytes], Tuple[bytes, bytes], bytes], Fronts] = {}
+        self.alone: Dict[Tuple[bytes, Optional[bytes], bytes, bytes], Fronts] = {}
+        self.held: Dict[Tuple[bytes, Optional[bytes], Tuple[bytes, bytes], bytes, bool], bool] = {}
 
-    def path_in(self, normal, path):
+    def path_in(self, normal: bytes, path: Sequence[bytes]) -> bytes:
         """Of a path what the list names: what else stands on it the list says nothing of."""
         named = {ace.object for ace in self.known.list_of(normal)}
         return b"".join(guid for guid in path if guid in named)
 
-    def of_holder(self, normal, own, holder, path, bit):
+    def of_holder(self, normal: bytes, own: Optional[bytes], holder: Tuple[bytes, bytes], path: Sequence[bytes],
+                  bit: int) -> Reason:
         """What decides for one holder: a pair of the identifier of its user, and a token's bytes."""
         key = normal, own, holder, self.path_in(normal, path)
         if key not in self.kept:
@@ -78,7 +91,7 @@ class Deciding:
                                     self.known.of(normal), self.known.list_of(normal), sid)
         return reason(*self.kept[key], bit)
 
-    def of_one(self, normal, own, sid, path, bit):
+    def of_one(self, normal: bytes, own: Optional[bytes], sid: bytes, path: Sequence[bytes], bit: int) -> Reason:
         """What decides for somebody with this identifier and no other, by the entries that name it."""
         parts, aces, key = self.known.of(normal), self.known.list_of(normal), (normal, own, sid, self.path_in(normal, path))
         places = [place for place, ace in enumerate(aces) if self.whom(ace, parts.owner, own) == sid]
@@ -88,19 +101,19 @@ class Deciding:
         found = reason(*self.alone[key], bit)
         return Reason(found.granted, places[found.by]) if isinstance(found.by, int) else found
 
-    def counts(self, normal, own, holder, ace):
+    def counts(self, normal: bytes, own: Optional[bytes], holder: Tuple[bytes, bytes], ace: normals.Ace) -> bool:
         """Whether an entry for everything in the place of another counts for a holder. Reading properties is asked for,
         which nobody has without an entry."""
         key = normal, own, holder, ace.sid, ace.is_denial
         if key not in self.held:
             sid, data = holder
-            one = normals.entry(normals.ALLOW_ALL, ace.sid, normals.DENY if ace.is_denial else normals.ALLOW)
+            one = normals.entry(normals.ALLOW_ALL, ace.sid, DENY if ace.is_denial else ALLOW)
             probe = self.known.of(normal).normal((one, normals.entry(normals.ALLOW_ALL, sid)) if ace.is_denial else (one,))
             self.held[key] = bool(self.calls.granted(probe, data, own or b"", b"", RIGHTS["RP"])) != ace.is_denial
         return self.held[key]
 
     @staticmethod
-    def whom(ace, owner, own):
+    def whom(ace: normals.Ace, owner: bytes, own: Optional[bytes]) -> Optional[bytes]:
         """The identifier that an entry is for; None for the object itself where it has none."""
         return own if ace.sid == SELF else owner if ace.sid == OWNER_RIGHTS else ace.sid
 
@@ -108,32 +121,38 @@ class Deciding:
 class Checked:
     """What decides on the rights on one object: its descriptor in normal bytes, and its own identifier or None."""
 
-    def __init__(self, deciding, normal, own):
+    def __init__(self, deciding: Deciding, normal: bytes, own: Optional[bytes]) -> None:
         self.deciding, self.normal, self.own = deciding, normal, own
         self.owner = deciding.known.of(normal).owner
 
-    def of_token(self, token, path, bit):
+    def of_token(self, token: Token, path: Sequence[bytes], bit: int) -> Why:
         """Whether a right is granted to a token, and why."""
         found = [self.deciding.of_holder(self.normal, self.own, holder, path, bit) for holder in token.holders]
         refusing = [one for one in found if not one.granted]
-        by = tuple(one.by + 1 if isinstance(one.by, int) else one.by for one in refusing or found)
+        by: Tuple[By, ...] = tuple(one.by + 1 if isinstance(one.by, int) else one.by for one in refusing or found)
         return Why(not refusing, ("privilege",) if "privilege" in by else by)
 
-    def held(self, place, token):
+    def held(self, place: int, token: Token) -> List[bool]:
         """For each holder of a token whether it holds whom an entry is for: by the library's answer to a list with an entry
         for the same alone, which allows one right or denies it. It counts where the right comes or goes."""
         ace = self.deciding.known.list_of(self.normal)[place]
         return [self.deciding.counts(self.normal, self.own, holder, ace) for holder in token.holders]
 
-    def others(self, path, bit):
+    def others(self, path: Sequence[bytes], bit: int) -> List[Other]:
         """Who has a right: for each identifier that the list allows it, the place of the entry, and the identifiers
-        that a denial in front of it names, which take the right from who also holds one of them. The object itself
+        that a denial before it names, which take the right from who also holds one of them. The object itself
         stays S-1-5-10, and doesn't stand there where it has no identifier. To write the owner, last come those with the
         privilege, with None for an identifier."""
-        aces, owned, found, denied, made = self.deciding.known.list_of(self.normal), [], [], [], []
+        aces = self.deciding.known.list_of(self.normal)
+        owned: List[Other] = []
+        found: List[Tuple[int, bool, bytes]] = []
+        denied: List[bytes] = []
+        made: List[Other] = []
         sids = dict.fromkeys([self.owner, *(self.deciding.whom(ace, self.owner, self.own) for ace in aces)])
         for sid in sids:
-            one = self.deciding.of_one(self.normal, self.own, sid, path, bit) if sid is not None else Reason(False, None)
+            if sid is None:
+                continue
+            one = self.deciding.of_one(self.normal, self.own, sid, path, bit)
             if one.by == "owner":
                 owned.append((sid, "owner", ()))
             elif isinstance(one.by, int):
@@ -143,4 +162,5 @@ class Checked:
                 made.append((sid, place + 1, tuple(denied)))
             else:
                 denied.append(sid)
-        return owned + made + ([(None, "privilege", ())] if bit == RIGHTS["WO"] else [])
+        last: List[Other] = [(None, "privilege", ())] if bit == RIGHTS["WO"] else []
+        return owned + made + last

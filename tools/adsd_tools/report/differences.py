@@ -1,7 +1,11 @@
 """Which rights came to a token and which went: between two moments, and from the first moment to the last."""
 
-from adsd_tools.forms.rights import RIGHTS
+from typing import AbstractSet, Dict, Iterable, List, Protocol, Sequence, Set, Tuple
 
+from adsd_tools.forms.rights import RIGHTS
+from adsd_tools.rows.schema import Schema
+
+from .effective import Pair, Right, Rights
 from .harms import HARMS, RANK, dangerous
 
 ORDER = ("object", "attribute", "set", "right", "validated", "child")
@@ -9,32 +13,39 @@ ONE = {"attribute": "attribute", "set": "property set", "right": "extended right
        "child": "children of class"}
 
 
-def total(shots):
+class Shot(Protocol):
+    """A moment, of which alone is asked which rights the token had and has."""
+
+    rights: Dict[int, Pair]
+
+
+def total(shots: Iterable[Shot]) -> Dict[int, Pair]:
     """What a token had at the first moment and has at the last, by object, where that isn't the same."""
-    made = {}
+    made: Dict[int, Pair] = {}
     for shot in shots:
         for number, (before, after) in shot.rights.items():
-            made[number] = made.get(number, (before,))[0], after
+            made[number] = made.get(number, (before, after))[0], after
     return {number: pair for number, pair in made.items() if pair[0] != pair[1]}
 
 
-def changed(pair):
+def changed(pair: Pair) -> Pair:
     """What came and what went of a pair of then and now."""
     before, after = pair
     return after - before, before - after
 
 
-def alike(pairs):
+def alike(pairs: Dict[int, Pair]) -> List[Tuple[Rights, Rights, List[int]]]:
     """The objects of which the same came and went: triples of what came, what went, and their numbers."""
-    made = {}
+    made: Dict[Pair, List[int]] = {}
     for number, pair in pairs.items():
         made.setdefault(changed(pair), []).append(number)
     return [(came, went, numbers) for (came, went), numbers in made.items()]
 
 
-def phrases(rights):
+def phrases(rights: Iterable[Right]) -> List[Tuple[List[str], Dict[str, Tuple[str, ...]]]]:
     """Rights as pairs of codes and of what these are on, names by kind: codes on the same stand together."""
-    on, same = {}, {}
+    on: Dict[str, Dict[str, List[str]]] = {}
+    same: Dict[Tuple[Tuple[str, Tuple[str, ...]], ...], List[str]] = {}
     for kind, name, code in sorted(rights, key=lambda right: (ORDER.index(right[0]), right[1].lower(), right[1])):
         on.setdefault(code, {}).setdefault(kind, []).append(name)
     for code in RIGHTS:
@@ -43,14 +54,14 @@ def phrases(rights):
     return [(codes, dict(key)) for key, codes in same.items()]
 
 
-def several(kind, count):
+def several(kind: str, count: int) -> str:
     """So many things of a kind, in words."""
     if count == 1:
         return ONE[kind]
     return f"children of {count} classes" if kind == "child" else f"{count} {ONE[kind]}s"
 
 
-def short(codes, targets):
+def short(codes: Sequence[str], targets: Dict[str, Tuple[str, ...]]) -> str:
     """A phrase in few words, as a picture has room for: names where they are few, else how many there are."""
     told = []
     for kind, names in targets.items():
@@ -66,15 +77,16 @@ def short(codes, targets):
 class Dangers:
     """What of the differences is dangerous."""
 
-    def __init__(self, schema, protected):
-        self.schema, self.protected, self.known = schema, protected, {}
+    def __init__(self, schema: Schema, protected: AbstractSet[int]) -> None:
+        self.schema, self.protected = schema, protected
+        self.known: Dict[Rights, AbstractSet[Tuple[Right, str]]] = {}
 
-    def words(self, rights):
+    def words(self, rights: Rights) -> AbstractSet[Tuple[Right, str]]:
         if rights not in self.known:
             self.known[rights] = frozenset(dangerous(rights, self.schema).items())
         return self.known[rights]
 
-    def ranks(self, number, pair):
+    def ranks(self, number: int, pair: Pair) -> List[Set[int]]:
         """The ranks of what came to an object that is dangerous, and of what went."""
         before, after = map(self.words, pair)
         made = []
@@ -85,7 +97,7 @@ class Dangers:
             made.append({RANK[word] for word in words})
         return made
 
-    def worst(self, numbers, pairs):
-        """The rank of the worst that came or went on some objects; behind the last where there is none."""
+    def worst(self, numbers: Iterable[int], pairs: Dict[int, Pair]) -> int:
+        """The rank of the worst that came or went on some objects; after the last where there is none."""
         return min((rank for number in numbers for ranks in self.ranks(number, pairs[number]) for rank in ranks),
                    default=len(HARMS))

@@ -1,20 +1,27 @@
-"""The front of a propagation: what is stale and what is pending behind each piece of a stream of frames."""
+"""The front of a propagation: what is stale and what is pending after each piece of a stream of frames."""
 
 import os
 import struct
 from dataclasses import dataclass, field
-from typing import Dict, FrozenSet, List, Set, Tuple
+from typing import Dict, FrozenSet, Iterable, List, Optional, Set, Tuple, Union
 
 from adsd_tools.ask import requests
+from adsd_tools.rows.accounts import Accounts
 from adsd_tools.rows.store import SLOTS
 
-from .effective import rights_of
+from .effective import Pair, Rights, rights_of
 from .html import plural
-from .program import Serving, answered, asked, copy_slots
+from .program import Serving, Tell, answered, asked, copy_slots
 from .state import State
+from .tokens import Token
 
 TOKEN, MESSAGE, STEPS, RUN = 1, 2, 3, 4
 WORDS = {0x66: "modify", 0x68: "add", 0x4A: "delete", 0x6C: "rename"}
+
+
+# What decides on the rights of a token at an object: its class, its descriptor, whether it has an identifier, and what of
+# that counts for the token.
+Key = Tuple[int, bytes, bool, FrozenSet[int]]
 
 
 class BadFrames(Exception):
@@ -29,21 +36,22 @@ class Snapshot:
     label: str
     state: State
     changed: Set[int] = field(default_factory=set)
-    rights: Dict[int, Tuple[FrozenSet, FrozenSet]] = field(default_factory=dict)
+    rights: Dict[int, Pair] = field(default_factory=dict)
 
-    def over(self, other):
+    def over(self, other: "Snapshot") -> None:
         """Takes in what changed at the moment before, which isn't shown."""
         self.changed |= other.changed
         for number, (before, after) in other.rights.items():
             self.rights[number] = before, self.rights.get(number, (before, after))[1]
 
 
-def frames_of(data, accounts):
+def frames_of(data: bytes, accounts: Accounts) -> List[bytes]:
     """The frames of some bytes: frames as they are, or lines of text as `adsd-ask frames` takes them, which may name
     accounts."""
     if data[:1] not in (b"\1", b"\2", b"\3", b"\4"):
         return list(requests.frames(requests.lines_of(data), accounts))
-    made, at = [], 0
+    made: List[bytes] = []
+    at = 0
     while at < len(data):
         size = 7 + struct.unpack_from(">I", data, at + 3)[0] if at + 7 <= len(data) else len(data) + 1
         if at + size > len(data) or data[at] > RUN or not data[at]:
@@ -53,7 +61,7 @@ def frames_of(data, accounts):
     return made
 
 
-def label_of(number, frame, body):
+def label_of(number: int, frame: bytes, body: bytes) -> str:
     """What a frame was, in words, with what its answer told."""
     kind, inner = frame[0], frame[7:]
     if kind in (STEPS, RUN):
@@ -66,19 +74,20 @@ def label_of(number, frame, body):
 
 
 class Front:
-    """Serves frames on a copy and keeps a snapshot behind each that moved the front."""
+    """Serves frames on a copy and keeps a snapshot after each that moved the front."""
 
-    def __init__(self, path, store, token, most, tell):
+    def __init__(self, path: str, store: str, token: Tuple[Token, bytes], most: int, tell: Tell) -> None:
         """`token` is a pair: the token as words gave it, and its bytes."""
         self.path, self.store, self.token, self.most, self.tell = path, store, token, most, tell
         self.shots: List[Snapshot] = []
-        self.known, self.left_out = {}, 0
+        self.known: Dict[Key, Rights] = {}
+        self.left_out = 0
 
-    def stamp(self):
+    def stamp(self) -> List[Tuple[int, int]]:
         found = [os.stat(self.store + slot) for slot in SLOTS if os.path.exists(self.store + slot)]
         return [(one.st_mtime_ns, one.st_size) for one in found]
 
-    def shot(self, label, always):
+    def shot(self, label: str, always: bool) -> None:
         """Keeps a snapshot of the store as it stands, where something of the front moved."""
         before = self.shots[-1] if self.shots else None
         state = State(self.store, before.state if before else None)
@@ -95,24 +104,24 @@ class Front:
         copy_slots(self.store, self.store + ".before")
         self.tell(f"{len(self.shots) + self.left_out} moments, {len(state.queue)} pending")
 
-    def gained(self, before, state, changed):
+    def gained(self, before: Optional[Snapshot], state: State, changed: Set[int]) -> Dict[int, Pair]:
         """What the token had and has now on the changed objects, as the program says of a copy of then and of now."""
-        made = {}
-        if not changed:
+        made: Dict[int, Pair] = {}
+        if before is None or not changed:
             return made
         copy_slots(self.store, self.store + ".now")
         for number in sorted(changed & before.state.objects.keys()):
             made[number] = (self.rights(before.state, number, ".before"), self.rights(state, number, ".now"))
         return made
 
-    def rights(self, state, number, copy):
+    def rights(self, state: State, number: int, copy: str) -> Rights:
         key = key_of(state, number, self.token[0])
         if key not in self.known:
-            words = [self.path, "effective", self.store + copy, state.names[number]]
+            words: List[Union[str, bytes]] = [self.path, "effective", self.store + copy, state.names[number]]
             self.known[key] = answered(rights_of, asked(words, self.token[1]))
         return self.known[key]
 
-    def serve(self, frames):
+    def serve(self, frames: Iterable[bytes]) -> None:
         """Serves the frames, with a moment at the start."""
         self.shot("at the start", True)
         serving = Serving(self.path, self.store)
@@ -125,7 +134,7 @@ class Front:
         finally:
             serving.close()
 
-    def ahead(self, steps):
+    def ahead(self, steps: int) -> None:
         """Makes so many steps at a time until nothing is pending."""
         made, serving = 0, Serving(self.path, self.store)
         try:
@@ -137,15 +146,15 @@ class Front:
             serving.close()
 
 
-def touched(shots):
+def touched(shots: Iterable[Snapshot]) -> Set[int]:
     """The objects that are stale, pending or changed at some moment."""
-    made = set()
+    made: Set[int] = set()
     for shot in shots:
         made |= shot.changed | shot.state.stale | {parent for parent, _ in shot.state.queue}
     return made
 
 
-def key_of(state, number, token):
+def key_of(state: State, number: int, token: Token) -> Key:
     """What decides on the rights of a token at an object: two objects with one key give it the same."""
     own = state.own_sid(number)
     return state.objects[number].of_class, state.objects[number].normal, own is not None, token.answers_to(own)

@@ -2,11 +2,18 @@
 what is granted is said by `effective`, who owns an object by `list`, who is protected by a protection run on a copy."""
 
 from dataclasses import dataclass
-from typing import Dict, List, Tuple
+from typing import AbstractSet, Dict, Iterable, List, Optional, Tuple
 
 from adsd_tools.forms.sids import guid_of_text, text_of_sid
+from adsd_tools.rows.schema import Schema
 
-from .effective import KINDS, ON_OBJECT
+from .cards import Card
+from .deciding import By
+from .effective import KINDS, ON_OBJECT, Right
+from .tokens import Token
+
+# What decides a right, by each holder; None where it isn't known.
+Decides = Optional[Tuple[By, ...]]
 
 
 @dataclass(frozen=True)
@@ -21,7 +28,7 @@ class Harm:
 # The worst first.
 HARMS = (
     Harm("owner", "owns the object", "so it may write the list, and grant itself every right"),
-    Harm("list", "writes the list (WD)", "so it may grant itself every right"),
+    Harm("list", "writes the DACL (WD)", "so it may grant itself every right"),
     Harm("take", "writes the owner (WO)", "so it may own the object, and then write the list"),
     Harm("all", "has all rights (GA)", "each right on the object as a whole"),
     Harm("secrets", "replicates secrets", "so it gets the passwords of all accounts"),
@@ -44,9 +51,9 @@ SCRIPTS = {"serviceprincipalname", "scriptpath", "msds-keycredentiallink", "msds
            "gpcmachineextensionnames", "gpcuserextensionnames", "msts-initialprogram"}
 
 
-def harm_of(right, schema):
-    """The word of the rank of one right, a triple of kind, name and code; None where it isn't dangerous by itself.
-    `members` stands for every group here, and `confidential` for control access alone."""
+def harm_of(right: Right, schema: Schema) -> Optional[str]:
+    """The word of the rank of one right; None where it isn't dangerous by itself. `members` is of every group here, and
+    `confidential` of control access alone."""
     kind, name, code = right
     if kind == "object":
         return {"WD": "list", "WO": "take"}.get(code)
@@ -60,11 +67,11 @@ def harm_of(right, schema):
     return None
 
 
-def dangerous(rights, schema):
+def dangerous(rights: Iterable[Right], schema: Schema) -> Dict[Right, str]:
     """Those of some rights that are dangerous together, each with the word of its rank."""
     made = {right: harm_of(right, schema) for right in rights}
     return {right: word for right, word in made.items()
-            if word and (word != "confidential" or ("attribute", right[1], "RP") in rights)}
+            if word and (word != "confidential" or ("attribute", right[1], "RP") in made)}
 
 
 @dataclass
@@ -73,22 +80,22 @@ class Finding:
 
     harm: Harm
     objects: List[int]
-    rights: List[Tuple[str, str, str]]
-    why: List
+    rights: List[Right]
+    why: List[Decides]
 
 
-def granted_of(card):
+def granted_of(card: Card) -> Dict[Right, Decides]:
     """Each right that is granted on a card, with what decides it."""
-    made: Dict = {}
+    made: Dict[Right, Decides] = {}
     for row in card.rows:
         if row.granted and row.kind != "unread":
             made.update({(row.kind, name, code): row.why for name in row.names or [""] for code in row.codes})
     return made
 
 
-def by_rank(card, token, schema, granted):
+def by_rank(card: Card, token: Token, schema: Schema, granted: Dict[Right, Decides]) -> Dict[str, List[Right]]:
     """The dangerous rights of a card, by the words of their ranks."""
-    made: Dict[str, List] = {}
+    made: Dict[str, List[Right]] = {}
     for right, word in dangerous(granted, schema).items():
         made.setdefault(word, []).append(right)
     owners = [text_of_sid(sid) for sid in (token.user, *token.groups)]
@@ -100,9 +107,10 @@ def by_rank(card, token, schema, granted):
     return made
 
 
-def findings(card, token, schema, protected):
+def findings(card: Card, token: Token, schema: Schema, protected: AbstractSet[int]) -> List[Finding]:
     """The dangers of a card, the worst first. `protected` has the numbers of the objects that are protected."""
-    granted, made = granted_of(card), []
+    granted = granted_of(card)
+    made: List[Finding] = []
     for word, rights in by_rank(card, token, schema, granted).items():
         asked = [("attribute", name, "RP") for _, name, _ in rights] if word == "confidential" else []
         why = list(dict.fromkeys(granted[right] for right in asked + rights))

@@ -8,6 +8,7 @@ import os
 import subprocess
 import sys
 from ctypes import byref, c_uint32
+from typing import Any, List, Optional, Sequence, Tuple
 
 from adsd_tools.run import TOP
 
@@ -20,7 +21,7 @@ class Missing(Exception):
     """There is no library, with why."""
 
 
-def found(place):
+def found(place: str) -> str:
     """The path of the shared library: the one that ADSD_LIBRARY names, the installed one, or that of the release or of
     what was built here, which comes into `place`."""
     given = os.environ.get("ADSD_LIBRARY")
@@ -39,7 +40,7 @@ def found(place):
     return os.path.join(place, "lib", NAME)
 
 
-def open_library(place):
+def open_library(place: str) -> None:
     """Makes the package `adsd` ready to be imported, over the library that is found; `place` is a folder of its own."""
     os.makedirs(place, exist_ok=True)
     os.environ["ADSD_LIBRARY"] = found(place)
@@ -53,13 +54,13 @@ def open_library(place):
 class Calls:
     """The calls over normal bytes. To be made once the library is open."""
 
-    def __init__(self):
+    def __init__(self) -> None:
         from adsd import _library
         self.error, self.answer, self.given = _library.AdsdError, _library.answer, _library.given
         self.normal, self.tree, self.node = (_library.call("adsd_granted_normal"), _library.call("adsd_check_tree"),
                                              _library.TypeNode)
 
-    def granted(self, normal, token, own, path, want):
+    def granted(self, normal: bytes, token: bytes, own: bytes, path: bytes, want: int) -> int:
         """The rights of `want` that a descriptor grants to a token's bytes on a path of GUIDs, joined."""
         mask = c_uint32()
         code = self.normal(normal, len(normal), token, len(token), own, len(own), path, len(path), want, byref(mask))
@@ -67,7 +68,7 @@ class Calls:
             raise self.error(code)
         return mask.value
 
-    def granted_tree(self, sd, token, own, nodes, want):
+    def granted_tree(self, sd: bytes, token: bytes, own: bytes, nodes: Any, want: int) -> List[int]:
         """The rights of `want` at each node of a tree that `nodes` made."""
         masks = (c_uint32 * len(nodes))()
         code = self.tree(sd, len(sd), token, len(token), own, len(own), nodes, len(nodes), want, masks, len(nodes))
@@ -75,30 +76,30 @@ class Calls:
             raise self.error(code)
         return list(masks)
 
-    def nodes(self, pairs):
+    def nodes(self, pairs: Sequence[Tuple[int, bytes]]) -> Any:
         """The nodes of pairs of level and GUID, as `granted_tree` takes them."""
-        made = (self.node * len(pairs))()
+        made: Any = (self.node * len(pairs))()
         for one, (level, guid) in zip(made, pairs):
             one.level, one.guid[:] = level, guid
         return made
 
-    def sd(self, normal):
+    def sd(self, normal: bytes) -> bytes:
         """The self-relative bytes of a descriptor in normal bytes."""
         return self.answer("adsd_sd_from_normal", *self.given(normal), ALL_PARTS)
 
-    def normal_of(self, sd):
+    def normal_of(self, sd: bytes) -> bytes:
         return self.answer("adsd_normal_from_sd", *self.given(sd))
 
-    def inherited(self, parent, own, guid):
+    def inherited(self, parent: bytes, own: bytes, guid: bytes) -> bytes:
         """The self-relative bytes of an object of a class below a parent."""
         return self.answer("adsd_inherit", *self.given(parent, own, guid))
 
-    def explicit(self, sd):
+    def explicit(self, sd: bytes) -> bytes:
         return self.answer("adsd_explicit", *self.given(sd))
 
-    def sddl(self, sd):
+    def sddl(self, sd: bytes) -> str:
         return self.answer("adsd_sd_to_sddl", *self.given(sd)).decode("ascii")
 
-    def of_sddl(self, text, domain):
+    def of_sddl(self, text: str, domain: Optional[bytes]) -> bytes:
         """The self-relative bytes of a text; AdsdError with the place where it goes wrong."""
         return self.answer("adsd_sd_from_sddl", *self.given(text.encode("utf-8", "surrogatepass"), domain or b""))

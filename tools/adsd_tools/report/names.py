@@ -1,8 +1,12 @@
 """What identifiers and rights are called on the page."""
 
+from typing import Dict, List, Optional, Set
+
 from adsd_tools.forms.known import OF_DOMAIN, WELL_KNOWN
-from adsd_tools.forms.sids import below, sid_of_text, text_of_sid
+from adsd_tools.forms.sids import below, known_sid, text_of_sid
 from adsd_tools.shown import brief
+
+from .state import State
 
 CODES = {
     "CC": "create child", "DC": "delete child", "LC": "list children", "SW": "self write", "RP": "read property",
@@ -15,18 +19,19 @@ CODES = {
 class Principals:
     """The identifiers of a directory: which object has one, who belongs to it, and what it is called."""
 
-    def __init__(self, state):
+    def __init__(self, state: State) -> None:
         self.state = state
-        self.of_sid = {}
+        self.of_sid: Dict[bytes, int] = {}
+        self.by_primary: Optional[Dict[Optional[bytes], Set[int]]] = None
         for number in state.objects:
             sid = state.own_sid(number)
             if sid is not None:
                 self.of_sid.setdefault(bytes(sid), number)
         self.domain = state.own_sid(1)
         self.of_domain = {below(self.domain, rid): name for rid, name in OF_DOMAIN.items()} if self.domain else {}
-        self.used = {}
+        self.used: Dict[bytes, None] = {}
 
-    def name(self, sid):
+    def name(self, sid: bytes) -> str:
         """What an identifier is called: the object that has it, or its well-known name; its text where it has none."""
         self.used.setdefault(bytes(sid), None)
         number, text = self.of_sid.get(bytes(sid)), text_of_sid(sid)
@@ -34,12 +39,13 @@ class Principals:
             return brief(self.state.objects[number].naming, 80)
         return WELL_KNOWN.get(text) or self.of_domain.get(bytes(sid)) or text
 
-    def members(self, sid):
+    def members(self, sid: bytes) -> List[int]:
         """The numbers of the objects that belong to an object of this identifier, by member and by primary group."""
         number = self.of_sid.get(bytes(sid))
         if number is None:
             return []
-        made, todo = set(), [number]
+        made: Set[int] = set()
+        todo = [number]
         while todo:
             one = todo.pop()
             found = self.direct(one) - made
@@ -47,16 +53,21 @@ class Principals:
             todo += found
         return sorted(made - {number})
 
-    def direct(self, number):
-        if not hasattr(self, "by_primary"):
-            self.by_primary = {}
-            for one in self.state.objects:
-                value = self.state.value(one, "primaryGroupID")
-                if value is not None and self.domain is not None and value.isdigit():
-                    self.by_primary.setdefault(below(self.domain, int(value)), set()).add(one)
+    def primaries(self) -> Dict[Optional[bytes], Set[int]]:
+        """The objects whose primary group one is, by its identifier."""
+        made: Dict[Optional[bytes], Set[int]] = {}
+        for one in self.state.objects:
+            value = self.state.value(one, "primaryGroupID")
+            if value is not None and self.domain is not None and value.isdigit():
+                made.setdefault(below(self.domain, int(value)), set()).add(one)
+        return made
+
+    def direct(self, number: int) -> Set[int]:
+        if self.by_primary is None:
+            self.by_primary = self.primaries()
         sid = self.state.own_sid(number)
         links = {int.from_bytes(value, "big") for value in self.state.values(number, "member") if len(value) == 4}
         return {one for one in links if one in self.state.objects} | self.by_primary.get(sid, set())
 
 
-SELF = sid_of_text("S-1-5-10")
+SELF = known_sid("S-1-5-10")

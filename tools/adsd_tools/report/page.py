@@ -2,11 +2,13 @@
 
 import base64
 import hashlib
+from typing import Callable, List, Set, Tuple
 
 from adsd_tools.forms.sids import text_of_sid
 
 from . import events
 from .html import facts, plural, table, tag, text
+from .made import Made
 from .moments import Front
 from .result import Result
 from .style import CSS, SCRIPT, WHO
@@ -27,21 +29,17 @@ OTHERS = """Who has it by the list: those whom an entry allows the right, as if 
 Which accounts hold an identifier stands below, as far as the directory knows."""
 
 
-class Made:
-    """What a page is made of."""
-
-    def __init__(self, title, state, token, who, sees, reasons, cards, of, numbers):
-        self.title, self.state, self.token, self.who = title, state, token, who
-        self.sees, self.reasons, self.cards, self.of, self.numbers = sees, reasons, cards, of, numbers
-        self.shots, self.left_out, self.events = [], 0, None
-        self.protected, self.notes, self.how, self.incomplete = set(), [], "", []
+# A part: its name, its head, and what is in it; and what writes it.
+Part = Tuple[str, str, str]
+Write = Callable[[str, str, str], str]
 
 
-def link_to(made):
+def link_to(made: Made) -> Tuple[Callable[[int], str], Set[int]]:
     """A function that names an object, with a link where it stands on the page, and what it was asked to link."""
-    shown, linked = {number for number, _ in made.numbers}, set()
+    shown = {number for number, _ in made.numbers}
+    linked: Set[int] = set()
 
-    def link(number):
+    def link(number: int) -> str:
         name = text(made.state.objects[number].naming, 80)
         if number not in shown:
             return name
@@ -51,7 +49,7 @@ def link_to(made):
     return link, linked
 
 
-def token_facts(made, told):
+def token_facts(made: Made, told: Teller) -> str:
     token = made.token
     words = {1: "security", 2: "take-ownership", 4: "restore"}
     held = [name for bit, name in words.items() if token.privileges & bit]
@@ -68,7 +66,7 @@ def token_facts(made, told):
     return facts(pairs)
 
 
-def numbers(made):
+def numbers(made: Made) -> str:
     counts, here = made.state.counts(), [number for number, _ in made.numbers]
     told = [(f"{len(here):,}", "objects here"), (f"{sum(one in made.sees for one in here):,}", "seen by the token"),
             (f"{sum(bool(made.of[one].writes) for one in here):,}", "with attributes that it writes"),
@@ -77,15 +75,15 @@ def numbers(made):
     return tag("ul", "".join(tag("li", f"<b>{number}</b>{word}") for number, word in told), of="numbers")
 
 
-def section(name, head, body):
+def section(name: str, head: str, body: str) -> str:
     return tag("section", tag("h2", head, id=name) + body, aria_labelledby=name)
 
 
-def folded(name, head, body):
+def folded(name: str, head: str, body: str) -> str:
     return tag("details", tag("summary", tag("h2", head)) + body, of="part", id=name)
 
 
-def body(made):
+def body(made: Made) -> List[Tuple[str, str, str, Write]]:
     """The parts: the result and the differences open, and the rest folded."""
     link, linked = link_to(made)
     told = Teller(made.token, made.who, made.state.schema, link)
@@ -104,22 +102,23 @@ def body(made):
         rest.insert(1, ("events", f"The security log: {plural(len(made.events), 'event')}", events.markup(made.events, told)))
     if told.lists.of_names:
         rest.insert(3, ("names", "Long lists of names", told.lists.markup()))
-    return [(*part, section) for part in first] + [(*part, folded) for part in rest]
+    parts: List[Tuple[List[Part], Write]] = [(first, section), (rest, folded)]
+    return [(*part, write) for some, write in parts for part in some]
 
 
-def identifiers(made, told):
+def identifiers(made: Made, told: Teller) -> str:
     rows = [describe_sid(told, sid) for sid in sorted(made.who.used, key=text_of_sid)]
     return table("", WHO, rows, of="who", aria_label="identifiers")
 
 
-def policy():
+def policy() -> str:
     """What a browser may do with the page: show its own style and run its own script, and nothing else."""
     style, script = (base64.b64encode(hashlib.sha256(part.encode()).digest()).decode() for part in (CSS, SCRIPT))
     return (f"default-src 'none'; style-src 'sha256-{style}'; script-src 'sha256-{script}'; base-uri 'none'; "
             "form-action 'none'")
 
 
-def page(made):
+def page(made: Made) -> str:
     """The text of the page."""
     parts = body(made)
     nav = tag("nav", tag("ul", "".join(tag("li", tag("a", head, href=f"#{name}")) for name, head, _, _ in parts)),

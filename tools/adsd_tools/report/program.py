@@ -7,6 +7,7 @@ import subprocess
 import sys
 import time
 from concurrent.futures import ThreadPoolExecutor
+from typing import IO, Callable, Dict, Iterable, List, Optional, Sequence, Set, Tuple, TypeVar, Union, cast
 
 from adsd_tools import lines
 from adsd_tools.ask import requests
@@ -18,6 +19,8 @@ from adsd_tools.shown import line_of, shown, shown_bytes
 
 # Where the program is installed, and what names it in the repository.
 INSTALLED, WHICH = os.path.join(TOP, "program"), os.path.join(TOP, "tools", "which-program")
+Made = TypeVar("Made")
+Tell = Callable[[str], None]
 SEARCH, ENTRY, DONE, ALL_OF = 0x63, 0x64, 0x65, 0xA0
 SUBTREE = 2
 NO_SUCH_WORDS = 2
@@ -27,7 +30,7 @@ class Failed(Exception):
     """An answer that isn't the one of a sound store, with what was asked."""
 
 
-def program():
+def program() -> str:
     """The path of the program, to be asked on copies: the one that ADSD names, the installed one, or that of the
     repository. A store itself is opened by the launcher alone, which looks at its files."""
     if os.environ.get("ADSD"):
@@ -36,23 +39,23 @@ def program():
         return INSTALLED
     found = subprocess.run([WHICH, "--must"], stdin=subprocess.DEVNULL, stdout=subprocess.PIPE, text=True)
     if found.returncode:
-        raise Failed(f"there is no program: the launcher would end with {found.returncode}")
+        raise Failed("there is no program to run: ./adsd --version says why")
     return found.stdout.rstrip("\n")
 
 
-def asked(words, given=b""):
+def asked(words: Sequence[Union[str, bytes]], given: bytes = b"") -> bytes:
     """What the program says to some words; Failed where its status isn't 0."""
     try:
         done = run(words, given)
     except OSError as fault:
-        raise Failed(f"{words[0]}: {fault.strerror}") from None
+        raise Failed(f"{line_of(words[0])}: {fault.strerror}") from None
     if done.returncode:
         said = line_of(done.stdout)
-        raise Failed(f"adsd {words[1]} ended with {done.returncode}: {said or 'nothing was said'}")
+        raise Failed(f"adsd {line_of(words[1])} ended with {done.returncode}: {said or 'nothing was said'}")
     return done.stdout
 
 
-def answered(reader, said):
+def answered(reader: Callable[[bytes], Made], said: bytes) -> Made:
     """What one of the readers of lines.py makes of an answer; Failed where it isn't of its form."""
     try:
         return reader(said)
@@ -60,12 +63,12 @@ def answered(reader, said):
         raise Failed(str(why)) from None
 
 
-def counts(path, store):
+def counts(path: str, store: str) -> Dict[str, int]:
     """The numbers of `check`, by their words."""
     return answered(lines.check, asked([path, "check", store]))
 
 
-def events(path, store, frames):
+def events(path: str, store: str, frames: Iterable[bytes]) -> Optional[List[lines.Event]]:
     """The events that the frames leave in the security log of a store, or None where the program has no such command."""
     try:
         done = run([path, "audit", store], b"".join(frames), tell=False)
@@ -81,22 +84,23 @@ def events(path, store, frames):
 class Copies:
     """Copies of a copied store, so that the program can be asked several things at once: it locks what it opens."""
 
-    def __init__(self, path, store, count, tell):
-        self.path, self.tell, self.free = path, tell, queue.Queue()
+    def __init__(self, path: str, store: str, count: int, tell: Tell) -> None:
+        self.path, self.tell = path, tell
+        self.free: "queue.Queue[str]" = queue.Queue()
         self.count = count
         for number in range(count):
             made = f"{store}.{number}"
             copy_slots(store, made)
             self.free.put(made)
 
-    def ask(self, word, name, given=b""):
+    def ask(self, word: str, name: bytes, given: bytes = b"") -> bytes:
         store = self.free.get()
         try:
             return asked([self.path, word, store, name], given)
         finally:
             self.free.put(store)
 
-    def all(self, questions):
+    def all(self, questions: Iterable[Tuple[str, bytes, bytes]]) -> List[bytes]:
         """The answers to a list of (word, name, input), in order."""
         made, begun = [], time.time()
         with ThreadPoolExecutor(self.count) as pool:
@@ -108,7 +112,7 @@ class Copies:
         return made
 
 
-def copy_slots(store, made):
+def copy_slots(store: str, made: str) -> None:
     for slot in SLOTS:
         if os.path.exists(store + slot):
             copy(store + slot, made + slot)
@@ -117,43 +121,45 @@ def copy_slots(store, made):
 class Serving:
     """A run of `serve` on a copy: a frame goes in and its answer is waited for, so the slots can be read between."""
 
-    def __init__(self, path, store):
+    def __init__(self, path: str, store: str) -> None:
         words = [path, "serve", store]
         try:
             pipe = subprocess.PIPE
             self.child = subprocess.Popen(words, stdin=pipe, stdout=pipe, stderr=pipe, bufsize=0)
         except OSError as fault:
             raise Failed(f"{path}: {fault.strerror}") from None
-        self.said = hand_on(self.child.stderr)
+        # With pipes asked for, they are there.
+        self.given, self.told = cast(IO[bytes], self.child.stdin), cast(IO[bytes], self.child.stdout)
+        self.said = hand_on(cast(IO[bytes], self.child.stderr))
 
-    def taken(self, size):
+    def taken(self, size: int) -> bytes:
         made = b""
         while len(made) < size:
-            piece = self.child.stdout.read(size - len(made))
+            piece = self.told.read(size - len(made))
             if not piece:
                 raise Failed(f"adsd serve ended with {self.child.wait()}: {line_of(made) or 'no answer'}")
             made += piece
         return made
 
-    def answer(self, frame):
+    def answer(self, frame: bytes) -> Tuple[int, bytes]:
         """The kind and the body of the answer to a frame."""
         try:
-            self.child.stdin.write(frame)
+            self.given.write(frame)
         except OSError:
             raise Failed(f"adsd serve ended with {self.child.wait()}") from None
         head = self.taken(7)
         kind, _, size = struct.unpack(">BHI", head)
         return kind, self.taken(size)
 
-    def close(self):
-        self.child.stdin.close()
-        self.child.stdout.close()
+    def close(self) -> int:
+        self.given.close()
+        self.told.close()
         status = self.child.wait()
         self.said.join(1)
         return status
 
 
-def seen(path, store, token, root):
+def seen(path: str, store: str, token: bytes, root: bytes) -> Tuple[Set[bytes], Optional[int]]:
     """The names that a token sees, by a search of the whole directory whose filter is true of every object."""
     nothing, enumerated = ber.number(0), ber.ENUMERATED
     asked_for = ber.sequence(
@@ -166,7 +172,8 @@ def seen(path, store, token, root):
         _, body = serving.answer(frame)
     finally:
         serving.close()
-    names, code = set(), None
+    names: Set[bytes] = set()
+    code = None
     for _, message in ber.parts(body):
         tag, inner = ber.parts(message)[1]
         if tag == ENTRY:
@@ -176,11 +183,11 @@ def seen(path, store, token, root):
     return names, code
 
 
-def teller(wanted, name="adsd-report"):
+def teller(wanted: bool, name: str = "adsd-report") -> Tell:
     """A function that tells how far the work is, on standard error: where that is a terminal, or it is asked for."""
     last = [0.0]
 
-    def tell(line):
+    def tell(line: str) -> None:
         if (wanted or sys.stderr.isatty()) and time.time() - last[0] > 1:
             last[0] = time.time()
             sys.stderr.write(f"{name}: {shown(line)}\n")

@@ -7,7 +7,7 @@ WHO = ["name", "identifier", "held by the token", "object", "who belongs to it, 
 STACKED = {"may": MAY, "entries": ENTRIES, "who": WHO, "diff": ["", "came", "went", "dangerous"]}
 
 
-def labels():
+def labels() -> str:
     """The rules that put the heads before the cells."""
     return "\n".join(f".{of} tr > :nth-child({place})::before {{ content: \"{head}: \"; }}"
                      for of, heads in STACKED.items() for place, head in enumerate(heads, 1) if head)

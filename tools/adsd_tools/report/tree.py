@@ -1,10 +1,15 @@
 """The tree, folded: each object that has others below it unfolds, and objects that are alike stand together."""
 
+from typing import Dict, List, Optional, Sequence, Set, Tuple
+
 from .html import plural, tag, text, yes_no
+from .made import Made
 from .names import CODES
+from .state import State
+from .told import Teller
 
 
-def rdn(state, number):
+def rdn(state: State, number: int) -> bytes:
     """The first part of an object's name; of the root its whole name."""
     own, name = state.objects[number], state.names[number]
     if number == 1:
@@ -12,7 +17,7 @@ def rdn(state, number):
     return name[: len(name) - len(state.names[own.parent]) - 1]
 
 
-def queue_words(state, number):
+def queue_words(state: State, number: int) -> str:
     """Where an object stands in the pending list, in words; empty where it doesn't."""
     for place, (parent, cursor) in enumerate(state.queue, 1):
         if parent == number:
@@ -23,26 +28,28 @@ def queue_words(state, number):
 
 # So deep things unfold in each other; what is deeper stands flat, by the rest of its name.
 MOST_DEPTH = 24
+# Of objects the number of their card, their marks, and why they are seen.
+Facts = Dict[int, Tuple[int, str, str]]
 
 
 class Tree:
     """Writes the tree. `sees` has the objects that the program shows the token; `cards` has each object's card; those
     in `linked` can be led to."""
 
-    def __init__(self, made, told, linked):
+    def __init__(self, made: Made, told: Teller, linked: Set[int]) -> None:
         self.state, self.sees, self.reasons, self.cards = made.state, made.sees, made.reasons, made.of
         self.told, self.linked, self.protected = told, linked, made.protected
-        self.known = {}
+        self.known: Dict[Tuple[int, bool], str] = {}
         self.queued = {parent for parent, _ in self.state.queue}
 
-    def why_seen(self, number):
+    def why_seen(self, number: int) -> str:
         """Whether the token sees an object, and why."""
         key = id(self.reasons[number]), number in self.sees
         if key not in self.known:
             self.known[key] = self.told_seen(number)
         return self.known[key]
 
-    def told_seen(self, number):
+    def told_seen(self, number: int) -> str:
         granted, word, asked = self.reasons[number]
         seen = yes_no(number in self.sees, "seen", "hidden")
         if granted != (number in self.sees):
@@ -54,7 +61,7 @@ class Tree:
         on = f"{tag('abbr', code, title=CODES[code])} on {'its parent' if whose == 'parent' else 'itself'}"
         return f"{seen}: {on}" + (f": {self.told.reason(card, why.by[0])}" if card is not None else "")
 
-    def marks(self, number):
+    def marks(self, number: int) -> str:
         """What is to be said of an object beside its card."""
         made = [tag("span", "protected", of="mark")] if number in self.protected else []
         made += [tag("span", "≠ stale", of="mark")] if number in self.state.stale else []
@@ -62,7 +69,7 @@ class Tree:
             made.append(tag("span", "▷ " + queue_words(self.state, number), of="mark"))
         return "".join(" " + one for one in made)
 
-    def kind(self, number, marks):
+    def kind(self, number: int, marks: str) -> str:
         """The words by which the script chooses."""
         card = self.cards[number]
         made = ["s" if number in self.sees else "h"]
@@ -70,26 +77,27 @@ class Tree:
         made += ["g"] if {"WD", "WO"} & set(card.codes) else []
         return " ".join(made + (["o"] if "stale" in marks or "pending" in marks else []))
 
-    def about(self, number, marks, seen, usual):
+    def about(self, number: int, marks: str, seen: str, usual: str) -> str:
         """The class, the card and the marks of an object, and why it is seen where that isn't the usual."""
         card = self.cards[number]
         of_class = text(self.state.schema.class_names[self.state.objects[number].of_class])
         link = tag("a", f"{of_class}, card {card.number}", href=f"#c{card.number}")
         return f" {link}{marks}" + ("" if seen == usual else " " + tag("span", seen, of="soft"))
 
-    def own_id(self, number):
+    def own_id(self, number: int) -> Optional[str]:
         return f"o{number}" if number in self.linked else None
 
-    def below(self, number, depth):
+    def below(self, number: int, depth: int) -> Tuple[List[int], List[int]]:
         """The objects below one that stand under it, and those of them that unfold further."""
         if depth < MOST_DEPTH:
             direct = self.state.children[number]
             return direct, [child for child in direct if self.state.children[child]]
         return [one for one, _ in self.state.in_tree_order(number) if one != number], []
 
-    def groups(self, number, members, facts, usual):
+    def groups(self, number: int, members: Sequence[int], facts: Facts, usual: str) -> List[str]:
         """Objects that don't unfold: together where they are alike."""
-        alike, made, above = {}, [], self.state.names[number]
+        alike: Dict[Tuple[int, str, str], List[int]] = {}
+        made, above = [], self.state.names[number]
         for child in members:
             alike.setdefault(facts[child], []).append(child)
         for (_, marks, seen), same in alike.items():
@@ -100,19 +108,19 @@ class Tree:
             made.append(tag("div", body, of="g" if len(same) > 1 else "g one", data_k=self.kind(same[0], marks)))
         return made
 
-    def children(self, number, depth):
+    def children(self, number: int, depth: int) -> str:
         """What is below an object: why it is seen, once where that is the same, and the objects."""
         below, unfold = self.below(number, depth)
         facts = {child: (self.cards[child].number, self.marks(child), self.why_seen(child)) for child in below}
-        count = {}
+        count: Dict[str, int] = {}
         for _, _, seen in facts.values():
             count[seen] = count.get(seen, 0) + 1
-        usual, further = max(count, key=count.get) if count else "", set(unfold)
+        usual, further = max(count, key=lambda seen: count[seen]) if count else "", set(unfold)
         made = [tag("p", "below it: " + usual, of="soft")] if below else []
         made += self.groups(number, [child for child in below if child not in further], facts, usual)
         return "".join(made + [self.object(child, facts[child][1:], usual, depth + 1) for child in unfold])
 
-    def object(self, number, facts, usual, depth):
+    def object(self, number: int, facts: Tuple[str, str], usual: str, depth: int) -> str:
         """An object with what is below it."""
         marks, seen = facts
         head = tag("b", text(rdn(self.state, number) if depth else self.state.names[number], 4000))
@@ -120,7 +128,7 @@ class Tree:
                    self.children(number, depth), id=self.own_id(number), of="t", data_k=self.kind(number, marks),
                    open="" if depth == 0 else None)
 
-    def markup(self, number):
+    def markup(self, number: int) -> str:
         """The tree from one object on."""
         return tag("div", self.object(number, (self.marks(number), self.why_seen(number)), "", 0), id="tree")
 

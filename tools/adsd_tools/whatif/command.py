@@ -4,6 +4,7 @@ import argparse
 import os
 import sys
 import tempfile
+from typing import List, NoReturn
 
 from adsd_tools import incomplete
 from adsd_tools.ask import words
@@ -21,9 +22,9 @@ from .moments import Unanswered, frames, moments
 ABOUT = """Serves frames on a copy of a store and tells who gains and who loses a right by them: before the frames, right
 after them, and once every list is passed down (`adsd settle`). The store stays as it is.
 
-    adsd-whatif corp frames WP:member 'CN=Domain Admins,CN=Users,DC=corp,DC=example'
-    adsd-whatif corp grants.txt --grants --as Administrator
-    adsd-whatif corp changes.ldif --changes --as Administrator --json
+    adsd-whatif corp frames WP:member CN=club,OU=staff,DC=corp,DC=example
+    adsd-whatif corp grants.txt --grants --as ann
+    adsd-whatif corp changes.ldif --changes --as ann --json
     adsd-whatif corp frames --diff
 
 FRAMES is a file of frames, or of lines as `adsd-ask frames` takes them; with --grants of lines of `adsd grants`, with
@@ -44,29 +45,29 @@ STATUSES = """status: 0 written; 1 the store, the frames or a question can't be 
 class Words(argparse.ArgumentParser):
     """The words of the command. A fault is told in one line."""
 
-    def error(self, message):
+    def error(self, message: str) -> NoReturn:
         say(message)
         sys.exit(2)
 
 
-def say(line):
+def say(line: object) -> None:
     sys.stderr.write(f"adsd-whatif: {shown(str(line))}\n")
 
 
-def positive(text):
+def positive(text: str) -> int:
     if not text.isdigit() or not 0 < int(text) <= 1_000_000:
-        raise argparse.ArgumentTypeError(f"{text!r} is no number from 1 to 1000000")
+        raise argparse.ArgumentTypeError(f"{text!r} isn't a number from 1 to 1000000")
     return int(text)
 
 
-def parsed(arguments):
+def parsed(arguments: List[str]) -> argparse.Namespace:
     form = Words(prog="adsd-whatif", description=ABOUT, epilog=STATUSES,
                  formatter_class=argparse.RawDescriptionHelpFormatter)
     form.add_argument("store", metavar="STORE", help="the store, as `adsd` is given it")
-    form.add_argument("frames", metavar="FRAMES", help="what is served on the copy; - is standard input")
-    form.add_argument("asked", nargs="*", metavar="RIGHT NAME", help="a right, and the object that it is asked on")
+    form.add_argument("frames", metavar="FRAMES", help="the requests that are made on the copy; - is standard input")
+    form.add_argument("asked", nargs="*", metavar="RIGHT NAME", help="a right, and the object on which it is asked")
     kind = form.add_mutually_exclusive_group()
-    kind.add_argument("--grants", action="store_true", help="FRAMES has lines of `adsd grants`")
+    kind.add_argument("--grants", action="store_true", help="FRAMES has lines of `adsd grants`, also with names, as of `adsd-ask grants`")
     kind.add_argument("--changes", action="store_true", help="FRAMES has change records, as of `adsd change`")
     form.add_argument("--as", metavar="NAME", dest="as_name",
                       help="serve them with the token that the store gives this account (connection 0)")
@@ -76,14 +77,14 @@ def parsed(arguments):
                       help="without questions: so many kinds of objects are asked about at most (%(default)s)")
     form.add_argument("--every", action="store_true", help="tell the questions in which nothing changes too")
     form.add_argument("--diff", action="store_true", help="tell everyone's gains and losses on all objects, as `adsd diff`")
-    form.add_argument("--json", action="store_true", help="write one document of JSON")
+    form.add_argument("--json", action="store_true", help="write JSON")
     form.add_argument("--jobs", metavar="N", type=positive, default=min(4, os.cpu_count() or 1),
-                      help="how many questions are asked at once (%(default)s)")
+                      help="how many queries run at once (%(default)s)")
     form.add_argument("--progress", action="store_true",
-                      help="tell how far it is, also where standard error is no terminal")
+                      help="show progress, also where standard error is no terminal")
     asked = form.parse_intermixed_args(arguments)
     if len(asked.asked) % 2:
-        form.error("a RIGHT wants a NAME behind it")
+        form.error("a RIGHT needs a NAME after it")
     if asked.diff and (asked.asked or asked.all or asked.each or asked.every):
         form.error("--diff tells of all rights and objects: it takes no RIGHT NAME, --all, --each or --every")
     if (asked.grants or asked.changes) and asked.as_name is None:
@@ -91,7 +92,7 @@ def parsed(arguments):
     return asked
 
 
-def given(asked):
+def given(asked: argparse.Namespace) -> bytes:
     """The bytes of FRAMES."""
     if asked.frames == "-":
         return sys.stdin.buffer.read()
@@ -99,7 +100,7 @@ def given(asked):
         return opened.read()
 
 
-def built(asked, place):
+def built(asked: argparse.Namespace, place: str) -> str:
     """The text that is written."""
     tell = program.teller(asked.progress, "adsd-whatif")
     data = given(asked)
@@ -128,7 +129,7 @@ def built(asked, place):
     return "\n".join(told.lines(made, found, left_out, notes, asked.every)) + "\n"
 
 
-def main(arguments):
+def main(arguments: List[str]) -> int:
     """Runs the command; the status."""
     asked = parsed(arguments)
     try:

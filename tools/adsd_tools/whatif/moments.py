@@ -1,15 +1,17 @@
 """The three moments of a store: before the frames, after them, and once every list is passed down. Each is a copy."""
 
+import argparse
 import struct
 from dataclasses import dataclass, field
-from typing import Dict, List, Tuple
+from typing import Dict, List, Sequence, Tuple
 
 from adsd_tools import lines as adsd_lines
-from adsd_tools.ask import answers, requests, tokens
+from adsd_tools.ask import answers, named, requests, tokens
 from adsd_tools.forms.sids import text_of_sid
 from adsd_tools.report import program
 from adsd_tools.report.front import frames_of
 from adsd_tools.report.tokens import user_of
+from adsd_tools.rows.accounts import Accounts
 from adsd_tools.run import run
 from adsd_tools.shown import line_of
 
@@ -38,7 +40,7 @@ class Moments:
     incomplete: List[str] = field(default_factory=list)
 
 
-def made_by(path, words, given):
+def made_by(path: str, words: Sequence[str], given: bytes) -> bytes:
     """The frames that a command of the program makes of lines."""
     done = run([path, *words], given)
     if done.returncode:
@@ -47,9 +49,10 @@ def made_by(path, words, given):
     return done.stdout
 
 
-def split(data):
+def split(data: bytes) -> List[bytes]:
     """The frames, or answers, of some bytes."""
-    made, at = [], 0
+    made: List[bytes] = []
+    at = 0
     while at + HEAD.size <= len(data):
         end = at + HEAD.size + HEAD.unpack_from(data, at)[2]
         made.append(data[at:end])
@@ -57,11 +60,12 @@ def split(data):
     return made
 
 
-def frames(asked, path, copy, given, accounts):
+def frames(asked: argparse.Namespace, path: str, copy: str, given: bytes, accounts: Accounts) -> List[bytes]:
     """The frames that are served: with `--as` a token for connection 0 goes first."""
-    if asked.grants or asked.changes:
-        words = ["grants", copy] if asked.grants else ["change"]
-        made = split(made_by(path, words, given))
+    if asked.grants:
+        made = split(made_by(path, ["grants", copy], named.grant_lines(given, accounts)))
+    elif asked.changes:
+        made = split(made_by(path, ["change"], given))
     else:
         made = frames_of(given, accounts)
     if asked.as_name is not None:
@@ -70,20 +74,20 @@ def frames(asked, path, copy, given, accounts):
     return made
 
 
-def result(answer):
+def result(answer: bytes) -> str:
     """The line that tells an answer: of a message that of its result."""
     kind, connection, _ = HEAD.unpack_from(answer)
     told = [line for line in answers.frame_lines(kind, connection, answer[HEAD.size :]) if line.startswith("# ")]
     return told[-1][2:] if told else "no result"
 
 
-def refused(line):
+def refused(line: str) -> bool:
     """Whether a result's line tells a refusal."""
     word, _, rest = line.partition(": ")
     return word in answers.OPERATIONS.values() and rest.split(" ")[0] not in GOOD
 
 
-def served(path, store, given):
+def served(path: str, store: str, given: Sequence[bytes]) -> List[str]:
     """Serves frames on a copy; the line of each answer."""
     done = run([path, "serve", store], b"".join(given))
     lines = [result(answer) for answer in split(done.stdout)]
@@ -92,7 +96,7 @@ def served(path, store, given):
     return lines
 
 
-def moments(path, copy, given):
+def moments(path: str, copy: str, given: Sequence[bytes]) -> Moments:
     """The moments of some frames, each a copy of its own; `copy` stays as it is. Where nothing is pending after them,
     the last moment is that after them."""
     after, settled = copy + ".after", copy + ".settled"

@@ -1,18 +1,26 @@
 """What is printed: lines, each a word, a blank and a value, as the program's own; or one document of JSON."""
 
+from typing import Any, Dict, Iterator, List, Optional, Sequence, Tuple
+
 from adsd_tools.shown import json_of, shown
 
-from .answers import MOMENTS, changes
+from .answers import MOMENTS, Change, changes
+from .moments import Moments
+from .questions import Question
+
+# What blocks have in common: name, first name, how many are alike, why there is no answer, who changes, how many keep.
+Key = Tuple[str, str, int, Tuple[Tuple[str, str], ...], Tuple[Change, ...], int]
 
 
-def plural(count, one, many=None):
+def plural(count: int, one: str, many: Optional[str] = None) -> str:
     return f"{count} {one if count == 1 else many or one + 's'}"
 
 
-def blocks(questions, every):
+def blocks(questions: Sequence[Question], every: bool) -> Tuple[Dict[Key, List[str]], int]:
     """What is told: questions of one object whose answers change alike stand together. Those without a change are left
     out unless they are the words' own, or `every`; how many these are."""
-    made, quiet = {}, 0
+    made: Dict[Key, List[str]] = {}
+    quiet = 0
     for question in questions:
         found, keep = changes(question)
         why = tuple((word, question.answers[word].why_not) for word in MOMENTS if question.answers[word].why_not)
@@ -24,7 +32,7 @@ def blocks(questions, every):
     return made, quiet
 
 
-def head(moments, quiet, left_out, notes):
+def head(moments: Moments, quiet: int, left_out: int, notes: Sequence[str]) -> Iterator[str]:
     """The lines before the blocks."""
     yield from moments.incomplete
     yield f"# {plural(moments.count, 'frame')}, {len(moments.answered)} refused"
@@ -41,7 +49,7 @@ def head(moments, quiet, left_out, notes):
         yield f"# {plural(left_out, 'more kind')} of objects not asked about: --kinds N asks about more"
 
 
-def lines(moments, questions, left_out, notes, every):
+def lines(moments: Moments, questions: Sequence[Question], left_out: int, notes: Sequence[str], every: bool) -> Iterator[str]:
     """All lines of the answer."""
     made, quiet = blocks(questions, every)
     yield from head(moments, quiet, left_out, notes)
@@ -60,16 +68,17 @@ def lines(moments, questions, left_out, notes, every):
         yield f"keep {keep}"
 
 
-def counts_of(moments):
+def counts_of(moments: Moments) -> Dict[str, Any]:
     """What JSON says of the frames and of what was pending after them."""
     first = {"incomplete": moments.incomplete} if moments.incomplete else {}
     return {**first, "frames": {"count": moments.count, "refused": [{"frame": number, "result": line} for number, line in moments.answered]},
             "after": {"pending": moments.pending, "stale": moments.stale, "stepsToSettle": moments.steps}}
 
 
-def document(moments, questions, left_out, notes, every):
+def document(moments: Moments, questions: Sequence[Question], left_out: int, notes: Sequence[str], every: bool) -> str:
     """The same as JSON: `null` where a right isn't granted, else what decides."""
-    told, quiet = [], 0
+    told: List[Dict[str, Any]] = []
+    quiet = 0
     for question in questions:
         found, keep = changes(question)
         if not found and not question.own and not every:

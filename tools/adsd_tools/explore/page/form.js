@@ -94,7 +94,7 @@ export async function entryForm({n, label, old, done}) {
     asked.hidden = true;
     if (object && own.value.trim()) return done(object, own.value.trim());
     asked.hidden = false;
-    asked.textContent = object ? "Say who, or write the entry." : "Say at which object.";
+    asked.textContent = object ? "Name the account, or write the entry." : "Name the object.";
   }
 
   await fill();
@@ -113,7 +113,7 @@ export async function entryForm({n, label, old, done}) {
         },
         "the entry as SDDL, which may be written by hand"),
       own),
-    asked, el("button", { type: "submit" }, old ? "Try it in its place" : "Try this entry"));
+    asked, el("button", { type: "submit" }, old ? "Try it instead" : "Try this entry"));
 }
 
 // The form of a whole list as text.

@@ -33,7 +33,7 @@ async function route() {
   try {
     made = await view(...words);
   } catch (why) {
-    made = { title: "That can't be told", inside: [ el("h1", {}, "That can't be told"), error(why) ] };
+    made = { title: "Unknown", inside: [ el("h1", {}, "Unknown"), error(why) ] };
   }
   if (own !== turn) return;
   document.title = shown(made.title) + " \u2013 adsd-explore";

@@ -14,7 +14,7 @@ function path(one) {
 
 // The dangerous rights on an object by rank, each with who has it and a link to by what.
 export function dangers(one) {
-  if (!one.dangers.length) return el("p", {}, "No account of this store has any of the dangerous rights on it.");
+  if (!one.dangers.length) return el("p", {}, "No account in this store has a dangerous right on it.");
   return el("ul", { class: "ranks" },
     one.dangers.map(
       (row) => el("li", {}, el("b", {}, number(row.count)),
@@ -46,7 +46,7 @@ function entries(one, list) {
                el("p", { class: "small" },
                  own.inherited ? (own.from ? [ "inherited from ", objectLink(own.from) ]
                                            : el("span", { class: "mark stale" },
-                                               "inherited, and nothing above passes it down now"))
+                                               "inherited, but no parent passes it down any more"))
                                : "its own",
                  own.note ? " \u00b7 " + own.note : "", own.text ? [ " \u00b7 ", el("code", {}, own.text) ] : ""),
                !own.inherited && own.text && buttons(one, own))));
@@ -78,7 +78,7 @@ export async function objectView(n) {
                             joined(one.members.first.slice(0, 12).map((member) => objectLink(member)), ", "),
                             one.members.count > 12 ? " .." : "")
                         : null,
-      el("section", { "aria-labelledby": "dangers" }, el("h2", { id: "dangers" }, "Who is dangerous here"),
+      el("section", { "aria-labelledby": "dangers" }, el("h2", { id: "dangers" }, "Who can take control of this object"),
         dangers(one)),
       el("section", { "aria-labelledby": "ask" }, el("h2", { id: "ask" }, "Who can .."), await whoForm(one)),
       el("section", { "aria-labelledby": "list" }, el("h2", { id: "list" }, "Its list, in words"),
@@ -93,7 +93,7 @@ export async function objectView(n) {
           el("a", { class: "button", href: "#/try/add/" + one.n }, "Try another entry here"),
           el("button",
             { type: "button", onclick: () => tryOut({ op: "protect", n: one.n, on: !one.protected, label }) },
-            one.protected ? "Try to let it inherit" : "Try to protect it")),
+            one.protected ? "Try to allow inheritance" : "Try to block inheritance")),
         one.system.length
           ? el("details", {}, el("summary", {}, "System list: " + plural(one.system.length, "entry", "entries")),
               entries(one, one.system))

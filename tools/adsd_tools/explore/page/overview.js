@@ -1,6 +1,7 @@
 // What stands out in the whole directory, before anything is asked.
 
 import {ask, el, joined, number, plural} from "./dom.js";
+import {targets} from "./targets.js";
 import {at, objectLink, people, principalLink, rank} from "./words.js";
 
 function fact(count, word) { return el("li", {}, el("b", {}, number(count)), word); }
@@ -51,20 +52,14 @@ function many(told) {
 export async function overview() {
   const told = await ask("start"), all = told.everybody;
   const [found, everybody] = await Promise.all([ ask("exposed"), ask("principal", { sid: all.sid }) ]);
-  const worst = found.rows[0], open = everybody.ranks[0];
-  const lead = worst
-    ? el("p", { class: "lead" },
-        "Accounts that are no administrators have dangerous rights on what rules the domain: ",
-        plural(found.count, "way"), " in. The worst: ", people(worst.first.slice(0, 1), worst.accounts), " ",
-        worst.key === "owner" ? "owns" : worst.title + " on", " ", objectLink(worst), ".")
-    : el("p", { class: "lead" }, "Nobody but administrators has a dangerous right on ",
-        plural(told.protected, "protected object"), " and what else rules the domain.");
+  const open = everybody.ranks[0];
   return { title: "Overview", inside: [
-    el("h1", {}, "Rights in ", el("bdi", {}, told.root.name)), lead,
+    el("h1", {}, "Rights in ", el("bdi", {}, told.root.name)),
+    el("section", { "aria-labelledby": "targets" }, el("h2", { id: "targets" }, "Who may take over, by target"), targets()),
     el("ul", { class: "facts" }, fact(told.objects, "objects"), fact(told.accounts, "accounts"),
       fact(told.protected, "protected"),
       fact(told.stale, "stale"), fact(told.pending, "pending")),
-    el("h2", {}, "Ways to what rules the domain"), exposed(found),
+    el("h2", {}, "Dangerous rights on what rules the domain"), exposed(found),
     el("h2", {}, "Rights on many objects"), many(found.many),
     el("h2", {}, "What everybody may do who has an account"),
     el("p", {}, "Whoever is in ", principalLink(all), ", and in no other group:"),

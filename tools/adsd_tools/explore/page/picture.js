@@ -69,7 +69,7 @@ export function inWords(told) {
 
 const LEGEND = [
   [ { pending: true }, "pending: its list is another one, and children are still to be gone over" ],
-  [ { stale: true }, "stale: what comes from above hasn't reached it" ], [ { changed: true }, "changed, and done" ],
+  [ { stale: true }, "stale: what comes from above hasn't reached it" ], [ { changed: true }, "changed, and finished" ],
   [ {}, "as it was" ]
 ];
 

@@ -93,7 +93,7 @@ export async function canView(sid, n) {
       el("h1", {}, "What ", principalLink(told.who), " may do to ", objectLink(told)),
       told.ranks.length
         ? el("p", { class: "lead" }, "Dangerous: it ", joined(told.ranks.map((row) => row.title), ", it "), ".")
-        : el("p", { class: "lead" }, "Nothing of it is dangerous."),
+        : el("p", { class: "lead" }, "None of it is dangerous."),
       rows.length
         ? el("table", {}, el("caption", {}, "All that is granted, and what decides"),
             el("thead", {}, el("tr", {}, [ "on", "rights", "by" ].map((head) => el("th", { scope: "col" }, head)))),

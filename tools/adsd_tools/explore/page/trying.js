@@ -10,14 +10,14 @@ import {error, objectLink, people, principalLink} from "./words.js";
 
 const DOES = {
   add: "add an entry",
-  edit: "put an entry in the place of another",
-  remove: "take an entry away",
-  revoke: "take away all entries of one",
+  edit: "replace an entry",
+  remove: "remove an entry",
+  revoke: "remove all entries of an account",
   list: "replace the list",
-  protect: "protect it, or let it inherit",
-  owner: "give it another owner",
+  protect: "block or allow inheritance",
+  owner: "change the owner",
   run: "a protection run",
-  settle: "pass on all that is pending"
+  settle: "propagate all that is pending"
 };
 
 function change(one, at, told) {
@@ -70,7 +70,7 @@ function makers() {
       redo();
     }
   },
-    "Pass on all first");
+    "Propagate everything first");
   const clear = el("button", {
     type: "button",
     onclick: () => {
@@ -90,7 +90,7 @@ function gainsTable(told) {
   const note = told.whole ? "" : el("p", { class: "soft" }, DANGERS_ALONE);
   if (!told.rows.length) {
     const what = told.whole ? "anything" : "a dangerous right";
-    return el("div", {}, note, el("p", {}, "Nobody of this store gains or loses " + what + ", at no moment."));
+    return el("div", {}, note, el("p", {}, "Nobody in this store gains or loses " + what + ", at no moment."));
   }
   const rows = told.rows.flatMap(
     (row) =>
@@ -212,7 +212,7 @@ function whoThen(told, box) {
 
     async function picked(found) {
       one = found;
-      const select = rightSelect(await ask("askable", { n: one.n }), "do this to it", null);
+      const select = rightSelect(await ask("askable", { n: one.n }), "what is done", null);
       form.replaceChildren(form.firstChild, select,
         el("button", {
           type: "button",
@@ -250,11 +250,11 @@ function saving(told, form, called, text) {
 
 function frames(told) {
     const some = told.grants.filter((line) => line);
-    return el("section", { "aria-labelledby": "frames" }, el("h2", { id: "frames" }, "The frames that make it so"),
+    return el("section", { "aria-labelledby": "frames" }, el("h2", { id: "frames" }, "The requests that make these changes"),
     el("p", {}, "For ", el("code", {}, "tools/adsd-ask frames FILE | adsd serve STORE"), ", or as frames already:"),
     el("pre", { tabindex: "0", "aria-label": "lines for adsd-ask" }, onLines(told.lines)),
     some.length ? [el("p", {},
-      some.length === told.grants.length ? "The same as lines for " : "Some of it as lines for ",
+      some.length === told.grants.length ? "As lines for " : "In part as lines for ",
       el("code", {}, "adsd grants STORE"), ":"),
       el("pre", { tabindex: "0", "aria-label": "lines for adsd grants" }, onLines(some))] : "",
     el("p", { class: "buttons" }, saving(told, "text", "adsd.txt", "Save the lines"),
@@ -269,7 +269,7 @@ function writing(told, start) {
       return el("p", { class: "soft" }, "A change is refused, so nothing can be written.");
     const settle = el("input", { type: "checkbox", id: fresh("settle"), checked: true }), result = el("div", {});
     const what = joined(plan.changes.map((one) => (one.n ? one.label + ": " : "") + DOES[one.op]), "; ").join("");
-    const label = () => "Write to " + start.store + ": " + what + (settle.checked ? "; and pass it all on" : "");
+    const label = () => "Write to " + start.store + ": " + what + (settle.checked ? "; and propagate it all" : "");
     const button = el("button", { type: "button", class: "danger" }, label());
     settle.addEventListener("change", () => {
       button.textContent = label();
@@ -288,7 +288,7 @@ function writing(told, start) {
     });
     return el("section", { "aria-labelledby": "write", class: "write" },
       el("h2", { id: "write" }, "Write it to the store itself"), el("p", {}, settle, " ", el("label", { for: settle.id
-      }, "and pass on all that is pending then")), button, result);
+      }, "and then propagate all that is pending")), button, result);
 }
 
 async function tried() {
@@ -329,8 +329,8 @@ async function asked(op, n, old) {
       redo();
     };
     return el("section", { "aria-labelledby": "new" },
-      el("h2", { id: "new" }, op === "edit" ? "Another entry in the place of one" : "A new entry"),
-      op === "edit" ? el("p", {}, "It stands now as ", el("code", {}, old)) : "",
+      el("h2", { id: "new" }, op === "edit" ? "Replace an entry" : "A new entry"),
+      op === "edit" ? el("p", {}, "It is now called ", el("code", {}, old)) : "",
       await entryForm({ n: one.n, label, old: op === "edit" ? old : "", done }));
 }
 

@@ -19,7 +19,7 @@ export function rightSelect(asked, label, chosen) {
 
 // The form that asks of one object.
 export async function whoForm(one, chosen) {
-  const right = rightSelect(await ask("askable", { n: one.n }), "do this to it", chosen);
+  const right = rightSelect(await ask("askable", { n: one.n }), "what is done", chosen);
   return el("form", {
     class: "form",
     onsubmit: (event) => {
@@ -51,7 +51,7 @@ function group(told, made, words) {
         if (after >= made.count) button.remove();
       }
     },
-      "Show further ones");
+      "Show more");
     box.append(button);
   }
   return box;
@@ -63,7 +63,7 @@ export function answered(told, words) {
     ? el("p", {}, "Besides, whoever is ", joined(told.others.map(principalLink), ", "),
         ": identifiers that no account of this store has.")
     : null;
-  if (!told.count) return [ el("p", { class: "lead" }, "No account of this store."), others ];
+  if (!told.count) return [ el("p", { class: "lead" }, "No account in this store."), others ];
   return [
     el("p", { class: "lead" }, el("strong", {}, plural(told.count, "account")),
       told.groups.length > 1 ? ", by " + told.groups.length + " ways:" : ":"),
