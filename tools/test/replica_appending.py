@@ -1,5 +1,6 @@
-"""The appender over a log that loses answers, by a plain list in etcd's place: each entry stands there once, in whatever
-way a try came to nothing, was made without an answer, or is made only when the next one comes."""
+"""The appender over a log that loses answers, by a plain list in etcd's place: each entry stands there once, in
+whatever way a try came to nothing, was made without an answer, or is made only when the next one comes; and what
+somebody else put there that is no entry is passed over, and not taken for another log."""
 
 import asyncio
 import random
@@ -10,6 +11,7 @@ from adsd_tools.replica.seal import PLAIN
 
 CHANGES, CLIENTS = 400, 8
 START = entries.beginning(b"a log")
+NONE = b"what is no entry, and names none before it"
 
 
 class Fickle:
@@ -39,6 +41,8 @@ class Fickle:
         self.late = []
         if self.draw.random() < 0.2:
             self.made(self.head, *entries.chained(self.head, [entries.of_message(b"", b"another one's")]))
+        if self.draw.random() < 0.05:
+            self.made(self.head, [NONE], entries.Head(self.head.number + 1, entries.id_of(NONE)))
         way = self.draw.choice(("made", "made", "made", "lost", "never", "late"))
         if way == "made":
             return self.made(head, data, then)
@@ -52,13 +56,16 @@ class Fickle:
 class Taking:
     """A replica that takes what stands in the log, a little later."""
 
-    def __init__(self, log):
-        self.log, self.tells, self.at = log, [], 0
+    def __init__(self, log, known):
+        self.log, self.tells, self.at, self.known = log, [], 0, known
 
     async def work(self):
         while True:
             for data in self.log.held[self.at :]:
                 self.at += 1
+                self.known.seen(entries.Head(self.at, entries.id_of(data)))
+                if data == NONE:
+                    continue
                 entry = entries.read(self.at, data)
                 for one in self.tells:
                     one(entry, entry.frames[-1][1], True)
@@ -80,7 +87,8 @@ class Known:
 
 async def run(draw):
     log, wrong = Fickle(draw), []
-    taking, known = Taking(log), Known()
+    known = Known()
+    taking = Taking(log, known)
     appender = appending.Appender(log, taking, known, 60)
     tasks = [asyncio.ensure_future(one.work()) for one in (taking, appender)]
 
@@ -99,15 +107,18 @@ async def run(draw):
     for one in tasks:
         one.cancel()
     appender.close()
-    bodies = [entries.read(1, data).frames[-1][1] for data in log.held]
+    held = [data for data in log.held if data != NONE]
+    wrong += [] if len(held) < len(log.held) else ["nothing was put that is no entry"]
+    bodies = [entries.read(1, data).frames[-1][1] for data in held]
     for number in range(CLIENTS):
         own = [one for one in bodies if one.startswith(b"%d-" % number)]
         if own != [b"%d-%d" % (number, at) for at in range(CHANGES // CLIENTS)]:
             wrong.append(f"client {number}: {len(own)} entries, out of order or not each once")
-    requests = [entries.read(1, data).request for data in log.held]
+    requests = [entries.read(1, data).request for data in held]
     wrong += ["an entry stands twice"] if len(set(requests)) < len(requests) else []
     befores = [START.id, *map(entries.id_of, log.held)]
-    return wrong + (["the chain is broken"] if list(map(entries.before_of, log.held)) != befores[:-1] else [])
+    chain = [(data, before) for data, before in zip(log.held, befores) if data != NONE]
+    return wrong + (["the chain is broken"] if any(entries.before_of(data) != before for data, before in chain) else [])
 
 
 def tried(seed=46):

@@ -16,9 +16,10 @@ from adsd_tools.ask.requests import Line
 from adsd_tools.ldap import words
 from adsd_tools.ldap.program import DROP, HEADER, MESSAGE, TOKEN
 from adsd_tools.replica import entries, naming
+from adsd_tools.replica.ordered import FORMS, line_of, put_of
 from replica_cases import DONE, READ, WRITE, has, same, shown, written
 from replica_checks import all_entries
-from replica_world import LOW, MANY, ROOT
+from replica_world import LOW, MANY, ROOT, SECONDS
 
 TOKENS = {"admin": "user=BA privileges=security", "low": LOW}
 ATTRIBUTES = ("description", "telephoneNumber", "cn", "objectClass", "member", "nothing", "sAMAccountName", "name")
@@ -158,7 +159,7 @@ def metrics(replica):
         call = ["nsenter", "-t", str(replica.running.pid), "-n", *call]
         said = subprocess.run(call, stdout=subprocess.PIPE, text=True).stdout
     else:
-        with urllib.request.urlopen(call[-1], timeout=60) as answer:
+        with urllib.request.urlopen(call[-1], timeout=SECONDS) as answer:
             said = answer.read().decode()
     other = [line for line in said.splitlines() if not LINE.fullmatch(line)]
     return said, dict(line.rsplit(" ", 1) for line in said.splitlines() if line[:1] != "#"), other
@@ -176,42 +177,50 @@ def stated(world):
         said, values, other = metrics(a)
         wrong += same(other[:3], []) + same(int(values["adsd_replica_entry"]) > 0, True)
         wrong += has(said, 'adsd_replica_info{log="adsd",name="a"')
-    wrong += has(world.command("compare", *etcd), "2 replicas, all alike")
+    world.wait("all are alike", lambda: "2 replicas, all alike" in world.command("compare", *etcd, good=False)[1])
     b.kill()
-    away = world.wait("b is away", lambda: [one for one in [world.command("health", *etcd, good=False)] if one[0] == 1])
-    wrong += has(away[0][1], "replica b doesn't run")
+    world.wait("b is away", lambda: is_told(world.command("health", *etcd, good=False), "replica b doesn't run"))
     return wrong + twice(world, b)
 
 
+def is_told(said, line):
+    """Whether health says that something has to be looked at, and what."""
+    return said[0] == 1 and line in said[1]
+
+
 def twice(world, b):
-    """A copy of a replica's files isn't served under its name beside it."""
+    """A copy of a replica's files isn't served under its name beside it: the second one ends. (Where the first one gets
+    no time it loses the name to the second one, and ends instead.)"""
     other = world.add("other")
     for end in ("", ".b", ".position"):
         shutil.copyfile(b.store + end, other.store + end)
     world.serves(b)
     other.begin()
-    status, said = other.running.wait(timeout=240), other.said()
+    world.wait("one of two ends", lambda: not (b.is_running() and other.is_running()))
+    ended = b if other.is_running() else other
+    other.kill()
     del world.by_name["other"]
     other.unlink()
-    return same(status, 6) + has(said, "replica b runs already")
+    world.serves(b)
+    return same(ended.running.returncode if ended is other else 6, 6) + has(ended.said(), "replica b runs already")
 
 
 def hand(world, key, value):
     log = world.log()
-    from adsd_tools.replica.ordered import put_of
-
     log.etcd.call("kv/put", put_of(log.key(key), value)["request_put"])
 
 
-def put_by_hand(world, data):
-    """An entry as somebody writes it who reaches etcd: with a head that names it; its number."""
-    from adsd_tools.replica.ordered import line_of
-
-    head = world.log().head()
-    then = entries.Head(head.number + 1, entries.id_of(data))
-    hand(world, b"entry/%016d" % then.number, data)
-    hand(world, b"head", line_of(then))
-    return then.number
+def put_by_hand(world, data_of):
+    """An entry as somebody writes it who reaches etcd, of what stands before it: with a head that names it; its
+    number."""
+    log = world.log()
+    while True:
+        head = log.head()
+        data = data_of(head)
+        then = entries.Head(head.number + 1, entries.id_of(data))
+        puts = [put_of(log.entry(then.number), data), put_of(log.key(b"head"), line_of(then))]
+        if log.txn([log.is_value(log.key(b"head"), line_of(head))], puts)[0]:
+            return then.number
 
 
 def hostile(world):
@@ -219,7 +228,7 @@ def hostile(world):
     an operator's word, and nothing else is."""
     (a, b), etcd, wrong = world.replicas, world.etcd_words(), []
     for key in (b"entry/x", b"entry/0000000000000001x", b"replica/x", b"told/x", b"alive/x", b"compare/x/y",
-                b"request/x", b"skip/0000000000000001", b"zzz"):
+                b"request/x", b"skip/0000000000000001", b"state/x", b"state/a", b"keeper", b"zzz"):
         hand(world, key, b"\xff\x00")
     for one in world.replicas:
         one.kill()
@@ -230,22 +239,52 @@ def hostile(world):
     wrong += has(world.command("skip", "1", a.store, *etcd, good=False)[1], "nothing is passed over")
     bad = entries.of_message(b"\x09no token", DROP)
     for of_head in (lambda head: b"no entry", lambda head: entries.chained(head, [bad])[0][0]):
-        number = put_by_hand(world, of_head(world.log().head()))
-        for one in world.replicas:
-            status = one.running.wait(timeout=240)
-            wrong += same(status, 6) + has(one.said(), f"adsd-replica skip {number}")
-        a.begin()
-        wrong += same(a.running.wait(timeout=240), 6)
+        b.kill()  # (it has others to take before it)
+        wrong += same([a.client().ask(WRITE + f"before{at}") for at in range(3)], [DONE] * 3)
+        number = put_by_hand(world, of_head)
+        for one in (a, b, a):
+            if not one.is_running():
+                open(one.log, "w").close()
+                one.begin()
+            wrong += same(one.running.wait(timeout=SECONDS), 6) + has(one.said(), f"adsd-replica skip {number}")
         wrong += has(world.command("skip", str(number), b.store, *etcd), "passed over from now on")
         for one in world.replicas:
             world.serves(one)
         wrong += same(b.client().ask(WRITE + f"after{number}"), DONE)
         wrong += same(a.client().ask(READ), shown(f"after{number}"))
-    world.wait("level", world.is_level)
-    return wrong + has(world.command("compare", *etcd), "all alike")
+    world.wait("all are alike", lambda: "2 replicas, all alike" in world.command("compare", *etcd, good=False)[1])
+    return wrong
+
+
+def mangled(world):
+    """Somebody writes over the keys that say what the log is: no replica ends, and none is kept from its start; health
+    and repair name each, and a change that was asked meanwhile is made once all are put back."""
+    (a, b), etcd, wrong, log = world.replicas, world.etcd_words(), [], world.log()
+    mended = "repair", a.store, *etcd
+    for key in FORMS:
+        log.etcd.call("kv/put", put_of(log.key(key), b"\xff\x00")["request_put"])
+        status, said = world.command("health", *etcd, good=False)
+        wrong += same(status, 3) + has(said, f"the key {key.decode()} of log adsd is malformed")
+        world.wait("it is put back", lambda: f"the key {key.decode()} of" in world.command(*mended, good=False)[1])
+    wrong += has(world.command(*mended), "nothing was changed")
+    b.kill()
+    open(b.log, "w").close()
+    one, said = a.client(), []
+    for key in FORMS:
+        log.etcd.call("kv/put", put_of(log.key(key), b"")["request_put"])
+    b.begin()
+    world.wait("b begins", lambda: "clients are told what the store has" in b.said())
+    asked = threading.Thread(target=lambda: said.append(one.ask(WRITE + "mangled")))
+    asked.start()
+    wrong += same(world.command(*mended).count(" again"), len(FORMS))
+    asked.join()
+    world.serves(b)
+    wrong += same([a.is_running(), b.is_running(), said], [True, True, [DONE]])
+    world.wait("b has it", lambda: b.client().ask(READ) == shown("mangled"))
+    return wrong
 
 
 def asked(world):
     """All of these in one world."""
-    return judged(world) + stated(world) + hostile(world) + bounded(world)
+    return judged(world) + stated(world) + hostile(world) + mangled(world) + bounded(world)
 

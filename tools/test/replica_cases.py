@@ -11,12 +11,12 @@ import time
 import ldap_store
 from ldap_client import PROGRAM, TOP
 from adsd_tools.forms import ber
-from adsd_tools.ldap.program import STEPS
-from replica_checks import all_entries, differences
+from adsd_tools.ldap.program import MESSAGE, STEPS
+from replica_checks import all_entries, differences, replayed
 from replica_faults import begun, ended
-from replica_world import MANY, ROOT, World, is_apart
+from replica_world import IMPATIENT, MANY, ROOT, SECONDS, World, is_apart
 
-DONE = "# modify: 0 success"
+DONE, ACCOUNTS = "# modify: 0 success", 50
 WRITE = f"modify dn='{MANY}' replace:description="
 READ = f"search base='{MANY}' attrs=description"
 
@@ -40,15 +40,28 @@ def written(client, dn, value):
 
 
 def resting(world):
-    """The log's head, once the keeper has put steps for the last change, and nothing is put any more."""
+    """The log's head, once the keeper has put steps for the last change, and the program's answer to them is that
+    nothing is pending any more."""
 
     def rests():
-        head = world.head()
-        time.sleep(2)
-        is_done = head == world.head() and all_entries(world)[-1].frames[-1][0] == STEPS
-        return head if is_done else None
+        found = all_entries(world)
+        if not found or found[-1].frames[-1][0] != STEPS:
+            return None
+        pending = int.from_bytes(replayed(world, found, "rests")[1][-1][4:], "big")
+        return found[-1].number if not pending and world.head() == len(found) else None
 
     return world.wait("the log rests", rests)
+
+
+def changes_behind(world, head):
+    """How many entries behind a head are changes. (Whoever keeps the directory from now on puts steps anyway.)"""
+    return sum(entry.frames[-1][0] == MESSAGE for entry in all_entries(world)[head:])
+
+
+def alike(world, one, other):
+    """Waits until two stores hold the same rows: one may have taken steps that the other one takes next."""
+    words = "compare", one.store, other.store
+    world.wait(f"{one.name} and {other.name} are alike", lambda: " 0 differ" in world.command(*words, good=False)[1])
 
 
 def commands(world):
@@ -67,20 +80,22 @@ def commands(world):
     wrong += same(os.path.exists(other + ".position"), False)
     wrong += refused("exists", "copy", a.store, b.store, "--name", "b", *words)
     wrong += refused("has no .position", "copy", other, other + "2", "--name", "x", *words)
+    wrong += refused("has no .position", "position", other)
+    wrong += has(world.command("position", a.store), f"replica a of log adsd ({world.log().own.decode()}) at entry ")
     wrong += refused("has no replica x", "forget", "x", *words)
     wrong += refused("etcd has no log x", "status", "--log", "x", *words)
     wrong += refused("etcd doesn't answer", "status", "--etcd", "http://127.0.0.1:1")
     client = a.client()
     wrong += same(client.ask(WRITE + "1"), DONE)
     world.wait("level", world.is_level)
-    wrong += has(world.command("compare", a.store, b.store), " 0 differ")
+    alike(world, a, b)
     wrong += same(world.command("compare", a.store, other, good=False)[0], 1)
     world.wait("all are told of", lambda: world.command("status", *words).count(", 0 behind") == 3)
     c.kill()
     world.command("forget", "c", *words)
     wrong += same("replica c" in world.command("status", *words), False)
     status, said = world.command("status", "--etcd", "http://10.1.1.1:2379", good=False)
-    return wrong + same(status, 2) + has(said, "no loopback address")
+    return wrong + same(status, 2) + has(said, "isn't a loopback address")
 
 
 def clients(world):
@@ -101,7 +116,7 @@ def clients(world):
     for one in ones:
         one.send_line("unbind")
     time.sleep(1)
-    return wrong + same(world.head(), head)
+    return wrong + same(changes_behind(world, head), 0)
 
 
 def away(world):
@@ -117,7 +132,8 @@ def away(world):
     wrong += same(one.ask(READ), shown("before"))
     wrong += has(other.ask(READ), "# search: 52, the log doesn't tell how far it goes")
     wrong += has(one.ask(WRITE + "away"), "# modify: 52, the log doesn't answer; ")
-    wrong += has(one.ask(READ), "# search: 51, what this replica has is ")
+    told = "# search: 51, what this replica has is "
+    world.wait("what a has is too old", lambda: one.ask(READ).startswith(told))
     for member in world.members:
         member.join()
     world.wait("changes go on", lambda: other.ask(WRITE + "behind") == DONE)
@@ -146,6 +162,26 @@ def logins(world):
     return wrong
 
 
+def accounts(world):
+    """Fifty clients create accounts at once, at different replicas, each with a login of its own: each is created, and
+    none is told that others change the directory too often."""
+    answers, ready = [], threading.Barrier(ACCOUNTS)
+
+    def add(number):
+        client = world.replicas[number % 3].client()
+        ready.wait(SECONDS)
+        for at in range(3):
+            line = f"add dn='CN=a{at}-{number},{MANY}' objectClass=user sAMAccountName=account{at}-{number}"
+            answers.append(client.ask(line))
+
+    running = [threading.Thread(target=add, args=(number,)) for number in range(ACCOUNTS)]
+    for one in running:
+        one.start()
+    for one in running:
+        one.join()
+    return same((len(answers), set(answers)), (3 * ACCOUNTS, {"# add: 0 success"})) + differences(world)
+
+
 def passwords(world):
     """A password that is changed at one replica counts at the others; a bind by the store's changes nothing."""
     a, b = world.by_name["a"], world.by_name["b"]
@@ -157,7 +193,7 @@ def passwords(world):
     wrong += has(far.bind("ann", "first"), "# bind: 49")
     far.ask(READ)
     time.sleep(1)
-    return wrong + same(world.head() - head <= 1, True)
+    return wrong + same(changes_behind(world, head), 0)
 
 
 def another(world):
@@ -183,13 +219,13 @@ def compacted(world):
     c.kill()
     at, client = c.position(), a.client()
     for number in range(300):
-        client.ask(WRITE + str(number))
+        wrong += same(client.ask(WRITE + str(number)), DONE)
     time.sleep(5)
     wrong += same(world.log().read(0, 0).first <= at + 1, True)
     world.command("forget", "c", *world.etcd_words())
     world.wait("the log is cut", lambda: world.log().read(0, 0).first > at + 100)
     c.begin()
-    wrong += same(c.running.wait(timeout=240), 6) + has(c.said(), "take a new copy")
+    wrong += same(c.running.wait(timeout=SECONDS), 6) + has(c.said(), "take a new copy")
     for end in ("", ".b", ".position"):
         os.remove(c.store + end)
     world.command("copy", b.store, c.store, "--name", "c", *world.etcd_words())
@@ -198,7 +234,7 @@ def compacted(world):
     world.wait("level", world.is_level)
     wrong += same(c.client().ask(READ), shown("299"))
     for one in (b, c):
-        wrong += has(world.command("compare", a.store, one.store), " 0 differ")
+        alike(world, a, one)
     return wrong
 
 
@@ -271,7 +307,7 @@ def secured(world):
 
 LINEAR = ("--reads", "linear")
 PAGE = os.path.join(TOP, "docs/replicas.md")
-UNTIL = """for p in 11389 21389 31389; do for i in $(seq 300); do
+UNTIL = """for p in 11389 21389 31389; do for i in $(seq 1800); do
 (exec 3<>/dev/tcp/127.0.0.1/$p) 2>/dev/null && break; sleep 0.1; done; done
 """
 
@@ -281,11 +317,11 @@ def page():
     with open(PAGE, encoding="utf-8") as file:
         lines = [line[6:] for line in file.read().replace("\\\n      ", "").split("\n") if line.startswith("    $ ")]
     place = tempfile.mkdtemp()
-    lines = [line.replace("./adsd ", f"'{PROGRAM}' ").replace("/tmp/r", os.path.join(place, "r")) for line in lines]
+    lines = [line.replace("/tmp/r", os.path.join(place, "r")).replace("./adsd ", f"'{PROGRAM}' ") for line in lines]
     last = next(at for at, line in enumerate(lines) if "adsd-replica serve" in line)
     script = "\n".join([*lines[: last + 1], UNTIL, *lines[last + 1 :], "kill $(jobs -p); wait"])
     done = subprocess.run(["bash", "-c", script], cwd=TOP, stdout=subprocess.PIPE, stderr=subprocess.STDOUT, text=True,
-                          env={**os.environ, "ADSD": PROGRAM}, stdin=subprocess.DEVNULL, timeout=600)
+                          env={**os.environ, "ADSD": PROGRAM}, stdin=subprocess.DEVNULL, timeout=2 * SECONDS)
     shutil.rmtree(place)
     wrong = has(done.stdout, "description: on three machines") + has(done.stdout, "log adsd from 1 to ")
     wrong += same(done.stdout.count("is asked without a user or a certificate"), 4)
@@ -307,8 +343,8 @@ def with_local(case):
     """A world of two replicas, of which a answers reads at once."""
 
     def run():
-        with World(members=3, replicas=("a", "b")) as world:
-            world.by_name["a"].words = ("--reads", "local", "--max-age", "15")
+        with World(members=3, replicas=("a", "b"), patience=IMPATIENT) as world:
+            world.by_name["a"].words = ("--reads", "local", "--max-age", "30")
             world.begin()
             return case(world)
 
@@ -327,7 +363,8 @@ def of_store(case, *words):
 
 
 CASES = {"commands": in_world(commands, members=1), "clients": in_world(clients), "away": with_local(away),
-         "logins": of_store(logins), "passwords": of_store(passwords, "--store-passwords", "--no-ad-rules"), 
+         "logins": of_store(logins), "accounts": of_store(accounts),
+         "passwords": of_store(passwords, "--store-passwords", "--no-ad-rules"),
          "another": in_world(another, members=1),
          "compacted": in_world(compacted, members=1, words=(*LINEAR, "--keep", "0")), "keepers": in_world(keepers)}
 if is_apart() and shutil.which("ldapmodify"):

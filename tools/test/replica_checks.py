@@ -16,6 +16,8 @@ from adsd_tools.rows import store
 
 MARK = re.compile(rb"w\d+-\d+\.")
 MOST = 900_000
+# What a replica says that ends since it has another directory than the others.
+DIFFER = "docs/replicas.md, Replicas that differ"
 # So often all is looked at, where the log goes on meanwhile.
 TRIES = 20
 
@@ -61,16 +63,25 @@ def same_rows(first, second):
     return sum(one.get(key) != other.get(key) for key in {*one, *other})
 
 
+class Lasting(str):
+    """What differs, and isn't made by any want of time: it counts at once, and isn't tried again."""
+
+
 def differences(world, notes=None):
-    """All that isn't as it should be. What the keeper puts meanwhile, steps for the last changes, has everything looked at
-    once more: a replica that has taken more than was read would seem to differ."""
+    """All that isn't as it should be. The replicas hold still for it: a keeper's steps would come between. Where they
+    weren't at the log's end then, all is looked at again."""
     for _ in range(TRIES):
-        found = all_entries(world)
         world.wait("level", world.is_level)
-        wrong = compared(world, found, notes)
-        if world.head() == len(found):
-            return wrong
-    return [f"the log doesn't come to rest: {len(found)} entries, and {world.head()} now"]
+        running = [one for one in world.replicas if one.is_running() and not one.is_stopped]
+        for one in running:
+            one.stop()
+        try:
+            if world.is_level():
+                return list(map(Lasting, compared(world, all_entries(world), notes)))
+        finally:
+            for one in running:
+                one.go_on()
+    return [f"the log doesn't come to rest: it has {world.head()} entries"]
 
 
 def compared(world, found, notes):
@@ -84,6 +95,7 @@ def compared(world, found, notes):
         if count:
             wrong.append(f"replica {one.name} at {one.position()} differs from a plain run of {len(found)} entries in "
                          f"{count} rows")
+    wrong += [f"replica {one.name} has seen that it differs" for one in world.replicas if DIFFER in one.said()]
     ids = [entry.request for entry in found]
     if len(set(ids)) < len(ids):
         wrong.append(f"{len(ids) - len(set(ids))} entries stand twice")

@@ -6,13 +6,12 @@ import subprocess
 
 from ldap_client import PROGRAM
 from replica_checks import all_entries, frames_of, same_rows
-from replica_world import MANY, World
+from replica_world import MANY, SECONDS, World
 from adsd_tools.replica.entries import beginning, chained, of_run
 from adsd_tools.replica.ordered import line_of, put_of
 from adsd_tools.replica.position import BLOCK, Position, Positions
 from adsd_tools.replica.slots import SLOTS, Slots
 
-SECONDS = 120
 OPEN = "D:(A;CI;GA;;;SY)(A;CI;GA;;;BA)(A;CI;RPLCLORC;;;WD)"
 
 
@@ -87,7 +86,7 @@ class Crashes:
     def goes_on(self, what):
         """The replica begins, comes to the log's end, and holds what a plain run makes of it."""
         self.replica.begin()
-        self.world.wait(f"{what}: the replica is level", self.world.is_level, SECONDS)
+        self.world.wait(f"{what}: the replica is level", self.world.is_level)
         self.replica.kill()
         plain = os.path.join(self.world.place, "plain")
         for slot, data in zip(SLOTS, self.places[self.head][0]):
@@ -176,7 +175,7 @@ class Crashes:
         self.put(held, Position(*list(vars(position).values())[:3], end + 5, *list(vars(position).values())[4:]))
         wrong += self.ends("after the end", 6, "the log ends at")
         os.remove(Positions(self.replica.store).path)
-        wrong += self.ends("no file of a position", 3, "is no replica's store")
+        wrong += self.ends("no file of a position", 3, "isn't a replica's store")
         self.put(held, position)
         log = self.world.log()
         found, revision = log.replicas()

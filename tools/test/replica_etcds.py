@@ -8,17 +8,16 @@ import time
 
 from adsd_tools.forms import ber
 from adsd_tools.replica import entries
-from adsd_tools.replica.etcd import Away, Denied, encoded
+from adsd_tools.replica.etcd import Away, Denied, User, encoded
 from replica_asked import put_by_hand
 from replica_cases import DONE, READ, WRITE, has, same, shown, written
 from replica_checks import all_entries, differences
 from replica_faults import begun, ended
-from replica_world import MANY, World
+from replica_patient import LONG
+from replica_world import MANY, SECONDS, World
 
 PASSWORD = "the password of etcd"
 QUOTA = 12 << 20
-# So long one call of etcd is waited for, in seconds.
-LONG = 60
 SECRET = "nobody reads this in etcd"
 
 
@@ -38,13 +37,8 @@ class Known(World):
             private(self, "password", PASSWORD + "\n")
         return [*super().etcd_words(), "--etcd-user", "adsd", "--etcd-password", path]
 
-    def log(self):
-        from adsd_tools.replica.etcd import Etcd, User
-        from adsd_tools.replica.ordered import Ordered
-
-        made = Ordered(Etcd([one.client for one in self.members], user=User("adsd", PASSWORD)), "adsd")
-        made.own = made.find()
-        return made
+    def log(self, user=None):
+        return super().log(User("adsd", PASSWORD))
 
 
 class Small(Known):
@@ -74,7 +68,7 @@ def enabled(world):
     etcd.call("auth/enable", {}, LONG)
     a, b = (one.client() for one in world.replicas)
     world.wait("changes go on", lambda: a.ask(WRITE + "known") == DONE)
-    wrong += same(b.ask(READ), shown("known"))
+    world.wait("and reads", lambda: b.ask(READ) == shown("known"))
     bare = ["--etcd", world.members[0].client, "--etcd-clear"]
     wrong += has(world.command("status", *bare, good=False)[1], "user name is empty")
     path = private(world, "other", "no password\n")
@@ -93,7 +87,7 @@ def filled(world):
     etcd refuses them. Once that one is forgotten the keeper makes room, and changes go on."""
     (a, b), etcd, wrong = world.replicas, world.etcd_words(), []
     b.kill()
-    client, said, end = a.client(), "", time.monotonic() + 240
+    client, said, end = a.client(), "", time.monotonic() + SECONDS
     while not said.startswith("# modify: 51") and time.monotonic() < end:
         said = written(client, MANY, 400_000 * "x")
     wrong += has(said, "# modify: 51, etcd is full to ") + has(a.said(), "warning: etcd is full to ")
@@ -147,10 +141,16 @@ def flipped(world):
     wrong += same(a.client().ask(WRITE + "behind"), DONE)
     world.wait("level", world.is_level)
     (member,) = world.members
-    member.kill()
     path = os.path.join(world.place, member.name + ".data", "member/snap/db")
-    with open(path, "rb") as file:
-        held = file.read()
+
+    def bytes_of_etcd():
+        with open(path, "rb") as file:
+            return file.read()
+
+    # (etcd writes its file some moments later, and would do it again out of its log after a start)
+    world.wait("etcd has written its file", lambda: mark.encode() in bytes_of_etcd())
+    member.kill()
+    held = bytes_of_etcd()
     with open(path, "r+b") as file:
         at = held.find(mark.encode())
         while at >= 0:
@@ -159,7 +159,7 @@ def flipped(world):
             at = held.find(mark.encode(), at + 1)
     member.begin()
     for one in (a, b):
-        status = one.running.wait(timeout=240)
+        status = one.running.wait(timeout=SECONDS)
         wrong += same(status, 6) + has(one.said(), "docs/replicas.md, Parted")
     return wrong
 
@@ -173,7 +173,7 @@ def stopped(world):
         for one in world.replicas * 2:
             time.sleep(1)
             one.signal(signal.SIGTERM)
-            wrong += same(one.running.wait(timeout=240), 0) + has(one.said(), "stopped; adsd serve ended with 0")
+            wrong += same(one.running.wait(timeout=SECONDS), 0) + has(one.said(), "stopped; adsd serve ended with 0")
             world.serves(one)
     finally:
         ended(workers)
@@ -200,9 +200,9 @@ def by_keys(world):
     log = world.log()
     held = [data for _, data in log.read(1).found]
     wrong += same([SECRET.encode() in data for data in held], [False] * len(held))
-    number = put_by_hand(world, entries.chained(log.head(), [entries.of_run()])[0][0])
+    number = put_by_hand(world, lambda head: entries.chained(head, [entries.of_run()])[0][0])
     for one in world.replicas:
-        wrong += same(one.running.wait(timeout=240), 6) + has(one.said(), f"entry {number} isn't signed")
+        wrong += same(one.running.wait(timeout=SECONDS), 6) + has(one.said(), f"entry {number} isn't signed")
     wrong += has(world.command("skip", str(number), a.store, *words, *etcd), "isn't signed; it is passed over")
     for one in world.replicas:
         world.serves(one)

@@ -6,7 +6,7 @@ import signal
 import time
 
 from replica_checks import differences
-from replica_world import is_apart
+from replica_world import SECONDS, is_apart
 from replica_writers import Notes, Reader, Writer
 
 
@@ -69,7 +69,7 @@ class Faults:
         """As an operator stops it."""
         one = self.some_replica()
         one.signal(signal.SIGTERM)
-        if one.running.wait(timeout=240) not in (0, 5):
+        if one.running.wait(timeout=SECONDS) not in (0, 5):
             raise AssertionError(f"{one.name} ended with {one.running.returncode}: {one.said()[-500:]}")
         self.world.serves(one)
 
@@ -165,7 +165,7 @@ def ended(workers):
     for one in workers:
         one.ends.set()
     for one in workers:
-        one.join(120)
+        one.join(SECONDS)
         if one.is_alive():
             raise AssertionError(f"{type(one).__name__} {one.number} doesn't end")
 

@@ -10,8 +10,9 @@ import time
 import zlib
 
 from ldap_client import PROGRAM, TOP, Closed
-from replica_cases import DONE, READ, WRITE, has, in_world, resting, same, shown
+from replica_cases import DONE, READ, WRITE, alike, has, in_world, resting, same, shown
 from replica_checks import differences
+from replica_world import SECONDS
 from adsd_tools.ask.words import Wrong
 from adsd_tools.rows import store as rows
 from adsd_tools.replica import entries
@@ -25,6 +26,8 @@ ETCDCTL = shutil.which("etcdctl")
 FILES = (*SLOTS, ".position")
 ALL = b"/adsd/"
 TOLD = "docs/replicas.md, Parted"
+# How long the word upgrade waits until all have told that they are at the head.
+PATIENT = "--wait", str(SECONDS)
 
 
 class Snapshot:
@@ -90,7 +93,7 @@ def stops(replica, *told, begin=False):
         open(replica.log, "w").close()
         replica.begin()
     try:
-        status = replica.running.wait(timeout=240)
+        status = replica.running.wait(timeout=SECONDS)
     except subprocess.TimeoutExpired:
         replica.kill()
         return [f"replica {replica.name} goes on: {replica.said()[-500:]}"]
@@ -119,10 +122,10 @@ def goes_on(world, number, more):
         wrong += wrote(a, f"other{world.head()}")
     if not more:
         resting(world)
+    while not more and world.head() < number:
         log = world.log()
         head = log.head()
         log.put(head, *entries.chained(head, [entries.of_steps(1)] * (number - head.number)))
-        wrong += same(world.head(), number)
     return wrong
 
 
@@ -138,8 +141,9 @@ def set_back(kind, more):
         wrong += wrote(b, *(f"gone{at}" for at in range(6)))
         resting(world)
         world.wait("level", world.is_level)
-        number = c.position()
         c.cut()
+        time.sleep(1)  # (it takes what it had by then)
+        number = c.position()
         for one in (a, b):
             one.kill()
         etcd.restore()
@@ -164,7 +168,8 @@ def comes_back(world, c, number):
     wrong = wrong[:3] + stops(c, TOLD, str(number)) + stops(c, TOLD, str(number), begin=True)
     world.wait("the two are level", lambda: a.position() == b.position() == world.head())
     renewed(world, a, c)
-    return wrong + has(world.command("compare", a.store, c.store), " 0 differ")
+    alike(world, a, c)
+    return wrong
 
 
 def rows_of(replica):
@@ -198,8 +203,17 @@ def replaced(world):
     for one in world.replicas:
         world.serves(one)
     wrong += differences(world)
-    log.etcd.call("kv/put", put_of(log.entry(1), log.read(1, 1).found[0][1])["request_put"])
-    return wrong + [one for replica in world.replicas for one in stops(replica, "entry 1 was put once more", TOLD)]
+    return wrong + put_again(world, log)
+
+
+def put_again(world, log):
+    """What is put once more is noticed by who is told of it; who asks anew just then isn't, so it is put until all have
+    ended."""
+    first, end = put_of(log.entry(1), log.read(1, 1).found[0][1])["request_put"], time.monotonic() + SECONDS
+    while any(one.is_running() for one in world.replicas) and time.monotonic() < end:
+        log.etcd.call("kv/put", first)
+        time.sleep(0.5)
+    return [one for replica in world.replicas for one in stops(replica, "entry 1 was put once more", TOLD)]
 
 
 def of_release(world, number, name="other"):
@@ -233,7 +247,7 @@ def released(world):
     backup = Backup(world, (c,))
     wrong += wrote(a, 3)
     resting(world)
-    wrong += has(world.command("upgrade", *words, adsd=other), f"is of {told} from entry ")
+    wrong += has(world.command("upgrade", *PATIENT, *words, adsd=other), f"is of {told} from entry ")
     for one in world.replicas:
         wrong += stops(one, f"of the release {told}")
         one.adsd = other
@@ -243,7 +257,7 @@ def released(world):
     world.wait("level", world.is_level)
     wrong += same(a.client().ask(READ), shown(4)) + has(world.command("status", *words), told)
     for one in (b, c):
-        wrong += has(world.command("compare", a.store, one.store), " 0 differ")
+        alike(world, a, one)
     backup.copied(c, c.store + "-kept", c.store)
     return wrong + stops(c, "take a new copy", begin=True)
 
@@ -286,7 +300,7 @@ def swapped(world):
     (a,), (other, told) = world.replicas, of_release(world, 7)
     wrong = wrote(a, 1)
     resting(world)
-    world.command("upgrade", *world.etcd_words(), adsd=other)
+    world.command("upgrade", *PATIENT, *world.etcd_words(), adsd=other)
     wrong += stops(a, f"of the release {told}")
     a.adsd, a.words = other, ("--frames", "40")
     world.serves(a)
@@ -297,7 +311,7 @@ def swapped(world):
         wrong.append("it goes on after 80 reads")
     except (OSError, Closed, AssertionError):
         pass
-    wrong += same(a.running.wait(timeout=240), 5) + has(a.said(), f"is of {new} by now")
+    wrong += same(a.running.wait(timeout=SECONDS), 5) + has(a.said(), f"is of {new} by now")
     return wrong + stops(a, f"the program here of {new}", begin=True)
 
 

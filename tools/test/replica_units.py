@@ -7,8 +7,9 @@ import time
 
 from replica_cases import same
 from adsd_tools.ask.words import Wrong
-from adsd_tools.replica import answers, cutting, entries, rates, seal
-from adsd_tools.replica.etcd import Waits
+from adsd_tools.replica import answers, cutting, entries, following, rates, seal
+from adsd_tools.replica.etcd import Waits, decoded, encoded
+from adsd_tools.replica.ordered import Ordered, line_of
 
 OWN = b"the log"
 
@@ -148,5 +149,45 @@ def hand_made():
     return [f"{data[:60]} is taken" for data in cases if refused(lambda: entries.read(1, data)) == "nothing is wrong"]
 
 
+class Growing:
+    """An etcd with a log that grows between any two questions."""
+
+    def __init__(self, count):
+        self.held, self.head = [], entries.beginning(OWN)
+        for _ in range(count):
+            self.put()
+
+    def put(self):
+        made, self.head = entries.chained(self.head, [entries.of_steps(1)])
+        self.held += made
+
+    def ranged(self, asked):
+        first, end = (int(decoded(asked[one])[-16:]) for one in ("key", "range_end"))
+        return {"kvs": [{"key": encoded(b"/adsd/x/entry/%016d" % number), "value": encoded(self.held[number - 1]),
+                         "mod_revision": str(number)} for number in range(max(first, 1), min(end, len(self.held) + 1))]}
+
+    def call(self, path, asked, patience=0):
+        if path == "kv/range":
+            found = self.ranged(asked)
+            self.put()
+            return found
+        keys = [{"kvs": [{"value": encoded(value)}]} for value in (line_of(self.head), b"1")]
+        answers = [*keys, self.ranged(asked["success"][2]["request_range"])]
+        return {"succeeded": True, "responses": [{"response_range": one} for one in answers], "header": {"revision": "1"}}
+
+
+def growing():
+    """Where an entry is put between the two questions for a part of the log, the part has what names the one before."""
+    wrong = []
+    for count in range(4):
+        etcd = Growing(count)
+        follower = following.Follower.__new__(following.Follower)
+        follower.log, follower.at = Ordered(etcd, "x", OWN), entries.beginning(OWN)
+        part = follower.log.some(1)
+        made = follower.chained(part.found, part.head)
+        wrong += same(len(made) >= max(count, 1), True) + same(part.head.number, count + 1)
+    return wrong
+
+
 def tried():
-    return bounds() + lengths() + remembered() + by_keys() + hand_made()
+    return growing() + bounds() + lengths() + remembered() + by_keys() + hand_made()

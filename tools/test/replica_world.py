@@ -25,7 +25,11 @@ NAMES = ("admin password=adm1n user=BA privileges=security\n'' user=AN groups=WD
          f"low password=l0w {LOW}\nsecond password=sec0nd {SECOND}\n")
 ROOT = "DC=corp,DC=example"
 MANY = f"OU=many,{ROOT}"
-SECONDS = 240
+# So long something is waited for, in seconds: also where the machine has much else to do.
+SECONDS = 600
+# So long a change and a linear read wait for the log, where nothing of it is away; where something is; and so long a
+# client waits for an answer, in seconds.
+PATIENT, IMPATIENT, ANSWER = 60, 10, 150
 APART = "ADSD_TEST_APART"
 # The scripts are run by the Python that runs this, and not by one that has to be found first.
 os.environ["PATH"] = f"{os.path.dirname(sys.executable)}:{os.environ['PATH']}"
@@ -178,7 +182,8 @@ class Replica(Host):
     def begin(self):
         more = ["--any-address"] if is_apart() else []
         listens = "--listen", f"{self.address}:{self.port}"
-        words = *listens, *self.world.etcd_words(), *more, "--unbound", "1000", "--keep", str(10**9), "--patience", "10"
+        words = *listens, *self.world.etcd_words(), *more, "--unbound", "1000", "--keep", str(10**9)
+        words = *words, "--patience", str(self.world.patience)
         self.start([COMMAND, "serve", self.store, "--names", self.world.names, *words, *self.words])
 
     def program(self):
@@ -240,7 +245,7 @@ class Far(Client):
     def __init__(self, host, port):
         self.number = 0
         self.socket = socket.create_connection((host, port), timeout=5)
-        self.socket.settimeout(25)
+        self.socket.settimeout(ANSWER)
         # A server whose network is gone, or cut off, is noticed by the system.
         self.socket.setsockopt(socket.SOL_SOCKET, socket.SO_KEEPALIVE, 1)
         for option, value in ((socket.TCP_KEEPIDLE, 2), (socket.TCP_KEEPINTVL, 1), (socket.TCP_KEEPCNT, 3)):
@@ -251,8 +256,8 @@ class Far(Client):
 class World:
     """Some members of etcd, and some replicas of one store."""
 
-    def __init__(self, members=3, replicas=("a", "b", "c"), words=("--reads", "linear"), more=""):
-        self.place = tempfile.mkdtemp(prefix="replicas-")
+    def __init__(self, members=3, replicas=("a", "b", "c"), words=("--reads", "linear"), more="", patience=PATIENT):
+        self.place, self.patience = tempfile.mkdtemp(prefix="replicas-"), patience
         if is_apart():
             called("sh", "-c", "ip link show br0 2>/dev/null || { ip link add br0 type bridge; "
                    "ip addr add 10.77.0.254/24 dev br0; ip link set br0 up; }")
@@ -358,12 +363,12 @@ class World:
         except AssertionError as why:
             raise AssertionError(f"{why}; its log ends so: {replica.said()[-2000:]}") from None
 
-    def log(self):
+    def log(self, user=None):
         """The log, as the replicas see it."""
-        from adsd_tools.replica.etcd import Etcd
         from adsd_tools.replica.ordered import Ordered
+        from replica_patient import Patient
 
-        made = Ordered(Etcd([one.client for one in self.members]), "adsd")
+        made = Ordered(Patient([one.client for one in self.members], user=user), "adsd")
         made.own = made.find()
         return made
 

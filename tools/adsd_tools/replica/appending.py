@@ -45,6 +45,7 @@ class Appender:
         self.lane, self.applying, self.heads, self.patience = Lane(log), applying, heads, patience
         self.queue, self.sent, self.news, self.closed = deque(), {}, asyncio.Event(), False
         self.remembered, self.counts, self.pause = remembered, counts, Waits(PAUSE, PAUSED)
+        self.no_room = lambda: None
         applying.tells.append(self.applied)
 
     async def put(self, data, behind=None, named=None):
@@ -145,6 +146,9 @@ class Appender:
                 continue
             self.pause.again()
             if not done:
+                if self.is_none(head, behind):
+                    await self.passed_over(head)
+                    return False
                 self.look(head, now, behind)
             self.heads.seen(now)
             if done and self.counts:
@@ -153,6 +157,7 @@ class Appender:
 
     def full(self, some):
         """Tells that etcd has no room for some entries."""
+        self.no_room()
         for one in some:
             self.leave(one)
             if not one.answer.done():
@@ -180,6 +185,20 @@ class Appender:
             if not one.answer.done():
                 one.answer.set_exception(Repeated(*found))
         return bool(found)
+
+    def is_none(self, head, behind):
+        """Whether what stands behind a head is no entry that is taken here."""
+        try:
+            entries.read(head.number + 1, behind or b"", self.lane.log.own, self.lane.log.keys)
+            return False
+        except entries.Broken:
+            return behind is not None
+
+    async def passed_over(self, head):
+        """Waits until what stands behind a head is passed over: whoever follows the log does so where an operator has
+        said it, and else tells what stands there, and ends."""
+        while self.heads.known.number <= head.number:
+            await asyncio.sleep(self.pause.first)
 
     def look(self, head, now, behind):
         """Looks whether the log goes on after a head that isn't its own any more, with the entry behind it."""

@@ -13,6 +13,7 @@ from adsd_tools.ldap.turns import refuse
 
 from . import replay
 from .answers import Answer
+from .digests import Digests
 from .entries import is_named
 from .position import taken
 from .slots import Unfit
@@ -61,6 +62,7 @@ class Applying:
         # What named requests were answered, and which of it isn't written yet; where the last entries left the store,
         # by their numbers; when entries came that wait; and what is asked of an entry that the program doesn't take.
         self.answers, self.unwritten, self.places, self.came, self.may_skip = None, [], {}, deque(), None
+        self.digests = Digests()
 
     def open(self, slots, positions, answers, news, program):
         """Finds out where the store stands, which the program has opened and synced by now."""
@@ -68,10 +70,11 @@ class Applying:
         self.program, self.answers = program, answers
         self.position, self.place = positions.read(), slots.look()
         if self.position is None:
-            raise Unfit(f"{slots.store} is no replica's store: {positions.path} isn't there")
+            raise Unfit(f"{slots.store} isn't a replica's store: {positions.path} isn't there")
         self.skips = taken(self.position, self.place) == 1
         answers.open(self.position.entry)
         self.places = {self.position.entry: (self.position.generation, self.position.records)}
+        self.digests.add(self.position.entry, self.position.id, self.position.digest)
         self.room.set()
 
     def number(self):
@@ -111,7 +114,7 @@ class Applying:
             reply, changed = await self.done(program, entry)
         except (Unfit, OSError) as why:
             raise Spoilt(f"{self.slots.store}: {why}") from None
-        self.position = self.position.behind(entry, self.place)
+        self.position = self.position.behind(entry, self.place, self.slots.body() if changed else b"")
         self.keep(entry, reply)
         self.write()
         self.tell(entry, reply, changed)
@@ -138,6 +141,7 @@ class Applying:
         """Keeps in mind where the entry left the store, and what it was answered where its request has a name."""
         self.places[entry.number] = self.position.generation, self.position.records
         self.places.pop(entry.number - LAST, None)
+        self.digests.add(self.position.entry, self.position.id, self.position.digest)
         if is_named(entry.request) and reply and entry.frames:
             made = Answer(entry.number, entry.request, reply)
             self.answers.note(made)

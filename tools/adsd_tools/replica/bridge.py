@@ -16,6 +16,7 @@ from .etcd import Away, Denied, Etcd
 from .following import Follower, NotTaken
 from .heads import Heads
 from .keeper import Keeper
+from .listing import Listing
 from .metrics import Counts, served
 from .naming import Remembered, within
 from .ordered import Ordered, Other
@@ -96,9 +97,12 @@ class Replica(Bridge):
         appender = self.turns.appender = Appender(log, self.applying, self.heads, asked.patience, remembered,
                                                   self.counts)
         self.room = self.turns.room = Room(log, asked, say)
+        appender.no_room = self.room.hurry.set
         self.follower = Follower(log, self.applying, self.heads, asked.check_every)
         self.keeper = Keeper(log, self.applying, appender, asked, say, self.room)
-        self.presence, self.sums = Presence(log, asked, position, asked.release), Sums(log, self.applying)
+        self.presence = Presence(log, asked, position, asked.release)
+        listing = Listing(self.turns, self.applying, lambda: self.schema and self.schema.root)
+        self.sums = Sums(log, self.applying, listing, asked.check_every, self.keeper.is_keeper, say)
         self.parts = [self.follower, self.heads, appender, self.room, self.sums]
         self.applying.may_skip = self.may_skip
         self.applying.tells.append(self.counts.applied)
@@ -107,7 +111,7 @@ class Replica(Bridge):
         """Takes the replica's name, and follows the log until its end."""
         await within(FIRST + WAITS, self.presence.first())
         ones = (self.follower.work, self.turns.appender.work, self.presence.work, self.room.work, self.sums.work,
-                self.follower.checks)
+                self.follower.checks, self.sums.checks)
         self.tasks = [asyncio.ensure_future(one()) for one in ones] + self.keeper.tasks()
         for task in self.tasks:
             task.add_done_callback(self.task_ended)

@@ -13,10 +13,10 @@ from adsd_tools.rows import store as rows
 from adsd_tools.run import ADSD
 from adsd_tools.shown import shown, text_of
 
-from . import etcd, seal, skipping, state, sums
+from . import etcd, repairing, seal, skipping, state, sums
 from .bridge import Replica
 from .copying import begin, copied
-from .ordered import Ordered, Other
+from .ordered import Ordered, Other, Unformed
 from .release import release_of
 from .slots import Unfit
 from .state import told
@@ -69,8 +69,8 @@ def answering(log):
         try:
             log.find()
             return log
-        except etcd.Away:
-            if time.monotonic() >= end:
+        except etcd.Away as why:
+            if isinstance(why, Unformed) or time.monotonic() >= end:
                 raise
             time.sleep(0.2)
 
@@ -112,6 +112,18 @@ def do_skip(asked):
     log = log_of(asked, position.log, position.own)
     log.keys = seal.keys_of(asked)
     print(shown(skipping.skip(log, ADSD, asked.store, position, asked.entry)))
+
+
+def do_position(asked):
+    one = skipping.position_of(asked.store)
+    print(shown(f"replica {one.name} of log {one.log} ({one.own.decode()}) at entry {one.entry}, id {one.id.hex()}"))
+    print(f"hash {one.digest.hex() if one.digest else 'not known'}; generation {one.generation}, {one.records} records")
+
+
+def do_repair(asked):
+    position = skipping.position_of(asked.store)
+    done = repairing.repair(log_of(asked, position.log, position.own), position, release_of(ADSD))
+    print("\n".join(map(shown, done or ["each key that says what the log is has its form; nothing was changed"])))
 
 
 def do_upgrade(asked):
@@ -170,13 +182,16 @@ def do_serve(asked):
 
 
 WORDS = {"begin": do_begin, "copy": do_copy, "serve": do_serve, "status": do_status, "health": do_health,
-         "forget": do_forget, "upgrade": do_upgrade, "compare": do_compare, "skip": do_skip, "key": do_key}
+         "forget": do_forget, "upgrade": do_upgrade, "compare": do_compare, "skip": do_skip, "position": do_position,
+         "repair": do_repair, "key": do_key}
 
 
 def main(arguments):
     asked = parsed(arguments)
     try:
         return WORDS[asked.word](asked) or 0
+    except Unformed as why:
+        fault = str(why)
     except etcd.Away as why:
         fault = f"etcd doesn't answer: {why}"
     except (Wrong, Other, Unfit, etcd.Denied, rows.Broken) as why:

@@ -8,9 +8,11 @@ import os
 from dataclasses import replace
 
 from adsd_tools.files import write
+from adsd_tools.rows import store as rows
 from adsd_tools.run import run
 from adsd_tools.shown import line_of
 
+from . import digests
 from .ordered import Other, new_id
 from .position import SUFFIX, Old, Positions, beginning
 from .slots import SLOTS, Slots, Unfit
@@ -39,12 +41,12 @@ def begin(program, store, log, name):
         said = line_of(done.stdout)
         raise Unfit(f"{store} can't be served: adsd serve ended with {done.returncode}" + (f": {said}" if said else ""))
     own, slots = new_id(), Slots(store)
-    positions.make(beginning(log.name, own, name, slots.look()))
+    positions.make(beginning(log.name, own, name, slots.look(), digests.beginning(rows.table(store))))
     slots.close()
     if not log.begin(own):
         os.remove(positions.path)
         raise Other(f"etcd has a log {log.name} already: a new replica begins with a copy of one that follows it")
-    log.register(name.encode(), 0)
+    log.register(name.encode(), 0, positions.read().told())
 
 
 def copied(store, new, name, log_of):
@@ -55,8 +57,10 @@ def copied(store, new, name, log_of):
     for _ in range(TRIES):
         position = Positions(store).read()
         if position is None:
-            raise Unfit(f"{store} is no replica's store: it has no {SUFFIX}")
-        log_of(position).register(name.encode(), position.entry)
+            raise Unfit(f"{store} isn't a replica's store: it has no {SUFFIX}")
+        log = log_of(position)
+        log.anew(name.encode())
+        log.register(name.encode(), position.entry, position.told())
         try:
             made = copied_at(store, new, replace(position, name=name))
             return made

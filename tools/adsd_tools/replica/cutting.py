@@ -5,6 +5,7 @@ import time
 from collections import deque
 
 from .applying import size_of
+from .etcd import Denied
 from .lane import Lane
 from .ordered import MANY
 
@@ -46,13 +47,23 @@ class Cutter:
         found, revision = log.replicas()
         part = log.read(0, 0)
         taken = min(found.values(), default=0)
-        wanted = self.wanted(log, part.first, taken)
+        wanted, below = self.wanted(log, part.first, taken), part.first
         if wanted > part.first:
-            log.compact(wanted, revision)
+            below = self.compacted(log, part.first, wanted, revision)
         if time.monotonic() - self.forgot >= FORGETS:
             self.forgot = time.monotonic()
             log.forgets(part.revision)
-        return log.sweep()
+        return log.sweep(below)
+
+    def compacted(self, log, first, wanted, revision):
+        """Has the log begin at a later entry; where it begins then. An etcd that is full takes nothing that is put:
+        what all have taken is removed nevertheless, and where the log begins is put once there is room."""
+        try:
+            return wanted if log.compact(wanted, revision) else first
+        except Denied as why:
+            if not why.is_full():
+                raise
+            return wanted
 
     def kept(self):
         """How many bytes are kept that all have taken: none where etcd is half full."""
@@ -82,6 +93,8 @@ class Cutter:
             begin = max(1, number - MANY // 8 + 1)
             for place, data in log.read(begin, number - begin + 1).found:
                 self.known(place, len(data))
+            for place in range(begin, number + 1):
+                self.sizes.setdefault(place, 0)  # (what was removed already)
         return self.sizes.get(number, 0)
 
     def forget(self, log):

@@ -242,10 +242,10 @@ class Follower:
         """Looks whether each entry that is kept names the one before it, up to the one that was taken last here."""
         part = await self.beside.call(lambda log: log.read(0, 0))
         at, end = None, self.at
-        number = part.first
+        number = max(part.first, await self.beside.call(lambda log: log.lowest()) or part.first)
         while number <= end.number:
             part = await self.beside.call(lambda log: log.some(number))
-            if part.first > number:
+            if part.first > number or number < (await self.beside.call(lambda log: log.lowest()) or end.number):
                 return  # It was cut meanwhile.
             for place, data in part.found:
                 if place > end.number:

@@ -65,7 +65,7 @@ class Keeper:
     async def held(self):
         asked = time.monotonic()
         if self.lease is not None:
-            if not await self.lane.call(lambda log: log.renew(self.lease)):
+            if not await self.lane.call(lambda log: log.renew(self.lease) and log.keeper() == self.own()):
                 self.lose()
                 return
             self.renewed = asked
@@ -140,7 +140,10 @@ class Keeper:
             more = False
             try:
                 await self.told()
-                if self.is_keeper():
+            except (Away, Denied):
+                pass  # (a full etcd takes nothing that is told, and is to be cut all the more)
+            try:
+                if self.is_keeper() or await self.room.is_forsaken():
                     more = await self.cutter.work()
             except (Away, Denied):
                 pass
@@ -151,7 +154,8 @@ class Keeper:
         number = self.applying.number() - (self.applying.writing is not None)
         now = time.monotonic()
         if number != self.reported[0] or now - self.reported[1] >= STILL:
-            await self.lane.call(lambda log: log.register(self.own(), number))
+            state = self.applying.digests.known.get(number)
+            await self.lane.call(lambda log: log.register(self.own(), number, state))
             self.reported = number, now
 
     def tasks(self):

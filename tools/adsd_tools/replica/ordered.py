@@ -12,7 +12,7 @@ from dataclasses import dataclass
 from typing import Tuple
 
 from .entries import Head, beginning
-from .etcd import PATIENCE, decoded, encoded
+from .etcd import PATIENCE, Away, decoded, encoded
 from .roster import Roster, absent, put_of, range_of, value_of
 from .seal import PLAIN
 
@@ -20,6 +20,9 @@ from .seal import PLAIN
 MANY, PARTS = 128, 8
 # So many entries are removed at once.
 PIECE = 500
+# The keys that say what a log is, and what each of them looks like.
+FORMS = {b"id": rb"[0-9a-f]{32}", b"release": rb"(sources|program) [0-9a-f]{64}", b"first": rb"[0-9]{1,16}",
+         b"head": rb"([0-9]{1,16}) ([0-9a-f]{64})"}
 
 
 class Other(Exception):
@@ -35,6 +38,15 @@ class Parted(Other):
                          "store; where this store is right, begin a new log with it: docs/replicas.md, Parted")
 
 
+class Unformed(Away):
+    """A key that says what the log is was written by hand, and isn't of its form: the log answers nothing until it is
+    put back."""
+
+    def __init__(self, name, key):
+        super().__init__(f"the key {key.decode()} of log {name} is malformed: something else wrote it; "
+                         "adsd-replica repair STORE puts it back: docs/replicas.md, Keys that aren't of their form")
+
+
 @dataclass(frozen=True)
 class Part:
     """A part of the log: its head, the number of its first entry, entries as (number, bytes), and etcd's revision."""
@@ -45,22 +57,20 @@ class Part:
     revision: int
 
 
-def number_of(value, what):
-    if value is None or not value.isdigit():
-        raise Other(f"the log has no {what}")
-    return int(value)
-
-
 def line_of(head):
     """What stands in the log for its head."""
     return b"%d " % head.number + head.id.hex().encode()
 
 
 def head_of(value):
-    found = re.fullmatch(rb"([0-9]+) ([0-9a-f]{64})", value or b"")
-    if not found:
-        raise Other("the log has no head with an id")
-    return Head(int(found[1]), bytes.fromhex(found[2].decode()))
+    """The head that a value of its form tells."""
+    number, own = value.split(b" ")
+    return Head(int(number), bytes.fromhex(own.decode()))
+
+
+def is_formed(key, value):
+    """Whether a key has a value of its form."""
+    return value is not None and re.fullmatch(FORMS[key], value) is not None
 
 
 class Ordered(Roster):
@@ -103,9 +113,9 @@ class Ordered(Roster):
         """Why the log isn't this one."""
         _, answers, _ = self.txn([], [range_of(self.key(b"id")), range_of(self.key(b"release"))])
         own, release = map(value_of, answers)
-        if own != self.own:
+        if self.formed(b"id", own) != self.own:
             return Other(f"etcd has no log {self.name} of the id {self.own.decode()}")
-        return self.other_release(release)
+        return self.other_release(self.formed(b"release", release))
 
     def other_release(self, release):
         if release is None:
@@ -115,6 +125,13 @@ class Ordered(Roster):
         return Other(f"log {self.name} is of the release {release.decode('ascii', 'replace')}, and the program here of "
                      f"{mine}: two releases may answer one entry differently; run the log's release here, or take the "
                      "log to this one by adsd-replica upgrade: docs/replicas-upgrade.md")
+
+    def formed(self, key, value):
+        """The value of a key that says what the log is; Unformed where it isn't of its form. (Of an id or a release
+        that isn't there others tell.)"""
+        if is_formed(key, value) or (value is None and key in (b"id", b"release")):
+            return value
+        raise Unformed(self.name, key)
 
     # ---- beginning
 
@@ -146,12 +163,12 @@ class Ordered(Roster):
     def find(self):
         """The id of the log of this name; None where there is none."""
         answer = self.etcd.call("kv/range", {"key": encoded(self.key(b"id"))})
-        return value_of({"response_range": answer})
+        return self.formed(b"id", value_of({"response_range": answer}))
 
     def its_release(self):
         """The release that the log is of; Other where it is one of before."""
         answer = self.etcd.call("kv/range", {"key": encoded(self.key(b"release"))})
-        found = value_of({"response_range": answer})
+        found = self.formed(b"release", value_of({"response_range": answer}))
         if found is None:
             raise self.other_release(None)
         return found
@@ -173,7 +190,7 @@ class Ordered(Roster):
         own, now, behind, release = map(value_of, answers)
         if own != self.own or (self.release is not None and release != self.release):
             raise self.other_log()
-        return False, head_of(now), behind
+        return False, head_of(self.formed(b"head", now)), behind
 
     def read(self, number, many=MANY, patience=PATIENCE):
         """The log from an entry on. It is as new as the question."""
@@ -186,11 +203,13 @@ class Ordered(Roster):
         kept = answers[2]["response_range"].get("kvs", ()) if many else ()
         numbered = ((self.number(one["key"]), decoded(one.get("value"))) for one in kept)
         found = tuple((place, data) for place, data in numbered if place is not None)
-        return Part(head_of(value_of(answers[0])), number_of(value_of(answers[1]), "first"), found, revision)
+        head, first = self.formed(b"head", value_of(answers[0])), self.formed(b"first", value_of(answers[1]))
+        return Part(head_of(head), int(first), found, revision)
 
     def some(self, number, patience=PATIENCE):
-        """The log from an entry on, as far as so many transactions put it: what one put has 1.5 MB at most, so that is
-        how much comes, however large the entries are."""
+        """The log from an entry on, as far as so many transactions put it, and one entry more: what one put has 1.5 MB
+        at most, so that is how much comes, however large the entries are. (Others may be put between the two questions:
+        the one more names the last of those that were counted.)"""
         asked = {"key": encoded(self.entry(number)), "range_end": encoded(self.entry(number + MANY)),
                  "keys_only": True, "sort_order": "ASCEND", "sort_target": "KEY"}
         many, parts = 1, set()
@@ -200,7 +219,7 @@ class Ordered(Roster):
                 break
             place = self.number(one["key"])
             many = max(many, place - number + 1) if place is not None else many
-        return self.read(number, many, patience)
+        return self.read(number, many + 1, patience)
 
     def head(self):
         """The last entry's number and id, as of now."""
@@ -227,10 +246,10 @@ class Ordered(Roster):
             if number is not None:
                 found.append((number, value))
             elif name == b"head":
-                head = head_of(value)
-            elif name == b"id" and value != self.own:
+                head = head_of(self.formed(name, value))
+            elif name == b"id" and self.formed(name, value) != self.own:
                 raise Other(f"log {self.name} was begun anew: its id is {value.decode('ascii', 'replace')}")
-            elif name == b"release" and value != self.release:
+            elif name == b"release" and self.formed(name, value) != self.release:
                 raise self.other_release(value)
         return found, head
 
@@ -248,10 +267,10 @@ class Ordered(Roster):
         done, _, _ = self.txn(asked, [put_of(self.key(b"first"), b"%d" % first)])
         return done
 
-    def sweep(self):
+    def sweep(self, first=None):
         """Removes some of the entries below the first that is kept, and has etcd forget them; whether there were as
         many as are removed at once."""
-        first = self.read(0, 0).first
+        first = self.read(0, 0).first if first is None else first
         below = {"key": encoded(self.entry(0)), "range_end": encoded(self.entry(first))}
         found = self.etcd.call("kv/range", {**below, "keys_only": True, "limit": str(PIECE), "sort_order": "ASCEND",
                                             "sort_target": "KEY"})
@@ -261,6 +280,27 @@ class Ordered(Roster):
             gone = self.etcd.call("kv/deleterange", {"key": kept[0]["key"], "range_end": end})
             self.forgets(int(gone["header"]["revision"]))
         return len(kept) == PIECE
+
+    # ---- what is read where the head or others can't be
+
+    def keys_of_form(self):
+        """What stands for the keys that say what the log is."""
+        _, answers, _ = self.txn([], [range_of(self.key(key)) for key in FORMS])
+        return dict(zip(FORMS, map(value_of, answers)))
+
+    def raw(self, number, many):
+        """So many entries from one on, by number and bytes, whatever the head is."""
+        asked = {"key": encoded(self.entry(number)), "range_end": encoded(self.entry(number + many)),
+                 "sort_order": "ASCEND", "sort_target": "KEY"}
+        found = [(self.number(one["key"]), one) for one in self.etcd.call("kv/range", asked).get("kvs", ())]
+        return [(place, decoded(one.get("value"))) for place, one in found if place is not None]
+
+    def lowest(self):
+        """The number of the first entry that stands there; None where none does."""
+        asked = {"key": encoded(self.entry(0)), "range_end": encoded(self.entry(10**16 - 1)), "keys_only": True,
+                 "limit": "20", "sort_order": "ASCEND", "sort_target": "KEY"}
+        found = [self.number(one["key"]) for one in self.etcd.call("kv/range", asked).get("kvs", ())]
+        return min((place for place in found if place is not None), default=None)
 
     # ---- entries that are passed over
 

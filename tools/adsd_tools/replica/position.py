@@ -8,10 +8,11 @@ that of the position before it and the one entry."""
 import os
 import zlib
 from dataclasses import dataclass, replace
+from typing import Optional
 
 from adsd_tools.files import write
 
-from . import entries
+from . import digests, entries
 from .slots import Unfit
 
 SUFFIX, BLOCK = ".position", 4096
@@ -21,7 +22,8 @@ WORD, OLD = b"adsd-replica 2", b"adsd-replica 1 "
 @dataclass(frozen=True)
 class Position:
     """The log's name and id, the replica's name; the number and id of the last entry that the program answered; and the
-    generation and the number of records of the live slot after that."""
+    generation and the number of records of the live slot after that; and the running hash (digests.py), where it is
+    known: a position of before has none."""
 
     log: str
     own: bytes
@@ -30,15 +32,23 @@ class Position:
     id: bytes
     generation: int
     records: int
+    digest: Optional[bytes] = None
 
     def line(self):
         told = f"log={self.log} own={self.own.decode()} name={self.name} entry={self.entry} id={self.id.hex()} "
-        text = WORD + b" " + (told + f"generation={self.generation} records={self.records}").encode()
+        told += f"generation={self.generation} records={self.records}"
+        text = WORD + b" " + (told + (f" digest={self.digest.hex()}" if self.digest else "")).encode()
         return text + b" sum=%08x\n" % zlib.crc32(text)
 
-    def behind(self, entry, place):
-        """The position after an entry."""
-        return replace(self, entry=entry.number, id=entry.id, generation=place.generation, records=place.records)
+    def behind(self, entry, place, body):
+        """The position after an entry, for which the store has appended this body, or nothing."""
+        digest = digests.after(self.digest, entry.id, body) if self.digest else None
+        return replace(self, entry=entry.number, id=entry.id, generation=place.generation, records=place.records,
+                       digest=digest)
+
+    def told(self):
+        """What is told in the log of the running hash here; None where it isn't known."""
+        return digests.told(self.id.hex(), self.digest.hex()) if self.digest else None
 
     def head(self):
         return entries.Head(self.entry, self.id)
@@ -63,7 +73,8 @@ def read_line(block):
         return None
     pairs = dict(piece.partition("=")[::2] for piece in text[len(WORD) + 1 :].decode().split(" "))
     return Position(pairs["log"], pairs["own"].encode(), pairs["name"], int(pairs["entry"]),
-                    bytes.fromhex(pairs["id"]), int(pairs["generation"]), int(pairs["records"]))
+                    bytes.fromhex(pairs["id"]), int(pairs["generation"]), int(pairs["records"]),
+                    bytes.fromhex(pairs.get("digest", "")) or None)
 
 
 class Old(Unfit):
@@ -111,6 +122,6 @@ class Positions:
             self.file = None
 
 
-def beginning(log, own, name, place):
+def beginning(log, own, name, place, digest):
     """The position of a store that a log begins with."""
-    return Position(log, own, name, 0, entries.beginning(own).id, place.generation, place.records)
+    return Position(log, own, name, 0, entries.beginning(own).id, place.generation, place.records, digest)

@@ -64,12 +64,12 @@ def alarms(etcd):
 
 
 class Room:
-    """What one replica knows of etcd's room. `keeper` tells whether it acts."""
+    """What one replica knows of etcd's room. `is_keeper` tells whether it acts; `hurry` has it look at once."""
 
     def __init__(self, log, options, say):
         self.lane, self.say, self.acts = Lane(log), say, options.etcd_upkeep == "keeper"
         self.members, self.alarms, self.quotas, self.is_warned, self.told = [], [], {}, False, set()
-        self.done, self.is_keeper = 0.0, lambda: False
+        self.done, self.is_keeper, self.hurry = 0.0, lambda: False, asyncio.Event()
 
     def fullness(self):
         """The part of the quota that the fullest member has."""
@@ -77,7 +77,7 @@ class Room:
 
     def full(self):
         """Why no change is taken, or nothing."""
-        if self.fullness() >= FULL or any(alarm == NO_SPACE for _, alarm in self.alarms):
+        if self.fullness() >= FULL or self.is_alarmed():
             return FULL_TOLD.format(max(self.fullness(), 0.0))
         return ""
 
@@ -92,11 +92,15 @@ class Room:
         while True:
             try:
                 await self.look()
-                if self.is_keeper():
+                if self.is_keeper() or await self.is_forsaken():
                     await self.act()
             except (Away, Denied):
                 pass
-            await asyncio.sleep(LOOK if not self.is_half() else LOOK / 5)
+            self.hurry.clear()
+            try:
+                await asyncio.wait_for(self.hurry.wait(), LOOK if not self.is_half() else LOOK / 5)
+            except asyncio.TimeoutError:
+                pass
 
     async def look(self):
         found = await self.lane.call(lambda log: members(log.etcd, self.quotas))
@@ -110,6 +114,15 @@ class Room:
             if alarm not in self.told:
                 self.say(f"warning: etcd has the alarm {alarm}")
         self.told = {alarm for _, alarm in self.alarms}
+
+    def is_alarmed(self):
+        """Whether etcd takes nothing that is put."""
+        return any(alarm == NO_SPACE for _, alarm in self.alarms)
+
+    async def is_forsaken(self):
+        """Whether etcd takes nothing that is put, and there is no keeper: it gives no lease then, so each replica does
+        what a keeper would do for room."""
+        return self.is_alarmed() and await self.lane.call(lambda log: log.keeper()) is None
 
     async def act(self):
         """Frees room in one member's file, or takes an alarm away, or says that it has to be done."""

@@ -1,14 +1,27 @@
-"""What replicas tell of themselves in etcd, below /adsd/NAME/: `replica/` and a name (how far it is), `told/` and a
-name (when it said so, in seconds since 1970), `alive/` and a name (which process runs it, under a lease), `keeper` (who puts
-steps and runs, under one), `request/` and the number of a named request (which entry it was, under one), and `compare/`
-(which entry the stores are compared at, and the sums of their rows).
+"""What replicas tell of themselves in etcd, below /adsd/NAME/:
+
+- `replica/` and a name: how far it is; `told/` and one: when it said so, in seconds since 1970.
+- `state/` and a name: its running hash (digests.py), and at which entry; `sum/` and `listed/` and one: the last sum of
+  its rows, and of what its program lists.
+- `alive/` and a name: which process runs it, under a lease; `keeper`: who puts steps and runs, under one.
+- `request/` and the number of a named request: which entry it was, under a lease.
+- `compare/`: which entry the stores are compared at, and the sums of their rows.
 
 All of it may have been written by hand: what isn't of its form is passed over."""
 
 import json
+import re
 import time
 
 from .etcd import Denied, decoded, encoded, whole
+
+
+# What is told of a replica's rows: the number and the id of an entry, and a hash.
+TOLD = re.compile(rb"([0-9]{1,16}) ([0-9a-f]{64} [0-9a-f]{64})")
+
+
+def last_of(number, value):
+    return f"{number} {value}".encode()
 
 
 def put_of(key, value, **more):
@@ -30,31 +43,47 @@ def absent(key):
     return {"key": encoded(key), "target": "CREATE", "result": "EQUAL", "create_revision": "0"}
 
 
+def is_leased(found):
+    """Whether a key that was found goes when a lease of etcd ends."""
+    return found.get("lease", "0") != "0"
+
+
 class Roster:
     """The part of a log that is about its replicas."""
 
-    def values(self, prefix):
-        """What stands behind a prefix, by the rest of the key, and etcd's revision."""
+    def values(self, prefix, leased=False):
+        """What stands behind a prefix, by the rest of the key, and etcd's revision; what is under a lease alone, where
+        that is wanted: what somebody wrote by hand would stand there for ever."""
         answer = self.etcd.call("kv/range", whole(self.key(prefix)))
-        at = len(self.key(prefix))
-        return ({decoded(one["key"])[at:]: decoded(one.get("value")) for one in answer.get("kvs", ())},
-                int(answer["header"]["revision"]))
+        at, found = len(self.key(prefix)), [one for one in answer.get("kvs", ()) if not leased or is_leased(one)]
+        return {decoded(one["key"])[at:]: decoded(one.get("value")) for one in found}, int(answer["header"]["revision"])
 
-    def register(self, name, number):
-        """Says how far a replica is. Other where the log is kept from a later entry on only."""
+    def held(self, key):
+        """The value of a key that is under a lease, None where there is none; and that nobody has written it since."""
+        found = self.etcd.call("kv/range", {"key": encoded(key)}).get("kvs")
+        if not found:
+            return None, absent(key)
+        (one,) = found
+        same = {"key": encoded(key), "target": "MOD", "result": "EQUAL", "mod_revision": one["mod_revision"]}
+        return (decoded(one.get("value")) if is_leased(one) else None), same
+
+    def register(self, name, number, state=None):
+        """Says how far a replica is, and what its running hash is there, where it is known. Other where the log is kept
+        from a later entry on only."""
         while True:
             first = self.read(0, 0).first
             self.wants(number + 1, first)
             kept = self.is_value(self.key(b"first"), b"%d" % first)
             told = put_of(self.key(b"told/" + name), b"%d" % time.time())
-            done, _, _ = self.txn([*self.is_own(), kept], [put_of(self.key(b"replica/" + name), b"%d" % number), told])
-            if done:
+            puts = [put_of(self.key(b"replica/" + name), b"%d" % number), told]
+            puts += [put_of(self.key(b"state/" + name), last_of(number, state))] if state else []
+            if self.txn([*self.is_own(), kept], puts)[0]:
                 return
 
     def forget(self, name):
         """Whether there was a replica of this name, which is told of no longer."""
         answer = self.etcd.call("kv/deleterange", {"key": encoded(self.key(b"replica/" + name))})
-        for kind in (b"told/", b"alive/"):
+        for kind in (b"told/", b"alive/", b"state/", b"sum/", b"listed/"):
             self.etcd.call("kv/deleterange", {"key": encoded(self.key(kind + name))})
         return answer.get("deleted", "0") != "0"
 
@@ -87,29 +116,27 @@ class Roster:
     def keep(self, name, lease):
         """Whether this replica is the keeper from now on, as long as its lease lasts."""
         key = self.key(b"keeper")
-        done, _, _ = self.txn([*self.is_own(), absent(key)], [put_of(key, name, lease=lease)])
-        return done
+        other, same = self.held(key)
+        return other is None and self.txn([*self.is_own(), same], [put_of(key, name, lease=lease)])[0]
 
     def keeper(self):
         """The name of the keeper, or None."""
-        answer = self.etcd.call("kv/range", {"key": encoded(self.key(b"keeper"))})
-        return value_of({"response_range": answer})
+        return self.held(self.key(b"keeper"))[0]
 
     # ---- who runs
 
     def appear(self, name, told, lease):
         """Says that a replica runs, in which process. Nothing, or what runs under its name: another store's."""
         key = self.key(b"alive/" + name)
-        now = value_of({"response_range": self.etcd.call("kv/range", {"key": encoded(key)})})
+        now, same = self.held(key)
         if now is not None and text_of(now).get("id") not in (None, told["id"]):
             return text_of(now)
-        before = absent(key) if now is None else self.is_value(key, now)
-        done, _, _ = self.txn([before], [put_of(key, json.dumps(told).encode(), lease=lease)])
+        done, _, _ = self.txn([same], [put_of(key, json.dumps(told).encode(), lease=lease)])
         return None if done else {"id": "", "host": "another process"}
 
     def alive(self):
         """Which replicas run, by name, with what each tells of itself."""
-        return {name: text_of(value) for name, value in self.values(b"alive/")[0].items()}
+        return {name: text_of(value) for name, value in self.values(b"alive/", leased=True)[0].items()}
 
     # ---- stores that are compared
 
@@ -131,6 +158,21 @@ class Roster:
 
     def tell_sum(self, mark, name, value):
         self.txn([], [put_of(self.key(b"compare/" + mark + b"/" + name), value)])
+
+    def tell_last(self, kind, name, number, value):
+        """Leaves for the other replicas what is so after an entry."""
+        self.txn([], [put_of(self.key(kind + name), last_of(number, value))])
+
+    def last(self, kind):
+        """What replicas have told last, by name, of their running hashes (`state/`), of the sums of their rows (`sum/`)
+        and of what their programs list (`listed/`): the number of an entry, and its id with what it was then."""
+        found = {name: TOLD.fullmatch(value) for name, value in self.values(kind)[0].items()}
+        return {name: (int(one[1]), one[2].decode()) for name, one in found.items() if one}
+
+    def anew(self, name):
+        """A replica of this name begins with a new store: what the one before told of its rows counts no more."""
+        for kind in (b"state/", b"sum/", b"listed/"):
+            self.etcd.call("kv/deleterange", {"key": encoded(self.key(kind + name))})
 
     def forget_sums(self, mark):
         self.etcd.call("kv/deleterange", whole(self.key(b"compare/" + mark)))

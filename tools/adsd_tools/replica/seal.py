@@ -43,7 +43,7 @@ def private_text(path):
                 raise Wrong(f"{path} may be read or written by others than its owner, or isn't yours: chmod 600")
             return file.read().strip()
     except (OSError, UnicodeDecodeError) as fault:
-        raise Wrong(f"{path}: {getattr(fault, 'strerror', None) or 'it is no text'}") from None
+        raise Wrong(f"{path}: {getattr(fault, 'strerror', None) or 'not text'}") from None
 
 
 def public_keys(path):
@@ -55,7 +55,7 @@ def public_keys(path):
                 raise Wrong(f"{path} may be written by others than its owner")
             lines = [line.split() for line in file if line.strip() and not line.startswith("#")]
     except (OSError, UnicodeDecodeError) as fault:
-        raise Wrong(f"{path}: {getattr(fault, 'strerror', None) or 'it is no text'}") from None
+        raise Wrong(f"{path}: {getattr(fault, 'strerror', None) or 'not text'}") from None
     for words in lines:
         public = secret_of(words[0], path)
         found[name_of(public)] = public, words[1] if len(words) > 1 else "?"
@@ -179,5 +179,5 @@ def password_of(path):
     text = private_text(path)
     found = re.match(r"[^\r\n]+", text)
     if not found:
-        raise Wrong(f"{path}: no password stands there")
+        raise Wrong(f"{path}: there is no password in it")
     return found[0]

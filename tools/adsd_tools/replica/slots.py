@@ -15,12 +15,13 @@ class Unfit(Exception):
 
 @dataclass(frozen=True)
 class Place:
-    """A slot, its generation, its number of records, and the offset of the gate that ends them."""
+    """A slot, its generation, its number of records, and the offsets of the gate that ends them and of the last one."""
 
     slot: int
     generation: int
     records: int
     end: int
+    last: int = HEAD
 
 
 class Slots:
@@ -46,7 +47,7 @@ class Slots:
         if head[:1] != OPEN:
             return 0
         if len(head) < HEAD or head[1:5] != b"ADSD" or head[5] != 2:
-            raise Unfit(f"{self.store} is no store of version 2: adsd serve makes one of it")
+            raise Unfit(f"{self.store} isn't a store of version 2: run adsd serve on it once")
         return int.from_bytes(head[6:], "big")
 
     def look(self):
@@ -63,12 +64,17 @@ class Slots:
 
     def counted(self, place):
         """The same place with the records that stand after it."""
-        file, records, end = self.files[place.slot], place.records, place.end
+        file, records, end, last = self.files[place.slot], place.records, place.end, place.last
         while True:
             head = os.pread(file, RECORD, end)
             if head[:1] != OPEN:
-                return Place(place.slot, place.generation, records, end)
-            records, end = records + 1, end + RECORD + int.from_bytes(head[1:], "big")
+                return Place(place.slot, place.generation, records, end, last)
+            records, last, end = records + 1, end, end + RECORD + int.from_bytes(head[1:], "big")
+
+    def body(self):
+        """The body of the last record, as of the last look."""
+        place = self.known
+        return os.pread(self.files[place.slot], place.end - place.last - RECORD, place.last + RECORD)
 
     def cut(self, generation, records):
         """The bytes of a slot of this generation with so many records, as one piece after the other, the gate after

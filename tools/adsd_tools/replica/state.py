@@ -5,6 +5,7 @@ import time
 from adsd_tools.shown import shown, text_of
 
 from .etcd import Away, Denied
+from .ordered import Unformed
 from .room import FULL, HALF, alarms, members
 
 WELL, LOOK, STOPS = 0, 1, 3
@@ -109,6 +110,8 @@ def health(log_of, behind):
     try:
         log = log_of()
         state = of_log(log)
+    except Unformed as why:
+        return STOPS, [str(why)]
     except (Away, Denied) as why:
         return STOPS, [f"etcd doesn't answer: {why}"]
     found = list(faults(state, behind))

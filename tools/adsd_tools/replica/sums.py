@@ -1,29 +1,28 @@
-"""Whether all replicas hold the same rows, while they run: each tells a sum of its rows as they were at one entry.
+"""Whether all replicas hold the same rows, while they run: each tells its running hash (digests.py) as it goes, and,
+where it is asked, a sum of its rows as its store has them at one entry. Each looks at what the others tell.
 
-Which entry that is stands in etcd under a mark that whoever asks has drawn. A replica cuts what its store was then, as
-for a copy, and sums the rows of that."""
+Which entry that is stands in etcd under a mark that whoever asks has drawn: an operator, or the keeper now and then. A
+replica cuts what its store was then, as for a copy, and sums the rows of that."""
 
 import asyncio
 import hashlib
 import time
 
 from adsd_tools.rows import store as rows
+from adsd_tools.shown import text_of
 
 from .copying import cut_to, removed
+from .digests import is_of_one_entry, judged, sum_of, told
 from .etcd import Away, Denied
 from .lane import Lane
 from .slots import Unfit
 
 SUFFIX = ".sum"
 LOOK = 2.0
-
-
-def sum_of(table):
-    """The sum of some rows."""
-    made = hashlib.sha256()
-    for (kind, number), value in sorted(table.items()):
-        made.update(b"%d %d %d " % (kind, number, len(value)) + value)
-    return made.hexdigest()
+# So many sums are kept in mind; and so long a replica that was seen to run counts, in seconds.
+KEPT, RUNS = 100, 60.0
+# So long the keeper waits for what the others tell, where it asks by itself, in seconds.
+LONG = 60
 
 
 class At:
@@ -34,10 +33,15 @@ class At:
 
 
 class Sums:
-    """What one replica tells."""
+    """What one replica tells, and makes of what others tell: Differs where it has something else than most."""
 
-    def __init__(self, log, applying):
-        self.lane, self.applying, self.said = Lane(log), applying, set()
+    def __init__(self, log, applying, listing, every, is_keeper, say):
+        self.listing = listing
+        self.lane, self.applying, self.said, self.every = Lane(log), applying, set(), every
+        self.is_keeper, self.say, self.beside, self.named = is_keeper, say, Lane(log), set()
+        # The last sums that were made here, of the file and of the program, by the numbers of the entries; and when
+        # each replica was seen to run.
+        self.sums, self.listed, self.seen = {}, {}, {}
 
     async def work(self):
         while True:
@@ -47,17 +51,61 @@ class Sums:
                 pass
             await asyncio.sleep(LOOK)
 
+    async def checks(self):
+        """As the keeper asks all for their sums now and then, also where nothing is put."""
+        while self.every:
+            await asyncio.sleep(self.every)
+            try:
+                if self.is_keeper():
+                    await self.beside.call(lambda log: compared(log, LONG))
+            except (Away, Denied):
+                pass
+
     async def turn(self):
-        """Tells the sums that are asked for, of entries that the store has taken."""
+        """Tells the sums that are asked for, of entries that the store has taken, and looks at what others told."""
         asked, _ = await self.lane.call(lambda log: log.asked_sums())
-        for mark in self.said - set(asked):
-            self.said.discard(mark)
-        name = self.applying.position.name.encode()
+        self.said &= set(asked)
         for mark, number in asked.items():
             if mark not in self.said and number <= self.applying.number():
                 self.said.add(mark)
                 made = await self.lane.call(lambda log: self.made(number))
-                await self.lane.call(lambda log: log.tell_sum(mark, name, made.encode()))
+                await self.lane.call(lambda log: log.tell_sum(mark, self.own(), made.encode()))
+                await self.leaves(b"sum/", number, self.sums)
+                await self.lists(number)
+        now = time.monotonic()
+        self.seen.update((name, now) for name in await self.lane.call(lambda log: log.alive()))
+        for what, kind, known in (("the running hash", b"state/", self.applying.digests.known),
+                                  ("the sum of the rows", b"sum/", self.sums),
+                                  ("what the program lists", b"listed/", self.listed)):
+            self.look(what, known, await self.lane.call(lambda log: log.last(kind)))
+
+    async def lists(self, number):
+        """Tells what the program lists after an entry, where it stands there still."""
+        found = await self.listing.sum_at(number)
+        if found is not None:
+            self.listed[number] = told(self.applying.digests.ids[number], found)
+            await self.leaves(b"listed/", number, self.listed)
+
+    async def leaves(self, kind, number, known):
+        """Leaves for the others what is known here after an entry."""
+        if number in known:
+            await self.lane.call(lambda log: log.tell_last(kind, self.own(), number, known[number]))
+
+    def own(self):
+        return self.applying.position.name.encode()
+
+    def look(self, what, known, others):
+        """Looks at what others told, after entries of which it is known here. Who runs and isn't at such an entry just
+        now counts as one that may be alike."""
+        others = {name: (number, value) for name, (number, value) in others.items()
+                  if name != self.own() and number in known and is_of_one_entry(value, known[number])}
+        alike = {text_of(name): value == known[number] for name, (number, value) in others.items()}
+        least = min((number for number, value in others.values() if value != known[number]), default=0)
+        run = {name for name, since in self.seen.items() if time.monotonic() - since < RUNS}
+        count = len({self.own(), *others, *run})
+        for name in set(judged(f"{what} after entry {least}", alike, count)) - self.named:
+            self.named.add(name)
+            self.say(f"warning: {what} after entry {least} is another one at replica {name}, and most have this one's")
 
     def made(self, number):
         """The number of an entry and the sum of the rows behind it, or why there is none."""
@@ -68,7 +116,11 @@ class Sums:
         try:
             removed(copy)
             cut_to(store, copy, At(*place))
-            return f"{number} {sum_of(rows.table(copy))}"
+            made = sum_of(rows.table(copy))
+            self.sums[number] = told(self.applying.digests.ids[number], made)
+            for some in (self.sums, self.listed):
+                some.pop(min(some) if len(some) > KEPT else None, None)
+            return f"{number} {made}"
         except (OSError, rows.Broken, Unfit) as why:
             return f"{number} - {why}"
         finally:
@@ -76,6 +128,7 @@ class Sums:
 
     def close(self):
         self.lane.close()
+        self.beside.close()
 
 
 def compared(log, seconds):

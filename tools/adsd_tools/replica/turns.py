@@ -1,6 +1,7 @@
 """Whose frame is next at a replica: as at a bridge, but changes go by way of the log."""
 
 import asyncio
+import time
 
 from adsd_tools.ldap import messages
 from adsd_tools.ldap.program import MESSAGE
@@ -14,9 +15,8 @@ from .naming import user_of, within
 from .ordered import Other
 from .rates import Rates
 
-# So often a change is judged again that has to follow what was read, where others come between.
-TRIES = 12
 PAUSE = 0.2
+OFTEN = "others change the directory too often; nothing was changed"
 BEHIND = "the log doesn't tell how far it goes, or the replica is too far behind it"
 SILENT = "the log doesn't answer; nothing was changed now, and whether the request was made before isn't known"
 
@@ -31,7 +31,7 @@ class LogTurns(Turns):
         self.appender, self.heads, self.room, self.drains = None, None, None, False
         # How many frames each connection that judges a change asked for reading, which entry its change has to follow,
         # and which name its request has.
-        self.reads, self.behind, self.names = {}, {}, {}
+        self.reads, self.behind, self.names, self.exact = {}, {}, {}, asyncio.Lock()
 
     async def ask(self, kind, connection, body, changes=False):
         """The body of an answer; of a change that of the own program to its entry. No other frame of a client that
@@ -95,24 +95,36 @@ class LogTurns(Turns):
 
     async def judged(self, connection, judge, send, exact):
         """The reply to a change that is judged before, by what is read here; where that has to be so still when the
-        change is made, its entry has to follow the last one that was taken here."""
-        for _ in range(TRIES):
-            async with self.held(connection):
-                number = self.applying.number()
-                self.reads[connection] = 0
+        change is made, its entry has to follow the last one that was taken here. Of these one is put after the other:
+        they would only overtake each other."""
+        made, number = await self.judging(connection, judge, exact)
+        if number is None:
+            return await send(*made)
+        end = time.monotonic() + self.patience
+        async with self.exact:
+            while number is not None:
                 try:
-                    made = await judge()
-                    if exact and self.reads[connection]:
-                        self.behind[connection] = number
+                    self.behind[connection] = number
+                    return await send(*made)
+                except Overtaken:
+                    if time.monotonic() >= end:
+                        raise Refused(messages.BUSY, OFTEN) from None
+                    await self.applying.reaches(self.heads.known.number)
                 finally:
-                    del self.reads[connection]
+                    self.behind.pop(connection, None)
+                made, number = await self.judging(connection, judge, exact)
+        return await send(*made)
+
+    async def judging(self, connection, judge, exact):
+        """What a change is made of; and which entry it has to follow, None where nothing was read for it."""
+        async with self.held(connection):
+            number = self.applying.number()
+            self.reads[connection] = 0
             try:
-                return await send(*made)
-            except Overtaken:
-                await self.applying.reaches(self.heads.known.number)
+                made = await judge()
+                return made, number if exact and self.reads[connection] else None
             finally:
-                self.behind.pop(connection, None)
-        raise Refused(messages.BUSY, "others change the directory too often; nothing was changed")
+                del self.reads[connection]
 
     # ---- named requests
 

@@ -7,7 +7,7 @@ from urllib.parse import urlsplit
 
 from adsd_tools.ldap import words as ldap
 
-from .applying import CONNECTION
+from .listing import CONNECTION
 
 ABOUT = ("Replicas of a store: each a process with a store and an `adsd serve` of its own, which takes the changes of "
          "an ordered log in etcd and serves LDAP clients. This script is not proved.")
@@ -22,6 +22,8 @@ BEHIND = """
     adsd-replica compare                     whether all replicas that run hold the same rows
     adsd-replica compare STORE STORE         whether two stores do
     adsd-replica skip ENTRY STORE            has all replicas pass over an entry that none takes; STORE stands before it
+    adsd-replica position STORE              tells where a store stands in its log, running or not
+    adsd-replica repair STORE                puts back what says what a log is, where somebody wrote over it
     adsd-replica key FILE [--name a]         makes a key to seal entries by, or with --name one to sign them by
 
 Beside STORE stand STORE.b and STORE.position, where the replica stands in the log. docs/replicas.md has the rest.
@@ -37,7 +39,7 @@ USUAL = "http://127.0.0.1:2379"
 def name(text):
     """The name of a log or of a replica."""
     if not re.fullmatch(r"[A-Za-z0-9._-]{1,64}", text):
-        raise argparse.ArgumentTypeError(f"{text!r} is no name of letters, digits and ._-, 64 at most")
+        raise argparse.ArgumentTypeError(f"{text!r} isn't a name of letters, digits and ._-, 64 at most")
     return text
 
 
@@ -51,7 +53,7 @@ def urls(text):
         except ValueError:
             good = False
         if not good:
-            raise argparse.ArgumentTypeError(f"{one!r} is no address as {USUAL}")
+            raise argparse.ArgumentTypeError(f"{one!r} isn't an address as {USUAL}")
     return found
 
 
@@ -63,7 +65,7 @@ def unit(units, low, high):
         number = int(found[1]) * units[found[2]] if found and found[2] in units else -1
         if not low <= number <= high:
             told = ", ".join(one for one in units if one)
-            raise argparse.ArgumentTypeError(f"{text!r} is no number with one of {told} behind it, or without, from "
+            raise argparse.ArgumentTypeError(f"{text!r} isn't a number, with one of {told} after it or without, from "
                                              f"{low} to {high}")
         return number
 
@@ -78,7 +80,7 @@ def near(text):
     """An address of this machine alone, and a port."""
     host, port = ldap.address(text)
     if not is_loopback(host):
-        raise argparse.ArgumentTypeError(f"{text!r} is no loopback address")
+        raise argparse.ArgumentTypeError(f"{text!r} isn't a loopback address")
     return host, port
 
 
@@ -126,7 +128,7 @@ def words_of_log(form):
     form.add_argument("--remember", metavar="TIME", type=SECONDS, default=3600,
                       help="how long the log knows the names of requests at least (1h)")
     form.add_argument("--check-every", metavar="TIME", type=SECONDS, default=3600,
-                      help="look through the whole log so often; 0 never (1h)")
+                      help="look through the whole log, and compare what replicas hold, so often; 0 never (1h)")
     form.add_argument("--etcd-upkeep", choices=("keeper", "told"), default="keeper",
                       help="whether the keeper has etcd free room in its files and takes its alarms away, or says that "
                            "it has to be done (%(default)s)")
@@ -145,7 +147,7 @@ def words_of_keys(form, signs=True):
 def parsed(arguments):
     form = ldap.Words(prog="adsd-replica", description=ABOUT, epilog=BEHIND,
                       formatter_class=argparse.RawDescriptionHelpFormatter)
-    words = "begin|copy|serve|status|health|forget|upgrade|compare|skip|key"
+    words = "begin|copy|serve|status|health|forget|upgrade|compare|skip|position|repair|key"
     of_word = form.add_subparsers(dest="word", required=True, metavar=words)
 
     def word(called, told):
@@ -199,6 +201,11 @@ def words_of_entries(word):
     skip.add_argument("store", metavar="STORE", type=ldap.store, help="of a replica that has ended at this entry")
     words_of_keys(skip, signs=False)
     words_of_etcd(skip, has_log=False)
+    position = word("position", "tells where a store stands in its log, whether its replica runs or not")
+    position.add_argument("store", metavar="STORE", type=ldap.store)
+    repair = word("repair", "puts back the log's id, release, head and first entry, where they aren't of their form")
+    repair.add_argument("store", metavar="STORE", type=ldap.store, help="of the replica that is the furthest")
+    words_of_etcd(repair, has_log=False)
     key = word("key", "makes a key to seal entries by, or to sign them by, and prints the line for --keys")
     key.add_argument("file", metavar="FILE")
     key.add_argument("--name", type=name, help="whose key it is, to sign by")
@@ -206,7 +213,7 @@ def words_of_entries(word):
 
 def check(form, asked):
     """Ends with a fault where the words don't go together."""
-    if asked.word == "key":
+    if asked.word in ("key", "position"):
         return
     if asked.word == "compare" and len(asked.stores) not in (0, 2):
         form.error("compare takes two stores, or none: then it asks the replicas that run")
@@ -214,7 +221,7 @@ def check(form, asked):
         form.error("--etcd-user and --etcd-password go together")
     away = [one for one in asked.etcd if urlsplit(one).scheme == "http" and not is_loopback(urlsplit(one).hostname)]
     if away and not asked.etcd_clear:
-        form.error(f"{away[0]} is no loopback address, and there is no TLS: who is between could change the directory; "
+        form.error(f"{away[0]} isn't a loopback address, and there is no TLS: who is between could change the directory; "
                    "https:// makes TLS, and --etcd-clear allows it without")
     if asked.word == "serve":
         ldap.check(form, asked)
