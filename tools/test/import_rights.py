@@ -3,8 +3,9 @@
 import random
 
 from adsd_tools.forms.descriptor import ALLOW, DENY, INHERITED, INHERIT_ONLY, Acl, Descriptor, Entry
+from adsd_tools.importing.loading import Loading, plain, proved, whole
 from adsd_tools.importing.report import Report
-from adsd_tools.importing.rights import Rights, mapped, whole
+from adsd_tools.importing.rights import Rights, mapped
 from adsd_tools.forms.sids import OWNER_RIGHTS, sid_of_text
 from adsd_tools.importing.text import Line
 
@@ -89,3 +90,14 @@ def differences(count):
     """How many of so many random lists grant something else after loading."""
     chance = random.Random(1)
     return sum(differs(chance) for _ in range(count))
+
+
+def unlike_proved(count):
+    """How many of so many random lists the proved library makes otherwise than Python; None where it isn't there."""
+    calls, chance, found = Loading.library(), random.Random(2), 0
+    for _ in range(count if calls else 0):
+        given = [Acl([entry(chance, chance.random() < 0.3) for _ in range(chance.randint(0, 3))], chance.random() < 0.1),
+                 [entry(chance, chance.random() < 0.3) for _ in range(chance.randint(0, 4))], chance.choice(CLASSES),
+                 chance.choice(HOLDERS[3:]), chance.choice(HOLDERS[3:])]
+        found += proved(calls, *given) != plain(*given)
+    return found if calls else None

@@ -24,9 +24,9 @@ passwords, keys or their hashes aren't asked for; deleted objects aren't there. 
 and its owner's alone (0600). Where the connection is lost a new one goes on where it was.
 
 This script is not proved. It needs Debian's python3-ldap."""
-STATUSES = """status: 0 written; 1 the server refuses, or is none of Active Directory or Samba; 2 usage; 4 stopped,
+STATUSES = """status: 0 written; 1 the server refuses, or isn't Active Directory or Samba; 2 usage; 4 stopped,
 since the account may not read what matters; 5 the file can't be written; 6 the server can't be reached, or its
-certificate isn't taken, or the connection was lost for good. Where it isn't 0, no file is written."""
+certificate isn't trusted, or the connection was lost for good. Where it isn't 0, no file is written."""
 SYSTEM = "/usr/bin/python3"
 
 
@@ -42,21 +42,21 @@ def words(arguments):
     parser = Words(prog="adsd-export", description=ABOUT, epilog=STATUSES,
                    formatter_class=argparse.RawDescriptionHelpFormatter)
     parser.add_argument("server", metavar="SERVER", help="ldaps://HOST, ldap://HOST with StartTLS, or HOST for ldaps")
-    parser.add_argument("-o", "--output", metavar="FILE", required=True, help="where the export goes")
+    parser.add_argument("-o", "--output", metavar="FILE", required=True, help="the file that is written")
     who = parser.add_mutually_exclusive_group(required=True)
     who.add_argument("-u", "--user", metavar="NAME",
-                     help="who reads: ann@corp.example, CORP\\ann or a DN; the password is read of standard input")
-    who.add_argument("--gssapi", action="store_true", help="by the ticket of Kerberos that is here")
+                     help="who reads: ann@corp.example, CORP\\ann or a DN; the password is read from standard input")
+    who.add_argument("--gssapi", action="store_true", help="use the Kerberos ticket of kinit")
     parser.add_argument("--password-file", metavar="FILE", help="the password is the first line of this file")
-    parser.add_argument("--ca", metavar="FILE", help="the certificates that the server's is signed by (the system's)")
+    parser.add_argument("--ca", metavar="FILE", help="CA certificates to check the server's certificate with (the system's)")
     parser.add_argument("--plain", action="store_true",
-                        help="ldap:// without StartTLS: the password and the directory go over the net as they are")
+                        help="ldap:// without StartTLS: password and directory cross the network unencrypted")
     parser.add_argument("--context", metavar="DN", action="append", default=[],
-                        help="this naming context too, as DC=DomainDnsZones,DC=corp,DC=example")
+                        help="export this naming context too, as DC=DomainDnsZones,DC=corp,DC=example")
     parser.add_argument("--partial", action="store_true", help="write although the account may not read what matters")
-    parser.add_argument("--page", metavar="N", type=int, default=500, help="names of a page (%(default)s)")
+    parser.add_argument("--page", metavar="N", type=int, default=500, help="objects in a page of a search (%(default)s)")
     parser.add_argument("--values", metavar="N", type=int, default=0,
-                        help="ask for members by so many (as many as the server gives at once)")
+                        help="values in a range, of large groups (as many as the server gives at once)")
     options = parser.parse_args(arguments)
     if not 1 <= options.page <= 1000 or not 0 <= options.values <= 100000:
         parser.error("--page is 1 to 1,000, and --values 1 to 100,000")
@@ -103,7 +103,7 @@ class Export:
         contexts = self.contexts()
         reader = Reader(self.link, self.options.page, self.options.values, self.lacks, self.progress)
         if not reader.flags(contexts[2]):
-            say("the account may not read system lists, so the export says nothing of auditing")
+            say("the account may not read SACLs, so the export says nothing of auditing")
         day = time.strftime("%Y-%m-%d %H:%M:%S UTC", time.gmtime())
         yield f"# adsd-export: {shown(contexts[2])} of {self.link.where.url()}, {day}\n\n".encode()
         parts = [reader.listed(base) for base in contexts]
@@ -141,7 +141,7 @@ def exported(options):
 
     where = address(options.server)
     if where is None:
-        raise Fault(2, f"{options.server}: no server, which is ldaps://HOST, ldap://HOST or HOST")
+        raise Fault(2, f"{options.server}: not a server: give ldaps://HOST, ldap://HOST or HOST")
     if options.ca and not os.access(options.ca, os.R_OK):
         raise Fault(6, f"{options.ca}: it can't be read")
     link = Link(where, (options.user, password_of(options)) if options.user else None, options.ca, options.plain)

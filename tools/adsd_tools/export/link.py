@@ -82,7 +82,7 @@ def tls_fault(where, ca):
                     return "it doesn't speak StartTLS"
             ssl.create_default_context(cafile=ca).wrap_socket(plain, server_hostname=where.host).close()
     except ssl.SSLCertVerificationError as why:
-        return f"its certificate isn't taken: {why.verify_message.rstrip('.')}"
+        return f"its certificate isn't trusted: {why.verify_message.rstrip('.')}"
     except ssl.SSLError as why:
         return f"it doesn't speak TLS there ({(why.reason or 'no reason').lower().replace('_', ' ')})"
     except OSError as why:
@@ -151,7 +151,7 @@ class Link:
             if why is not None:
                 return Fault(6, f"{url}: {why}")
         if isinstance(fault, (*LOST, ldap.DECODING_ERROR)):
-            return Fault(6, f"{url}: it listens, and doesn't answer as a server of LDAP does: {told_of(fault)}")
+            return Fault(6, f"{url}: it doesn't answer as an LDAP server: {told_of(fault)}")
         return Fault(1, f"{url}: {told_of(fault)}")
 
     def root(self):
@@ -162,8 +162,8 @@ class Link:
         held = {name.lower(): [value.decode("utf-8", "replace") for value in values] for name, values in found.items()}
         able = held.get("supportedcapabilities", [])
         if AD not in able or not held.get("defaultnamingcontext") or not held.get("schemanamingcontext"):
-            is_lds = "is one of AD LDS, which has no domain"
-            what = is_lds if AD_LDS in able else "isn't one of Active Directory or Samba"
+            is_lds = "is AD LDS, which has no domain"
+            what = is_lds if AD_LDS in able else "isn't Active Directory or Samba"
             raise Fault(1, f"{self.where.url()}: the server {what}")
         for control, name in ((PAGES, "pages"), (SD_FLAGS, "flags of descriptors")):
             if control not in held.get("supportedcontrol", []):

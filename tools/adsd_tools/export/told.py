@@ -12,7 +12,7 @@ FIRST, LONGEST = 2, 30
 OF_ACCOUNTS = {"user": ("objectSid", "sAMAccountName", "primaryGroupID", "userAccountControl"),
                "group": ("objectSid", "sAMAccountName", "groupType")}
 DESCRIPTORS, CLASSES, OBJECTS, PARENTS, VALUES = (
-    "descriptors", "classes", "objects that are listed and can't be read", "parents", "values behind a range")
+    "descriptors", "classes", "listed objects that can't be read", "parents", "values behind a range")
 
 
 class Fault(Exception):

@@ -92,7 +92,7 @@ def entry_at(data: bytes, at: int, end: int) -> Union[Entry, Lost]:
     word, denies = NOT_CARRIED.get(kind, ("unknown", True))
     who = text_of_sid(sid) if sid else "-"
     denies = denies or sid == OWNER_RIGHTS
-    return Lost(f"{kind} ({word}) for {who}", "entries of this type aren't in the profile", denies)
+    return Lost(f"{kind} ({word}) for {who}", "unsupported entry type", denies)
 
 
 def list_at(data: bytes, at: int, lost: list[Lost]) -> list[Entry]:
@@ -132,7 +132,7 @@ def read(data: bytes) -> tuple[Descriptor, list[Lost]]:
     def sid(at: int) -> bytes:
         found = sid_at(data, at, len(data))
         if found is None:
-            raise Unreadable("owner or group is no identifier")
+            raise Unreadable("owner or group isn't a SID")
         return found
 
     made = Descriptor()
@@ -165,10 +165,11 @@ def list_bytes(acl: Acl) -> bytes:
     return struct.pack("<BBHHH", 4 if with_types else 2, 0, size, len(entries), 0) + b"".join(entries)
 
 
-def written(descriptor: Descriptor) -> bytes:
-    """The self-relative bytes of a descriptor with owner, group and discretionary list."""
+def written(descriptor: Descriptor, computed: bool = False) -> bytes:
+    """The self-relative bytes of a descriptor with owner, group and discretionary list. `computed` sets the bit that
+    asks to compute what a list inherits, where that isn't protected."""
     control, made, offsets, dacl = 0x8404, b"", [0, 0, 0, 0], descriptor.dacl or Acl()
-    control |= 0x1000 if dacl.protected else 0
+    control |= 0x1000 if dacl.protected else 0x0100 if computed else 0
     parts = [descriptor.owner, descriptor.group, None, list_bytes(dacl)]
     if descriptor.sacl is not None:
         control |= 0x0810 | (0x2000 if descriptor.sacl.protected else 0)

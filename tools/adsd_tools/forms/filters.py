@@ -39,7 +39,7 @@ class Reader:
             elif letter == "\\":
                 digits = self.text[self.at + 1 : self.at + 3]
                 if not re.fullmatch("[0-9A-Fa-f]{2}", digits):
-                    self.fail("no two hexadecimal digits")
+                    self.fail("expected two hexadecimal digits")
                 run.append(int(digits, 16))
                 self.at += 3
             else:
@@ -69,7 +69,7 @@ class Reader:
     def whole(self) -> bytes:
         first, *others = self.value()
         if first is None or others:
-            self.fail("a star in a value that is compared")
+            self.fail("a * in a value of a comparison")
         return first
 
     def filter(self) -> bytes:
@@ -103,5 +103,5 @@ def read(text: str) -> bytes:
     reader = Reader(text)
     made = reader.filter()
     if reader.at != len(text):
-        reader.fail("something behind the filter")
+        reader.fail("text behind the filter")
     return made

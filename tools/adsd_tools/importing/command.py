@@ -1,17 +1,22 @@
 """The command: words, files, statuses."""
 
 import argparse
+import gc
 import os
 import sys
+import tempfile
+from typing import Iterable, Iterator, List, NamedTuple, NoReturn, Optional
 
 from adsd_tools import incomplete
 from adsd_tools.files import makes_file, write
 from adsd_tools.forms import names
 from adsd_tools.shown import shown
 
-from . import complete, objects, output, rights, schema, text
-from .opened import lines_of
-from .report import ENDS, Refused, Report
+from . import complete, objects, output, schema, second
+from .domains import Domains
+from .index import Index
+from .opened import Twice
+from .report import DEFAULTING, DENIES, ENDS, FITTING, READING, SHAPING, Refused, Report
 
 ABOUT = """Makes LDIF that `adsd load` takes of an export of Active Directory or Samba, as adsd-export, ldifde,
 ldbsearch or ldapsearch write it. An export has the schema and the rights with it (CN=Schema and CN=Extended-Rights
@@ -27,6 +32,14 @@ losses first. All that is mended or left out is told, a line each:
 What --partial writes says what the export lacks: the LDIF by its first line, OUT.incomplete beside it, and the store
 that is loaded of it to every companion, which shows `INCOMPLETE: ..` first.
 
+Lists are written with their explicit entries alone, where loading computes the rest; the LDIF says so before its first
+record, so that an import of it knows. The export is read twice, and what can't be (standard input, gzip, UTF-16) is
+copied meanwhile to a file without a name in the folder for temporary files (TMPDIR), and so is what is written.
+
+Limits, those of `adsd load`: 65,536 objects, 64 of them above another one, and 67,108,864 bytes of LDIF. What is
+longer loses the attributes that no rule needs, the greatest first, and says so; else it is refused (status 1), and
+--base takes a part. An account with the 24 entries that accounts are born with takes 1,700 bytes at least: 39,000 fit.
+
 This script is not proved."""
 STATUSES = """status: 0 written; 1 the input can't be imported; 2 usage; 3 stopped, since what denies would be lost;
 4 stopped, since the export lacks what matters; 5 the output can't be written; 6 an input can't be read. Where it isn't
@@ -37,15 +50,23 @@ STATUSES = """status: 0 written; 1 the input can't be imported; 2 usage; 3 stopp
 MOST_WITHOUT_PAGES = 1000
 
 
+class Made(NamedTuple):
+    """The pieces of the text, how many objects it has, and what the export lacks (empty: nothing)."""
+
+    data: Iterator[bytes]
+    objects: int
+    lacked: str
+
+
 class Words(argparse.ArgumentParser):
     """The words of the command. A fault is told in one line."""
 
-    def error(self, message):
+    def error(self, message: str) -> NoReturn:
         say(message)
         sys.exit(2)
 
 
-def words(arguments):
+def words(arguments: List[str]) -> argparse.Namespace:
     parser = Words(prog="adsd-import", description=ABOUT, epilog=STATUSES,
                    formatter_class=argparse.RawDescriptionHelpFormatter)
     parser.add_argument("exports", nargs="+", metavar="EXPORT",
@@ -53,6 +74,9 @@ def words(arguments):
     parser.add_argument("-o", "--output", metavar="FILE", help="where the LDIF goes (standard output)")
     parser.add_argument("-r", "--report", metavar="FILE", help="where the report goes (standard error)")
     parser.add_argument("--base", metavar="DN", help="take the objects at and below this name alone")
+    parser.add_argument("--domain", metavar="NAME",
+                        help="which domain to take (DC=child,DC=corp,DC=example or child.corp.example) of files that "
+                             "have several of a forest: each is a store of its own")
     parser.add_argument("--partial", action="store_true",
                         help="write although the export lacks what matters, and with it the line that says so")
     parser.add_argument("--records", metavar="N", type=int,
@@ -67,22 +91,7 @@ def words(arguments):
     return parser.parse_args(arguments)
 
 
-def read_exports(files, report):
-    """The records of all exports, in order."""
-    made = []
-    for file in files:
-        if file == "-":
-            made += text.records(lines_of(sys.stdin.buffer, "stdin", report), "stdin", report)
-            continue
-        with open(file, "rb") as opened:
-            try:
-                made += text.records(lines_of(opened, file, report), file, report)
-            except OSError as fault:
-                raise OSError(fault.errno, fault.strerror, file) from None
-    return made
-
-
-def counted(options, report):
+def counted(options: argparse.Namespace, report: Report) -> None:
     """Reports files that have other records than --records says, or as many as a search without pages gives at most."""
     there = sum(count for _, count in report.untold)
     if options.records not in (None, there):
@@ -94,52 +103,62 @@ def counted(options, report):
             report.missing(f"{file}:1", ENDS, f"end of {file}", why)
 
 
-def imported(options, report):
-    """The pieces of the text that is written, how many objects it has, and what the export lacks (empty: nothing)."""
-    base = None
-    if options.base is not None:
-        try:
-            base = names.read(options.base.encode("utf-8", "surrogateescape"))
-        except names.NoName as why:
-            raise Refused(f"--base {options.base}: {why}") from None
-    records = read_exports(options.exports, report)
+def based(text: Optional[str]) -> Optional[names.Name]:
+    """The name that --base says."""
+    if text is None:
+        return None
+    try:
+        return names.read(text.encode("utf-8", "surrogateescape"))
+    except names.NoName as why:
+        raise Refused(f"--base {text}: {why}") from None
+
+
+def imported(options: argparse.Namespace, twice: Twice, report: Report) -> Made:
+    """What is written."""
+    base, index = based(options.base), Index(twice, report)
+    index.read(options.exports)
+    report.step = (READING, 1)
     counted(options, report)
-    before = complete.told_before(records)
-    of_schema, others = [], []
-    for one in records:
-        (others if schema.kind_of(one) is None else of_schema).append(one)
-    del records
-    made = schema.read(of_schema, report)
-    kept = objects.read(others, base, made, report)
-    root = next(iter(kept.values()))
+    report.step = (SHAPING, 0)
+    made = schema.read(index.schema, report)
+    found = sorted(index.objects, key=lambda one: len(one.key))
+    domains = Domains(found)
+    root = domains.choose(options.domain, base) or objects.root_of(found, base)
+    found.sort(key=lambda one: (len(one.key), one is not root))
+    taking = objects.take_all(found, root, made, domains, report)
+    report.step = (DEFAULTING, 0)
     schema.mend_defaults(made, root.sid, report)
-    rights.give_all(kept, made, options.defaults, report)
-    complete.judge(made, kept, report)
-    lacked = complete.mark(made, before, report)
-    output.fit(made, kept.values(), options.limit, lacked, report)
-    return output.text_of(made, kept.values(), lacked), len(kept), lacked
+    work = second.Second(index, taking, made, domains, options.defaults, report)
+    second.inherited(index, found, taking, made, work.rights)
+    work.run(found)
+    complete.judge(made, root, taking, work.accounts.has_members, report)
+    domains.tell(root.sid, report)
+    lacked = complete.mark(made, index.before, report)
+    report.step = (FITTING, 0)
+    kept = list(taking.kept.values())
+    gone = output.fit(made, work.texts, options.limit, lacked, lambda at, name: work.place(kept[at], name), report)
+    return Made(output.text_of(made, work.texts, gone, lacked), len(kept), lacked)
 
 
-def say(line):
+def say(line: str) -> None:
     sys.stderr.write(f"adsd-import: {shown(line)}\n")
 
 
-def stopped(options, report, lacked):
+def stopped(options: argparse.Namespace, report: Report, lacked: str) -> Optional[int]:
     """The status of an import that may not be written, after it was said why; None where it may."""
     if lacked and not options.partial:
         for line in report.first_misses():
             say(line)
         say(f"the export lacks {lacked}; nothing is written without --partial")
         return 4
-    denying = report.all_denying()
-    if denying and not options.force:
-        where, _, what, why = denying[0]
-        say(f"{where}: {what}: {why}; {len(denying)} such in all, and nothing is written without --force")
+    if report.denying is not None and not options.force:
+        where, _, what, why = report.denying[1]
+        say(f"{where}: {what}: {why}; {report.count(DENIES)} such in all, and nothing is written without --force")
         return 3
     return None
 
 
-def put_beside(file, report, lacked):
+def put_beside(file: str, report: Report, lacked: str) -> None:
     """Writes what the export lacks beside the LDIF, or takes away what an earlier import wrote there. A stream and a device
     have no such file."""
     beside = file + incomplete.SUFFIX
@@ -152,7 +171,7 @@ def put_beside(file, report, lacked):
         os.unlink(beside)
 
 
-def put(file, data, report, lacked):
+def put(file: str, data: Iterable[bytes], report: Report, lacked: str) -> None:
     """Writes the pieces of the text, and what its export lacks beside it first, so that it never stands without that.
     Where the text can't be written, what stood beside it stands there as before."""
     beside, before = file + incomplete.SUFFIX, None
@@ -170,15 +189,20 @@ def put(file, data, report, lacked):
         raise
 
 
-def finish(options, report, made):
+def told_by(report: Report) -> Iterator[str]:
+    """The lines of the report."""
+    yield from report.summary()
+    yield from report.lines()
+
+
+def finish(options: argparse.Namespace, report: Report, made: Optional[Made]) -> int:
     """Writes the report and then, where nothing stops it, the text; the status."""
     if made is None and options.report is None:
         return 1
-    told = "".join(f"{line}\n" for line in report.summary() + report.lines())
     if options.report is None:
-        sys.stderr.write(told)
+        sys.stderr.writelines(f"{line}\n" for line in told_by(report))
     else:
-        write(options.report, told.encode("utf-8", "backslashreplace"))
+        write(options.report, (f"{line}\n".encode("utf-8", "backslashreplace") for line in told_by(report)))
     if made is None:
         return 1
     data, count, lacked = made
@@ -201,21 +225,28 @@ def finish(options, report, made):
     return 0
 
 
-def main(arguments):
+def main(arguments: List[str]) -> int:
     """Runs the command; the status."""
     options, report = words(arguments), Report()
+    twice = Twice(report)
+    # What is made refers to nothing that refers to it, so that nothing has to be looked for again and again.
+    gc.disable()
     try:
-        made, why = imported(options, report), None
+        made: Optional[Made] = imported(options, twice, report)
+        why = ""
     except Refused as refused:
         made, why = None, str(refused)
     except OSError as fault:
-        say(f"{fault.filename}: {fault.strerror}")
+        say(f"{fault.filename or tempfile.gettempdir()}: {fault.strerror}")
         return 6
+    finally:
+        twice.close()
+        gc.enable()
     try:
         status = finish(options, report, made)
     except OSError as fault:
         say(f"{fault.filename or 'output'}: {fault.strerror}")
         return 5
-    if why is not None:
+    if why:
         say(why if why.startswith(tuple(options.exports)) else f"{' '.join(options.exports)}: {why}")
     return status

@@ -6,14 +6,20 @@ descriptors in `rights`.
 """
 
 import re
+from typing import Dict, FrozenSet, List, Optional, Sequence, Set, Tuple, Union
 
 from adsd_tools import incomplete
 from adsd_tools.forms import names
-from adsd_tools.forms.sids import below, guid_of_text, sid_of_text, text_of_sid
-from adsd_tools.shown import brief, shown, text_of
+from adsd_tools.forms.sids import below, guid_of_text, known_sid, sid_of_text, text_of_sid
+from adsd_tools.shown import brief
 
 from . import values
-from .report import ACCOUNTS, GROUPS, HEAD, MEMBERS, RIGHTS, SCHEMA, TEXTS
+from .domains import Domains, is_domain
+from .index import Key, Object
+from .kept import Held
+from .objects import Taking
+from .report import ACCOUNTS, GROUPS, HEAD, JUDGING, MEMBERS, RIGHTS, SCHEMA, TEXTS, Report
+from .schema import Schema
 from .text import Line
 
 # What each schema of Active Directory and Samba has, and tokens and access go by.
@@ -41,29 +47,21 @@ BUILT_IN = {544: "Administrators", 545: "Users", 548: "Account Operators", 549: 
             550: "Print Operators", 551: "Backup Operators", 554: "Pre-Windows 2000 Compatible Access"}
 OF_DOMAIN = {512: "Domain Admins", 513: "Domain Users", 515: "Domain Computers", 516: "Domain Controllers"}
 OF_FOREST = {518: "Schema Admins", 519: "Enterprise Admins"}
-MARK = incomplete.ATTRIBUTE.lower()
+ADMINISTRATORS = known_sid("S-1-5-32-544")
+# The lines by which an account is judged.
+MOST_TARGETS = 65536
+OF_ACCOUNTS = {"memberof", "primarygroupid", "isdeleted"}
 
 
-def told_before(records):
-    """What earlier imports missed of what this one is given, as they wrote it; the lines that say so go."""
-    found = []
-    for record in records:
-        for line in record.lines:
-            if line.name.lower() == MARK:
-                found += shown(text_of(line.value)).split("; ")
-        record.lines = [line for line in record.lines if line.name.lower() != MARK]
-    return found
-
-
-def parted(one):
+def parted(one: str) -> Tuple[str, int]:
     """The sort of what is missing and how many there are, of a text that tells it."""
     found = re.match(r"(.*?): ([0-9]{1,9})", one)
     return (found[1], int(found[2])) if found else (one, 0)
 
 
-def mark(made, before, report):
+def mark(made: Schema, before: List[str], report: Report) -> str:
     """Writes what is missing into the first record of the schema, with what earlier imports missed; the text."""
-    told = {}
+    told: Dict[str, str] = {}
     for one in before + report.lacked():
         sort, count = parted(one)
         if sort not in told or count > parted(told[sort])[1]:
@@ -71,27 +69,27 @@ def mark(made, before, report):
     text = "; ".join(told.values())[: incomplete.MOST]
     if text:
         record = made.records[0].record
-        record.lines.append(Line(record.where, incomplete.ATTRIBUTE, text.encode()))
+        record.lines.append(Line(record.stands, incomplete.ATTRIBUTE, text.encode()))
     return text
 
 
-def absent(where, sort, found, place, report):
+def absent(where: str, sort: str, found: Sequence[str], place: str, report: Report) -> None:
     """Reports in one line what isn't there and always is."""
     if found:
         why = f"not there, and in every directory: give all of {place}"
         report.missing(where, sort, ", ".join(found), why, len(found))
 
 
-def schema(made, where, report):
+def schema(made: Schema, where: str, report: Report) -> None:
     """Reports the attributes, classes and rights that every schema has and this one hasn't."""
     for wanted, there in ((ATTRIBUTES, made.attributes), (CLASSES, made.classes)):
         absent(where, SCHEMA, [name for name in wanted if name.lower() not in there], "the schema", report)
-    there = {guid_of_text(one.value("rightsGuid").decode("latin-1")) for one in made.records if one.kind == "right"}
-    names_of = [name for guid, name in OF_RIGHTS.items() if guid_of_text(guid) not in there]
+    rights = {guid_of_text(one.required("rightsGuid").decode("latin-1")) for one in made.records if one.kind == "right"}
+    names_of = [name for guid, name in OF_RIGHTS.items() if guid_of_text(guid) not in rights]
     absent(where, RIGHTS, names_of, "the extended rights", report)
 
 
-def texts(made, report):
+def texts(made: Schema, report: Report) -> None:
     """Reports the texts of the schema's records that aren't UTF-8."""
     for one in made.records:
         for line in one.record.lines:
@@ -101,7 +99,7 @@ def texts(made, report):
                 report.missing(line.where, TEXTS, what, "it isn't UTF-8")
 
 
-def forest(made):
+def forest(made: Schema) -> Optional[Key]:
     """The key of the name of the forest's first domain, which the names of schema records end in; None if none does."""
     for one in made.records:
         key = names.read(one.record.dn).key()
@@ -111,84 +109,110 @@ def forest(made):
     return None
 
 
-def is_domain(sid):
-    """Whether an identifier is that of a domain: S-1-5-21 and three numbers more."""
-    return sid is not None and text_of_sid(sid).startswith("S-1-5-21-") and sid[1] == 4
-
-
-def groups(made, kept, sids, report):
+def groups(made: Schema, root: Object, sids: Dict[bytes, Object], has_members: bool, report: Report) -> None:
     """Reports a root that heads no domain, and the groups that every domain has."""
-    root = next(iter(kept.values()))
-    where = root.record.where
+    where = root.where
     if not is_domain(root.sid):
         why = "it has no domain's identifier: give the whole of the domain"
         report.missing(where, HEAD, f"root {root.words()}", why)
-    wanted = {sid_of_text(f"S-1-5-32-{number}"): f"{name} (S-1-5-32-{number})" for number, name in BUILT_IN.items()}
+    wanted: Dict[Union[bytes, int, None], str] = {
+        sid_of_text(f"S-1-5-32-{number}"): f"{name} (S-1-5-32-{number})" for number, name in BUILT_IN.items()}
     of_domain = {**OF_DOMAIN, **(OF_FOREST if forest(made) == root.key else {})}
     for number, name in of_domain.items():
         sid = below(root.sid, number) if is_domain(root.sid) else None
         wanted[sid or number] = f"{name} ({text_of_sid(sid) if sid else f'{number} of the domain'})"
     absent(where, GROUPS, [name for sid, name in wanted.items() if sid not in sids], "the domain", report)
-    administrators = sids.get(sid_of_text("S-1-5-32-544"))
-    record = administrators and administrators.record
-    if record and not any(line.name.lower() == "member" for line in record.lines):
+    administrators = sids.get(ADMINISTRATORS)
+    if administrators and not has_members:
         what = f"members of {administrators.words()}"
-        report.missing(record.where, MEMBERS, what, "it has none, and every domain's has: give the attribute member")
+        report.missing(administrators.where, MEMBERS, what, "it has none, and every domain's has: give the attribute member")
 
 
 class Accounts:
     """Goes over the objects and reports what says who somebody is, and in which groups, and is missing."""
 
-    def __init__(self, kept, sids, report):
-        self.kept, self.sids, self.report, self.told, self.targets = kept, sids, report, set(), {}
+    def __init__(self, made: Schema, taking: Taking, domains: Domains, report: Report) -> None:
+        self.schema, self.kept, self.sids = made, taking.kept, taking.sids
+        self.domains, self.report = domains, report
+        self.told: Set[bytes] = set()
+        self.targets: Dict[bytes, Tuple[bool, Optional[str]]] = {}
+        self.chains: Dict[str, FrozenSet[str]] = {}
+        # Names of lines that say nothing here.
+        self.others: Set[str] = set()
+        # Whether the administrators have members.
+        self.has_members = False
 
-    def judge(self, one, chain):
-        """Reports what an object of a class lacks; `chain` is that class and those above it."""
+    def judge(self, held: Held) -> None:
+        """Reports what an object that is kept lacks."""
+        one, lines = held.one, held.record.lines
+        gone: Set[int] = set()
+        chain = self.chains.get(one.of_class)
+        if chain is None:
+            chain = self.chains[one.of_class] = frozenset(self.schema.chain(one.of_class))
         if one.sid is None and ("user" in chain or "group" in chain):
             what = f"objectSid of {one.words()}"
-            self.report.missing(one.record.where, ACCOUNTS, what, "an account without one is nobody")
-        first = {}
-        for line in one.record.lines:
+            self.report.missing(one.where, ACCOUNTS, what, "an account needs one to be anybody")
+        first: Dict[str, Line] = {}
+        others = self.others
+        for line in lines:
+            if line.name in others:
+                continue
             low = line.name.lower()
+            if low not in OF_ACCOUNTS:
+                others.add(line.name)
+                continue
             first.setdefault(low, line)
-            if low == "memberof":
-                self.member_of(one, line)
+            if low == "memberof" and not self.is_of_domain(one, line):
+                gone.add(id(line))
+        if gone:
+            held.record.lines = [line for line in lines if id(line) not in gone]
+        if one.sid == ADMINISTRATORS:
+            self.has_members = any(line.name.lower() == "member" for line in lines)
         if "user" in chain and first.get("isdeleted") is None:
             self.primary(one, first.get("primarygroupid"))
 
-    def primary(self, one, line):
+    def primary(self, one: Object, line: Optional[Line]) -> None:
         """Reports an account without a primary group, and a primary group that isn't there, once."""
-        what = f"primaryGroupID of {one.words()}"
         if line is None:
-            self.report.missing(one.record.where, ACCOUNTS, what, "every account has one")
+            self.report.missing(one.where, ACCOUNTS, f"primaryGroupID of {one.words()}", "every account needs one")
             return
         domain = one.sid and bytes([1, one.sid[1] - 1]) + one.sid[2:-4]
         sid = below(domain, int(line.value)) if domain and 0 <= int(line.value) < 2**32 else None
         if sid is not None and sid not in self.sids and sid not in self.told:
             self.told.add(sid)
-            self.report.missing(line.where, MEMBERS, what, f"{text_of_sid(sid)} is no object here")
+            what = f"primaryGroupID of {one.words()}"
+            self.report.missing(line.where, MEMBERS, what, f"{text_of_sid(sid)} isn't an object of the export")
 
-    def member_of(self, one, line):
-        """Reports a group that an object says it is in, and that isn't there."""
-        if line.value not in self.targets:
-            try:
-                self.targets[line.value] = values.name_value(line.value)[1] in self.kept
-            except values.NoValue:
-                self.targets[line.value] = False
-        if not self.targets[line.value]:
-            what = f"{line.name} of {one.words()}"
-            self.report.missing(line.where, MEMBERS, what, f"{brief(line.value, 120)} is no object here")
+    def is_of_domain(self, one: Object, line: Line) -> bool:
+        """Whether a group that an object says it is in isn't one of another domain. One that lacks is reported."""
+        found = self.targets.get(line.value)
+        if found is None:
+            if len(self.targets) >= MOST_TARGETS:
+                self.targets.clear()
+            found = self.targets[line.value] = self.target(line)
+        is_there, other = found
+        if is_there:
+            return True
+        what = f"{line.name} of {one.words()}"
+        if other is not None:
+            why = f"{brief(line.value, 120)} is of the domain {other}, which isn't imported"
+            self.report.loss(line.where, what, why)
+            return False
+        self.report.missing(line.where, MEMBERS, what, f"{brief(line.value, 120)} isn't an object of the export")
+        return True
+
+    def target(self, line: Line) -> Tuple[bool, Optional[str]]:
+        """Whether the object that a line names is kept, and else which other domain it is in."""
+        try:
+            key: Key = values.name_value(line.value)[1]
+        except values.NoValue:
+            return False, None
+        return key in self.kept, None if key in self.kept else self.domains.crosses(line.name, key)
 
 
-def judge(made, kept, report):
-    """Reports what is missing of the schema and of the objects that were kept."""
-    root = next(iter(kept.values()))
-    sids = {one.sid: one for one in kept.values() if one.sid is not None}
-    schema(made, root.record.where, report)
+def judge(made: Schema, root: Object, taking: Taking, has_members: bool, report: Report) -> None:
+    """Reports what is missing of the schema and of the groups that every domain has."""
+    report.step = (JUDGING, 0)
+    schema(made, root.where, report)
     texts(made, report)
-    groups(made, kept, sids, report)
-    accounts, chains = Accounts(kept, sids, report), {}
-    for one in kept.values():
-        if one.of_class not in chains:
-            chains[one.of_class] = frozenset(made.chain(one.of_class))
-        accounts.judge(one, chains[one.of_class])
+    groups(made, root, taking.sids, has_members, report)

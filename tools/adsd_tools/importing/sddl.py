@@ -1,6 +1,7 @@
 """Texts of descriptors ([MS-DTYP] 2.5.1): read with more forms than `adsd` takes, written in one that it takes."""
 
 import re
+from typing import List, Optional, Set, Tuple
 
 from adsd_tools.forms.descriptor import ALLOW, AUDIT, DENY, Acl, Descriptor, Entry, Lost, Unreadable
 from adsd_tools.forms.rights import FLAGS, RIGHTS
@@ -25,58 +26,59 @@ class Cannot(Exception):
 class Reader:
     """Reads one text. `mends` says which forms stand in it that `adsd` doesn't take; `lost` has what is lost."""
 
-    def __init__(self, text, domain):
+    def __init__(self, text: str, domain: Optional[bytes]) -> None:
         self.text, self.domain, self.at = text, domain, 0
-        self.mends, self.lost = [], []
+        self.mends: List[str] = []
+        self.lost: List[Lost] = []
 
-    def mend(self, why):
+    def mend(self, why: str) -> None:
         if why not in self.mends:
             self.mends.append(why)
 
-    def skip(self):
+    def skip(self) -> None:
         """Passes over blanks, which stand nowhere in the strict form."""
         while self.at < len(self.text) and self.text[self.at].isspace():
             self.at += 1
             self.mend("blanks")
 
-    def identifier(self, text):
+    def identifier(self, text: str) -> bytes:
         """The bytes of an identifier or of an alias."""
         name = text.strip()
         if name != text:
             self.mend("blanks")
         sid, known = sid_of_text(name), True
         if sid is not None and text_of_sid(sid).upper() != name.upper():
-            self.mend("identifiers spelled otherwise")
+            self.mend("SIDs normalized")
         if sid is None:
             sid, known = sid_of_alias(name, self.domain)
         if sid is None:
-            raise Cannot(f"{name or 'nothing'} is no identifier here")
+            raise Cannot(f"{name or 'nothing'} is not a SID or a known alias")
         if not known:
-            self.mend("aliases as numbers")
+            self.mend("aliases written as SIDs")
         return sid
 
-    def number(self, text):
+    def number(self, text: str) -> int:
         """The mask of a field of rights."""
         text = text.strip().upper()
         if re.fullmatch(r"0X[0-9A-F]{1,8}", text):
             return int(text, 16)
         if re.fullmatch(r"0[0-7]*|[1-9][0-9]{0,9}", text):
-            self.mend("rights as numbers")
+            self.mend("rights written as a mask")
             mask = int(text, 8 if text[0] == "0" else 10)
             if mask >= 2**32:
-                raise Cannot(f"{text} are no rights")
+                raise Cannot(f"{text} are not rights")
             return mask
         mask = 0
         for at in range(0, len(text), 2):
             code = text[at : at + 2]
             if code not in RIGHTS:
                 if code not in OTHER_RIGHTS:
-                    raise Cannot(f"{code} is no right")
-                self.mend("rights as numbers")
+                    raise Cannot(f"{code} is not a right")
+                self.mend("rights written as a mask")
             mask |= RIGHTS.get(code, OTHER_RIGHTS.get(code, 0))
         return mask
 
-    def guid(self, text):
+    def guid(self, text: str) -> Optional[bytes]:
         name = text.strip()
         if not name:
             return None
@@ -85,32 +87,32 @@ class Reader:
             self.mend("braces round a GUID")
         guid = guid_of_text(name)
         if guid is None:
-            raise Cannot(f"{name} is no GUID")
+            raise Cannot(f"{name} is not a GUID")
         return guid
 
-    def flags(self, text):
+    def flags(self, text: str) -> int:
         made, text = 0, text.strip().upper()
         for at in range(0, len(text), 2):
             code = text[at : at + 2]
             if code == "CR":
-                self.mend("a flag that says nothing")
+                self.mend("flag without effect dropped")
             elif code in FLAGS:
                 made |= FLAGS[code]
             else:
-                raise Cannot(f"{code} is no flag")
+                raise Cannot(f"{code} is not a flag")
         return made
 
-    def fields(self, fields):
+    def fields(self, fields: List[str]) -> Entry:
         """The entry of its six fields."""
         kind = fields[0].strip().upper()
         if kind not in KINDS:
-            raise Cannot("entries of this type aren't in the profile")
+            raise Cannot("unsupported entry type")
         types = self.guid(fields[3]), self.guid(fields[4])
         if kind in ("A", "D", "AU") and types != (None, None):
             raise Cannot("this type has no GUIDs")
         return Entry(KINDS[kind], self.flags(fields[1]), self.number(fields[2]), *types, self.identifier(fields[5]))
 
-    def entry(self):
+    def entry(self) -> Optional[Entry]:
         """The entry that begins here, put to the lost ones where it can't be carried over; None then."""
         end = closing(self.text, self.at)
         text, self.at = self.text[self.at : end + 1], end + 1
@@ -119,7 +121,7 @@ class Reader:
             self.mend("blanks")
         try:
             if len(fields) < 6 or (len(fields) > 6 and fields[0].strip().upper() in KINDS):
-                raise Cannot("it hasn't six fields")
+                raise Cannot("an entry has six fields")
             return self.fields(fields)
         except Cannot as why:
             kind = fields[0].strip().upper()
@@ -127,17 +129,18 @@ class Reader:
             self.lost.append(Lost(text, str(why), denies or self.names_owner_rights(fields)))
             return None
 
-    def names_owner_rights(self, fields):
+    def names_owner_rights(self, fields: List[str]) -> bool:
         """Whether an entry is for owner rights: where it stands, an owner has less by itself."""
         who = fields[5].strip().upper() if len(fields) > 5 else ""
         return who == "OW" or sid_of_text(who) == OWNER_RIGHTS
 
-    def list(self):
-        """The list behind `D:` or `S:`; None where it is null."""
+    def list(self) -> Optional[Acl]:
+        """The list after `D:` or `S:`; None where it is null."""
         if self.text[self.at :].strip().upper().startswith("NO_ACCESS_CONTROL"):
             self.at = self.text.upper().index("NO_ACCESS_CONTROL", self.at) + len("NO_ACCESS_CONTROL")
             return None
-        marks = LIST_FLAGS.match(self.text, self.at)[0]
+        found = LIST_FLAGS.match(self.text, self.at)
+        marks = found[0] if found else ""
         self.at += len(marks)
         if any(c.isspace() for c in marks):
             self.mend("blanks")
@@ -150,7 +153,7 @@ class Reader:
         return made
 
 
-def closing(text, at):
+def closing(text: str, at: int) -> int:
     """The place of the bracket that closes the one at a place; conditions have brackets and quotes of their own."""
     depth, quoted = 0, False
     for place in range(at, len(text)):
@@ -161,10 +164,10 @@ def closing(text, at):
             depth += 1 if letter == "(" else -1
             if depth == 0:
                 return place
-    raise Unreadable("a bracket isn't closed")
+    raise Unreadable("missing closing bracket")
 
 
-def read_identifier(reader, what):
+def read_identifier(reader: Reader, what: str) -> Optional[bytes]:
     """The owner or the group that begins here, None where it can't be carried over."""
     found = IDENTIFIER.match(reader.text, reader.at)
     if not found:
@@ -177,9 +180,10 @@ def read_identifier(reader, what):
         return None
 
 
-def read(text, domain):
+def read(text: str, domain: Optional[bytes]) -> Tuple[Descriptor, List[Lost], List[str]]:
     """The descriptor of a text, what is lost of it, and the forms that were mended."""
-    reader, made, seen = Reader(text, domain), Descriptor(), set()
+    reader, made = Reader(text, domain), Descriptor()
+    seen: Set[str] = set()
     reader.skip()
     while reader.at < len(text):
         found = PART.match(text, reader.at)
@@ -201,7 +205,7 @@ def read(text, domain):
     return made, reader.lost, reader.mends
 
 
-def entry_text(entry):
+def entry_text(entry: Entry) -> str:
     """The text of an entry, with its rights and its identifier as numbers."""
     typed = entry.object is not None or entry.inherited is not None
     kind = ("OA", "OD", "OU")[entry.kind] if typed else ("A", "D", "AU")[entry.kind]
@@ -210,7 +214,7 @@ def entry_text(entry):
     return f"({kind};{flags};0x{entry.mask:x};{types[0]};{types[1]};{text_of_sid(entry.sid)})"
 
 
-def lists_text(descriptor):
+def lists_text(descriptor: Descriptor) -> str:
     """The two lists of a descriptor as text; an absent discretionary one is written as one that grants nothing."""
     dacl = descriptor.dacl or Acl([], True)
     text = "D:" + ("P" if dacl.protected else "") + "".join(map(entry_text, dacl.entries))

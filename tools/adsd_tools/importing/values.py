@@ -1,6 +1,8 @@
 """Values by their attribute's syntax ([MS-ADTS] 3.1.1.2.2.2): what is taken and mended, and when two are equal."""
 
 import re
+from functools import lru_cache
+from typing import Tuple, Union
 
 from adsd_tools.forms import names
 from adsd_tools.forms.sids import guid_of_text, sid_at, sid_of_text, text_of_sid
@@ -16,6 +18,11 @@ BITS = {"2.5.5.9": 32, "2.5.5.16": 64}
 EXTENDED = re.compile(rb"(?:<(?:GUID|SID|WKGUID|RMD_[A-Z]+)=[^>]*>;)+", re.I)
 
 
+# What two values that are equal have in common, and a value as it is written with that and with what was mended.
+Key = Union[bytes, str, int, Tuple[Tuple[str, str], ...]]
+Taken = Tuple[bytes, Key, str]
+
+
 class NoValue(Exception):
     """Bytes that are no value of a syntax, with why."""
 
@@ -24,57 +31,58 @@ class NoText(NoValue):
     """Bytes that aren't UTF-8, where a text is meant."""
 
 
-def name_value(value):
+@lru_cache(maxsize=4096)
+def name_value(value: bytes) -> Tuple[bytes, Tuple[Tuple[str, str], ...], str]:
     """A name: its bytes, its key and what was mended. An extended name has its GUID and its identifier taken off."""
-    plain = EXTENDED.sub(b"", value)
+    plain = EXTENDED.sub(b"", value) if b"<" in value else value
     try:
         name = names.read(plain)
     except names.NoText as why:
-        raise NoText(f"it is no name: {why}") from None
+        raise NoText(f"not a distinguished name: {why}") from None
     except names.NoName as why:
-        raise NoValue(f"it is no name: {why}") from None
+        raise NoValue(f"not a distinguished name: {why}") from None
     if name.mended:
-        return name.text(), name.key(), "the name's spelling"
+        return name.text(), name.key(), "name normalized"
     return plain, name.key(), "an extended name" if plain != value else ""
 
 
-def number_value(value, bits):
+def number_value(value: bytes, bits: int) -> Taken:
     """A signed number in decimal."""
     text = value.strip()
     pool = POOL.fullmatch(text) if bits == 64 else None
     if pool:
-        number = int(pool[1]) + (int(pool[2]) << 32)
-        return b"%d" % number, number, "a pool of numbers is written as one number"
+        both = int(pool[1]) + (int(pool[2]) << 32)
+        return b"%d" % both, both, "RID pool written as one number"
     if not NUMBER.fullmatch(text) or not -(2 ** (bits - 1)) <= int(text) < 2 ** (bits - 1):
-        raise NoValue(f"it is no signed number of {bits} bits")
+        raise NoValue(f"not a signed number of {bits} bits")
     number = b"%d" % int(text)
-    return number, int(text), "" if number == value else "the number's spelling"
+    return number, int(text), "" if number == value else "number normalized"
 
 
-def octets_value(attribute, value):
+def octets_value(attribute: str, value: bytes) -> Taken:
     """Bytes; of an attribute of GUIDs also its text, which ldbsearch writes."""
     guid = None
     if len(value) == 36 and (attribute.lower().endswith("guid") or attribute.lower() == "invocationid"):
         guid = guid_of_text(value.decode("latin-1"))
-    return (value, value, "") if guid is None else (guid, guid, "the GUID's text is written as its bytes")
+    return (value, value, "") if guid is None else (guid, guid, "GUID text written as bytes")
 
 
-def sid_value(value):
+def sid_value(value: bytes) -> Tuple[bytes, bytes, str]:
     """An identifier's bytes or its text; the key is its bytes."""
     sid = sid_at(value, 0, len(value))
     if sid is None or sid != value:
         sid = sid_of_text(value.decode("latin-1").strip())
     if sid is None:
-        raise NoValue("it is no security identifier")
+        raise NoValue("not a SID")
     if sid == value:
         return value, sid, ""
     text = text_of_sid(sid).encode()
-    return (value, sid, "") if value.upper() == text.upper() else (text, sid, "the identifier's spelling")
+    return (value, sid, "") if value.upper() == text.upper() else (text, sid, "SID normalized")
 
 
-def is_foreign(syntax, value):
+def is_foreign(syntax: str, value: bytes) -> bool:
     """Whether a value isn't UTF-8 where its syntax is a text or a name."""
-    if syntax not in TEXTS and syntax != "2.5.5.1":
+    if value.isascii() or (syntax not in TEXTS and syntax != "2.5.5.1"):
         return False
     try:
         value.decode()
@@ -83,7 +91,7 @@ def is_foreign(syntax, value):
     return False
 
 
-def text_value(value, syntax):
+def text_value(value: bytes, syntax: str) -> Taken:
     """A text: those of object identifiers are ASCII, and of the syntaxes without a rule here only UTF-8 is asked."""
     try:
         text = value.decode()
@@ -91,14 +99,15 @@ def text_value(value, syntax):
             value.decode("ascii")
     except UnicodeDecodeError:
         raise NoText("it isn't " + ("ASCII" if syntax == "2.5.5.2" else "UTF-8")) from None
-    key = {"2.5.5.2": text.lower(), "2.5.5.12": text.casefold()}.get(syntax, value)
-    return value, key, ""
+    if syntax == "2.5.5.2":
+        return value, text.lower(), ""
+    return value, text.casefold() if syntax == "2.5.5.12" else value, ""
 
 
-def read(attribute, syntax, value):
+def read(attribute: str, syntax: str, value: bytes) -> Taken:
     """A value as it is written, its key, and what was mended (a text, empty for nothing)."""
     if len(value) > MOST:
-        raise NoValue("it has more than 1,048,576 bytes")
+        raise NoValue("longer than 1,048,576 bytes")
     if attribute.lower() == "unicodepwd":
         return value, value, ""
     if syntax == "2.5.5.1":
@@ -107,7 +116,7 @@ def read(attribute, syntax, value):
         return number_value(value, BITS[syntax])
     if syntax == "2.5.5.8":
         if value.strip().upper() not in (b"TRUE", b"FALSE"):
-            raise NoValue("it is neither TRUE nor FALSE")
+            raise NoValue("neither TRUE nor FALSE")
         return value.strip(), value.strip().upper(), "" if value == value.strip() else "blanks"
     if syntax == "2.5.5.10":
         return octets_value(attribute, value)

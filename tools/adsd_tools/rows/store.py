@@ -78,12 +78,12 @@ def opened(path: str) -> BinaryIO:
     read."""
     link = os.lstat(path)
     if stat.S_ISLNK(link.st_mode) and link.st_uid not in (0, os.geteuid()):
-        raise Broken(f"{path} is a link of another user (uid {link.st_uid})")
+        raise Broken(f"{path} is a symbolic link of another user (uid {link.st_uid})")
     # (a FIFO would be waited for)
     file = open(os.open(path, os.O_RDONLY | os.O_NONBLOCK | os.O_CLOEXEC), "rb")
     if not stat.S_ISREG(os.fstat(file.fileno()).st_mode):
         file.close()
-        raise Broken(f"{path} is no regular file")
+        raise Broken(f"{path} isn't a regular file")
     return file
 
 
