@@ -9,25 +9,26 @@ from adsd_tools.shown import shown
 
 # What each companion is for, and where its package is called otherwise.
 COMPANIONS = {
-    "ask": "questions and streams as text",
-    "bloodhound": "rights as edges for BloodHound",
+    "ask": "access checks, requests and answers as text",
+    "audit": "a page for auditors, by target",
+    "bloodhound": "rights as edges for BloodHound CE",
     "explore": "an explorer of rights, in a browser",
-    "export": "what a live server has, as one file",
-    "import": "an export becomes LDIF that loads",
-    "ldap": "LDAP for clients",
-    "names": "names of accounts behind identifiers",
+    "export": "exports a domain from a live server",
+    "import": "turns an export into LDIF for adsd load",
+    "ldap": "an LDAP server over a store",
+    "names": "account names behind SIDs",
     "replica": "replicas of a store",
-    "report": "a page of what a token may do and why",
-    "whatif": "who gains and who loses a right by frames",
-    "who": "who can, as a table, CSV or JSON",
+    "report": "an HTML report of what an account may do, and why",
+    "whatif": "who gains and who loses rights by a change",
+    "who": "who has a right, as a table, CSV or JSON",
 }
 PACKAGES = {"import": "importing"}
 PREFIX = "adsd-"
 WRONG_WORDS = 2
-ABOUT = """usage: adsd-tools COMPANION [WORD ..]
+ABOUT = """usage: adsd-tools COMPANION [ARGUMENT ..]
 
-The companions of adsd, each of which is a command of its own too: adsd-ask is adsd-tools ask. --help behind its name
-tells its words and its statuses. None of them is proved.
+Runs a companion of adsd. Each is a command of its own too: adsd-ask is adsd-tools ask. adsd-tools COMPANION --help
+shows its arguments and its exit statuses. None of them is proved.
 
 """
 
@@ -64,5 +65,5 @@ def main(called: str, words: List[str]) -> int:
     if words and words[0] in ("-h", "--help"):
         sys.stdout.write(told())
         return 0
-    sys.stderr.write(f"adsd-tools: {shown(words[0])} is no companion\n" if words else told())
+    sys.stderr.write(f"adsd-tools: there is no companion {shown(words[0])}; adsd-tools --help names all\n" if words else told())
     return WRONG_WORDS

@@ -33,7 +33,7 @@ class Unread(Exception):
 
 
 class Decided(NamedTuple):
-    """A line of `who`: what decides, the identifier's text and the name of who has the right."""
+    """A line of `who`: what decides, the identifier's text and the name of who has the right, a hyphen without an object."""
 
     decides: str
     sid: str
@@ -91,25 +91,29 @@ def sid(text: str) -> Optional[bytes]:
     return made if made is not None and text_of_sid(made) == text else None
 
 
-def is_decider(text: str) -> bool:
-    return text in ("owner", "privilege") or bool(number(text))
+def is_reason(text: str) -> bool:
+    """What decides, on the object itself or behind `parent:` on its parent; or a hyphen, where nothing is needed."""
+    decides = text.removeprefix("parent:")
+    return text == "-" or decides in ("owner", "privilege") or bool(number(decides))
 
 
 def once(word: str, found: list[Line]) -> list[Line]:
-    """The same, where no name stands twice."""
+    """The same, where no name stands twice; a hyphen is none."""
     names = set()
     for one in found:
-        if one[-1] in names:
+        if one[-1] != "-" and one[-1] in names:
             raise Unread(word, one[-1], "has a name twice")
         names.add(one[-1])
     return found
 
 
-def who(said: bytes) -> list[Decided]:
+def identities(said: bytes) -> list[Decided]:
+    """All that `who` tells: whoever is told yes, and with `none` whoever has too many groups for a token."""
     made, known = [], set()
     for line in lines("who", said):
         fields = line.split(" ", 2)
-        if len(fields) != 3 or not is_decider(fields[0]) or sid(fields[1]) is None or not fields[2]:
+        if len(fields) != 3 or not (fields[0] == "none" or is_reason(fields[0])) or sid(fields[1]) is None \
+                or not fields[2]:
             raise Unread("who", line)
         if fields[1] in known:
             raise Unread("who", line, "has an identifier twice")
@@ -118,12 +122,17 @@ def who(said: bytes) -> list[Decided]:
     return once("who", made)
 
 
+def who(said: bytes) -> list[Decided]:
+    """Whoever is told yes."""
+    return [one for one in identities(said) if one.decides != "none"]
+
+
 def can(said: bytes) -> list[tuple[str, str]]:
     """What decides, and the name of an object, line by line."""
     made = []
     for line in lines("can", said):
         decides, _, name = line.partition(" ")
-        if not is_decider(decides) or not name:
+        if not is_reason(decides) or not name:
             raise Unread("can", line)
         made.append((decides, name))
     return once("can", made)

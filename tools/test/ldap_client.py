@@ -185,6 +185,18 @@ class Bridge:
         with open(f"/proc/{self.running.pid}/task/{self.running.pid}/children", encoding="ascii") as file:
             return int(file.read().split()[0])
 
+    def clock(self):
+        """Seconds, without those in which the bridge, its program or this thread waited for a processor that others had,
+        as far as the system tells them. So a bound of time holds also where the machine has much else to do."""
+        waited, now = 0, time.monotonic()
+        for name in (f"{self.running.pid}/schedstat", f"{self.program()}/schedstat", "thread-self/schedstat"):
+            try:
+                with open(f"/proc/{name}", encoding="ascii") as file:
+                    waited += int(file.read().split()[1])
+            except (OSError, IndexError):
+                pass
+        return now - waited / 1e9
+
     def end(self, number=signal.SIGTERM):
         """Stops it; its status, and the last line that it says."""
         if number:

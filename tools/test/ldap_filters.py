@@ -24,7 +24,10 @@ SCHEMA_DN = f"CN=Schema,CN=Configuration,{ROOT}"
 # Further attributes: their syntaxes, flags, and whether they have one value.
 NEW = {"userAccountControl": ("2.5.5.9", 0, True), "flags": ("2.5.5.16", 0, False),
        "objectCategory": ("2.5.5.1", 0, True), "sn": ("2.5.5.12", 5, True), "givenName": ("2.5.5.12", 4, True),
-       "mailNickname": ("2.5.5.4", 4, True), "whenCreated": ("2.5.5.11", 0, False)}
+       "mailNickname": ("2.5.5.4", 4, True), "whenCreated": ("2.5.5.11", 0, False),
+       "manager": ("2.5.5.1", 0, True), "directReports": ("2.5.5.1", 0, False)}
+# The numbers of those that are links.
+LINKS = {"manager": 42, "directReports": 43}
 # Object identifiers of some, which stand for them.
 OIDS = {"whenCreated": "1.2.840.113556.1.2.2", "sn": "2.5.4.4", "member": "2.5.4.31"}
 OF_OID = {oid: name.lower() for name, oid in OIDS.items()}
@@ -55,7 +58,7 @@ def schema_text():
     new = "".join(
         f"dn: CN={name}\nobjectClass: attributeSchema\nlDAPDisplayName: {name}\nattributeSyntax: {syntax}\n"
         f"{base64_line('schemaIDGUID', GUIDS[name])}searchFlags: {flags}\nisSingleValued: {str(single).upper()}\n"
-        f"attributeID: {OIDS.get(name, '1.2.3')}\n\n"
+        f"attributeID: {OIDS.get(name, '1.2.3')}\n" + (f"linkID: {LINKS[name]}\n" if name in LINKS else "") + "\n"
         for name, (syntax, flags, single) in NEW.items())
     text = text.replace("lDAPDisplayName: member\n", f"lDAPDisplayName: member\nattributeID: {OIDS['member']}\n", 1)
     allowed = "".join(f"mayContain: {name}\n" for name in NEW)
@@ -92,7 +95,8 @@ def directory_text(dice):
                   "objectCategory": [f"CN={'Group' if is_group else 'Person'},{SCHEMA_DN}"],
                   "sn": [dice.choice(WORDS)], "givenName": [dice.choice(WORDS)], "mailNickname": [dice.choice(WORDS)],
                   "whenCreated": dice.sample(list(TIMES), dice.randrange(1, 3)),
-                  "member": dice.sample(names, dice.randrange(7)) if is_group else []}
+                  "member": dice.sample(names, dice.randrange(7)) if is_group else [],
+                  "manager": [] if is_group else [dice.choice(names)]}
         for kind, held in values.items():
             for value in held if dice.random() < 0.7 else ():
                 text += base64_line(kind, str(value).encode())
@@ -146,6 +150,12 @@ class Plain:
     def groups(self, name):
         return [group for group in self.values if name in self.members(group)]
 
+    def managers(self, name):
+        return self.values.get(name, {}).get("manager", [])
+
+    def reports(self, name):
+        return [one for one in self.values if name in self.managers(one)]
+
     def item(self, name, kind, rule, value):
         """True, False, or None where the caller doesn't read what is asked for."""
         kind = OF_OID.get(kind, kind)
@@ -163,7 +173,8 @@ class Plain:
             number = int(value) % 2**(32 if kind == "useraccountcontrol" else 64)
             return any(int(one) & number == number if rule == "803" else int(one) & number for one in own)
         if rule == "1941":
-            return name in self.chain(self.members if kind == "memberof" else self.groups, value)
+            return name in self.chain({"memberof": self.members, "member": self.groups, "manager": self.reports,
+                                       "directreports": self.managers}[kind], value)
         if value == "*":
             return bool(own)
         if kind == "objectcategory":
@@ -225,6 +236,7 @@ def tree_of(dice, names, depth=0):
         ("useraccountcontrol", dice.choice(("803", "804")), str(dice.choice((2, 512, 2147483648, 0, -1, 65536)))),
         ("flags", dice.choice(("803", "804")), str(dice.choice((1, 2, 4, -4, 2**64 - 1)))),
         ("memberof", None, name), ("memberof", None, "*"), ("memberof", "1941", name), ("member", "1941", name),
+        ("manager", "1941", name), ("directreports", "1941", name),
         ("objectcategory", None, dice.choice(("user", "group"))), ("member", None, name),
         ("sn", None, dice.choice(WORDS)), (OIDS["sn"], None, dice.choice(WORDS)), (OIDS["member"], None, name),
         (dice.choice(("whencreated", OIDS["whenCreated"])), dice.choice((">=", "<=", None)), dice.choice(list(TIMES))),
@@ -241,7 +253,9 @@ def text_of(tree):
 
 
 def element_of(tree):
-    """The element of a tree: extensible items aren't read by adsd-ask."""
+    """The element of a tree: extensible items aren't read by adsd-ask. Bytes are one as it is."""
+    if isinstance(tree, bytes):
+        return tree
     if tree[0] in ("&", "|", "!"):
         return ber.sequence(*map(element_of, tree[1:]), tag={"&": 0xA0, "|": 0xA1, "!": 0xA2}[tree[0]])
     kind, rule, value = tree
@@ -307,8 +321,25 @@ def agree(seed, *others):
                 one(bridge)
 
 
+def stars(bridge):
+    """What stars can't ask for is named: memberOf compares whole names, anr beginnings; and a chain goes by links."""
+    def end(tree):
+        return asked(ann, None, number=ann.send(search_of(tree, ROOT, 2, ("1.1",))))
+
+    def by(name, *pieces):
+        held = ber.sequence(*(ber.octets(value, kind) for kind, value in pieces))
+        return ber.sequence(ber.octets(name), held, tag=0xA4)
+
+    ann = bridge.client("ann", "her secret")
+    first, within, last = (0x80, b"ann"), (0x81, b"n"), (0x82, b"n")
+    for tree in (by(b"memberOf", first), by(b"memberof", within), by(b"anr", within), by(b"anr", first, last)):
+        same(end(("|", ("cn", None, "*"), tree))[:2], ([], 18))
+    same(end(by(b"anr", first))[:2], end(("anr", None, "ann"))[:2])
+    same(end(("objectcategory", "1941", BOB))[:2], ([], 18))
+
+
 def filters():
-    agree(SEED, while_it_changes)
+    agree(SEED, while_it_changes, stars)
     with Bridge() as bridge:
         limits(bridge)
 

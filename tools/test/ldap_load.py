@@ -16,7 +16,8 @@ from adsd_tools.ldap.extended import PASSWORD
 
 MANY, LOOK = 1000, f"search base='{BOB}' attrs=cn"
 SEES = f"dn: {BOB}\ncn: bob\n\n# search: 0 success"
-# So long one client waits at most for others, in seconds: a frame of the program, and a turn of the bridge.
+# So long one client waits at most for others, in seconds by Bridge.clock: a frame of the program, and a turn of the
+# bridge.
 PATIENCE = 2.0
 
 
@@ -74,9 +75,9 @@ def patient():
         try:
             waited = []
             for _ in range(60):
-                begun = time.monotonic()
+                begun = bridge.clock()
                 same(other.ask(LOOK), SEES)
-                waited.append(time.monotonic() - begun)
+                waited.append(bridge.clock() - begun)
         finally:
             ends.set()
             busy.join()

@@ -21,7 +21,7 @@ MOST_UNBOUND = 4096
 LOOK = f"search base='{BOB}' attrs=cn"
 SEES = f"dn: {BOB}\ncn: bob\n\n# search: 0 success"
 CLOSED = REFUSED.replace("52e", "775")
-# So long a few dozen binds take at most on a busy machine, and less than their delays were, in seconds.
+# So long a few dozen binds take at most, by Bridge.clock, and less than their delays were, in seconds.
 PATIENCE = 60.0
 
 
@@ -142,22 +142,22 @@ def large():
 
 def first():
     """Who sends no whole request at first is let go soon, also where bytes come one by one; others may be silent."""
-    with Bridge("--first", "1") as bridge:
+    with Bridge("--first", "5") as bridge:
         bound, silent, slow = bridge.client("ann", "her secret"), bridge.client(), bridge.client()
-        begun = time.monotonic()
+        begun = bridge.clock()
         try:
-            for byte in ber.octets(bytes(100), 0x30):
+            for byte in ber.octets(bytes(250), 0x30):
                 slow.socket.sendall(bytes([byte]))
                 time.sleep(0.1)
             slow.taken(1)
             raise AssertionError("a slow client isn't let go")
         except (Closed, ConnectionError):
-            same(time.monotonic() - begun < 5, True)
+            same(bridge.clock() - begun < 15, True)
         try:
             silent.taken(1)
             raise AssertionError("a silent client isn't let go")
         except (Closed, ConnectionError):
-            bridge.wait_for("let go: no request for 1 seconds")
+            bridge.wait_for("let go: no request for 5 seconds")
         same(bound.ask(LOOK), SEES)
 
 
@@ -166,11 +166,11 @@ def guesses():
     on the same connection waits for nothing, and a restart doesn't forget them."""
     more = NAMES + "bob password=secret user=S-1-5-21-1-2-3-1002\n"
     with Bridge("--delay", "2", names=more) as bridge:
-        one, begun = bridge.client(), time.monotonic()
+        one, begun = bridge.client(), bridge.clock()
         for _ in range(12):
             same([one.bind("ann", "a guess")[:10], one.bind("bob", "secret")], ["# bind: 49", BOUND])
         same(one.bind("bob", "secret"), BOUND)
-        same(time.monotonic() - begun < PATIENCE, True)
+        same(bridge.clock() - begun < PATIENCE, True)
         for _ in range(12):
             one.bind("ann", "a guess")
         bridge.wait_for("not bound: by wrong passwords before it is closed for a while: CN=ann")

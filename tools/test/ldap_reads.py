@@ -12,6 +12,7 @@ from ldap_who import ANN, EVE, Made
 from adsd_tools.forms.sids import text_of_guid
 from adsd_tools.ldap.accounts import EPOCH
 from adsd_tools.ldap.root_dse import CAPABILITIES
+from adsd_tools.ldap.searches import IDLE
 
 BOB, STAFF, ALL = f"CN=Bob,{UNIT}", f"CN=staff,{GROUPS}", f"CN=all,{GROUPS}"
 DIRSYNC, NOTIFIES, EXTENDED, SCOPED = (b"1.2.840.113556.1.4." + one for one in (b"841", b"528", b"529", b"1504"))
@@ -132,6 +133,27 @@ def not_here():
                 same(asked(admin, f"search base='{ROOT}' scope=sub", control(name, value, critical))[:2], ([], 12))
 
 
+def passed_over():
+    """Controls that change nothing here are passed over, critical or not; and what isn't here has its code."""
+    with Made() as bridge:
+        admin = bridge.client("admin", "adm1n")
+        every = f"search base='{ROOT}' scope=sub attrs=cn"
+        wanted = asked(admin, every)[:2]
+        same((bool(wanted[0]), wanted[1]), (True, 0))
+        for name in IDLE:
+            for critical in (True, False):
+                same((name, asked(admin, every, control(name, None, critical))[:2]), (name, wanted))
+        unknown = b"1.2.840.113556.1.4.9999"
+        same(asked(admin, every, control(unknown, None))[:2], ([], 12))
+        same(asked(admin, every, control(unknown, None, False))[:2], wanted)
+        same(admin.reply(admin.extended(b"1.2.840.113556.1.4.1781")).split("\n")[0][:13], "# extended: 2")
+        for way in (b"GSSAPI", b"GSS-SPNEGO", b"DIGEST-MD5", b"NTLM"):
+            by = ber.sequence(ber.octets(way), tag=0xA3)
+            other = bridge.client()
+            told = other.reply(other.send(ber.sequence(ber.number(3), ber.octets(b""), by, tag=0x60)))
+            same(told[: len("# bind: 7")], "# bind: 7")
+
+
 def log_ins():
     """What applications ask at each log-in takes no more than twice as long as to find one by its name, also among many
     that have the attribute; and it finds the same, whatever else is asked for."""
@@ -161,4 +183,4 @@ def since_1601(seconds):
     return int((time.time() + EPOCH + seconds) * 10**7)
 
 
-CASES = (root_dse, log_ins, moments, by_guids, extended_names, scoped, not_here)
+CASES = (root_dse, log_ins, moments, by_guids, extended_names, scoped, not_here, passed_over)

@@ -22,7 +22,7 @@ from adsd_tools.ldap.searches import Refused
 from adsd_tools.ldap.shares import PAYER
 from adsd_tools.ldap.turns import Stopped, Turns
 
-WRITERS, READS, ROUNDS, TIMES = (1, 2, 4, 8, 16), 12, 4, 10
+WRITERS, READS, ROUNDS, TIMES = (1, 2, 4, 8, 16), 12, 12, 10
 DONE, BUSY, LOST = "# modify: 0 success", 51, 52
 
 
@@ -214,18 +214,18 @@ def large_filters():
         other, one, admin = bridge.client("ann", "her secret"), bridge.client(), bridge.client("admin", "adm1n")
         many = ("|", *(("cn", None, f"o{at}") for at in range(15_000)))
         one.send(search_of(many, "", 0, ()))
-        begun = time.monotonic()
+        begun = bridge.clock()
         same(other.ask(LOOK), SEES)
-        same((one.notice(), time.monotonic() - begun < PATIENCE), (2, True))
+        same((one.notice(), bridge.clock() - begun < PATIENCE), (2, True))
         one = bridge.client()
         same(asked(one, None, number=one.send(search_of(many[:3], "", 0, ())))[:2], ([], 11))
         same(asked(one, None, number=one.send(search_of(("objectClass", None, "*"), "", 0, ("vendorName",))))[1], 0)
         for count, code in ((2000, 0), (2001, 11), (15_000, 11)):
             for base in ("", STAFF):
                 number = admin.send(search_of(many[: count + 1], base, 0, ()))
-                begun = time.monotonic()
+                begun = bridge.clock()
                 same(other.ask(LOOK), SEES)
-                same((time.monotonic() - begun < PATIENCE, asked(admin, None, number=number)[1]), (True, code))
+                same((bridge.clock() - begun < PATIENCE, asked(admin, None, number=number)[1]), (True, code))
         deep = ("cn", None, "x")
         for _ in range(40):
             deep = ("!", deep)
@@ -235,7 +235,7 @@ def large_filters():
 
 def before_a_bind():
     """Who hasn't bound is let go where it is silent for a while, also behind a first request; who has bound isn't."""
-    with Bridge("--first", "1") as bridge:
+    with Bridge("--first", "5") as bridge:
         bound, one = bridge.client("ann", "her secret"), bridge.client()
         same(asked(one, "search base='' attrs=vendorName")[1], 0)
         same((is_gone(one), bound.ask(LOOK)), (True, SEES))

@@ -109,7 +109,7 @@ def lines(data: bytes) -> Iterator[str]:
             raise Broken("the last answer is cut short")
         kind, connection, size = struct.unpack_from(">BHI", data, at)
         if kind not in range(0x81, 0x85):
-            raise Broken(f"{kind:#x} is no kind of answer")
+            raise Broken(f"{kind:#x} isn't a kind of answer")
         body = data[at + 7 : at + 7 + size]
         if len(body) < size:
             raise Broken("the last answer is cut short")

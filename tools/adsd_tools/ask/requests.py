@@ -41,26 +41,26 @@ class Line:
         self.number = int(rest.pop(0)) if rest and rest[0].isdigit() else None
         self.connection = 0 if self.word == "steps" else self.number or 0
         if self.connection > 1023:
-            raise Wrong("a connection is a number up to 1023")
+            raise Wrong("a connection is a number from 0 to 1023")
         self.pairs = [piece.partition("=") for piece in rest]
         bare = [key for key, sign, _ in self.pairs if not sign]
         if bare:
-            raise Wrong(f"{bare[0]!r} has no =")
+            raise Wrong(f"{bare[0]!r} isn't of the form key=value")
 
     def take(self, key: str, default: Optional[str] = None) -> str:
         found = [pair for pair in self.pairs if pair[0] == key]
         if len(found) > 1:
-            raise Wrong(f"{key} stands twice")
+            raise Wrong(f"{key} is given twice")
         if not found:
             if default is None:
-                raise Wrong(f"{self.word} wants {key}=")
+                raise Wrong(f"{self.word} needs {key}=")
             return default
         self.pairs.remove(found[0])
         return found[0][2]
 
     def ended(self) -> None:
         if self.pairs:
-            raise Wrong(f"{self.word} has no {self.pairs[0][0]}")
+            raise Wrong(f"{self.word} takes no {self.pairs[0][0]}=")
 
 
 def value_of(text: str) -> bytes:
@@ -84,7 +84,7 @@ def sd_control(line: Line) -> list[bytes]:
     parts = words.listed(line.take("sd", ""))
     unknown = [part for part in parts if part not in words.PARTS]
     if unknown:
-        raise Wrong(f"{unknown[0]!r} is no part of a descriptor: {', '.join(words.PARTS)}")
+        raise Wrong(f"{unknown[0]!r} isn't a part of a descriptor; these are: {', '.join(words.PARTS)}")
     flags = sum(words.PARTS[part] for part in set(parts))
     return [control(SD_FLAGS, ber.sequence(ber.number(flags)))] if flags else []
 
@@ -93,7 +93,7 @@ def search(line: Line) -> tuple[bytes, list[bytes]]:
     controls = sd_control(line)
     scope = line.take("scope", "base")
     if scope not in SCOPES:
-        raise Wrong(f"{scope!r} is no scope: {', '.join(SCOPES)}")
+        raise Wrong(f"{scope!r} isn't a scope; these are: {', '.join(SCOPES)}")
     attributes = [ber.octets(name.encode()) for name in words.listed(line.take("attrs", ""))]
     made = ber.sequence(
         ber.octets(line.take("base").encode()), ber.number(SCOPES[scope], ber.ENUMERATED), ber.number(0, ber.ENUMERATED),
@@ -123,7 +123,7 @@ def modify(line: Line) -> tuple[list[str], list[bytes]]:
     for key, _, value in line.pairs:
         act, sign, name = key.partition(":")
         if act not in ACTS or not sign:
-            raise Wrong(f"{key!r} is none of add:NAME, delete:NAME, replace:NAME")
+            raise Wrong(f"{key!r} isn't one of add:NAME, delete:NAME, replace:NAME")
         if key != last:
             items.append((act, name, []))
         if value or act == "add":
@@ -195,7 +195,7 @@ def one_line(at: int, text: str, accounts: Optional[Accounts] = None) -> Union[M
     elif line.word in MESSAGES:
         made = Message(at, line)
     else:
-        raise Wrong(f"{line.word!r} is none of token, {', '.join(MESSAGES)}, steps, run")
+        raise Wrong(f"{line.word!r} isn't one of token, {', '.join(MESSAGES)}, steps, run")
     line.ended()
     return made
 

@@ -29,7 +29,7 @@ def sid(text: str, accounts: Optional[Accounts] = None) -> bytes:
             raise Wrong(str(why)) from None
     if made is None:
         of_store = ", nor an account of the store" if accounts is not None else ""
-        raise Wrong(f"{text!r} is no identifier, nor an alias that needs no domain{of_store}")
+        raise Wrong(f"{text!r} is neither a SID nor an alias of SDDL outside a domain{of_store}")
     return made
 
 
@@ -40,7 +40,7 @@ def groups_of(text: str, user: bytes, accounts: Optional[Accounts] = None) -> li
         if item != "*":
             made.append(sid(item, accounts))
         elif accounts is None:
-            raise Wrong("* is all groups of a user, and wants --store STORE")
+            raise Wrong("* (all groups of a user) needs --store STORE")
         else:
             made += accounts.groups(user)
     return made
@@ -57,14 +57,14 @@ def mask(text: str) -> int:
     codes = [text[at : at + 2].upper() for at in range(0, len(text), 2)]
     unknown = [code for code in codes if code not in RIGHTS]
     if unknown:
-        raise Wrong(f"{unknown[0]} is no right")
+        raise Wrong(f"{unknown[0]} isn't a right")
     return sum({RIGHTS[code] for code in codes})
 
 
 def privileges(text: str) -> int:
     unknown = [name for name in listed(text) if name not in PRIVILEGES]
     if unknown:
-        raise Wrong(f"{unknown[0]!r} is no privilege: {', '.join(PRIVILEGES)}")
+        raise Wrong(f"{unknown[0]!r} isn't a privilege; these are: {', '.join(PRIVILEGES)}")
     return sum(PRIVILEGES[name] for name in set(listed(text)))
 
 

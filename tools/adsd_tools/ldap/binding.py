@@ -113,7 +113,7 @@ class Binder:
         if who is None:
             raise NotBound(f"no line has uid={self.session.uid}")
         if given and given[:2] not in (b"u:", b"dn"):
-            raise NotBound("an identity of no form that is known")
+            raise NotBound("unknown form of an identity")
         if given and names.key_of(given.partition(b":")[2].decode("utf-8", "replace")) != names.key_of(who.name):
             raise NotBound(f"{who.name} asked to be somebody else")
         return await self.whole(who)
@@ -177,7 +177,7 @@ class Binder:
         try:
             return await self.accounts.find(name)
         except Ambiguous:
-            raise NotBound("a name of several accounts") from None
+            raise NotBound("several accounts have this name") from None
         except Unidentified as which:
             raise NotBound(f"{which} has no objectSid that the reader reads") from None
 

@@ -21,7 +21,7 @@ from .log import Log
 from .words import USUAL, parsed
 
 
-NO_NAMES = "no --names: nobody may bind by name"
+NO_NAMES = "without --names nobody may bind by name"
 
 
 def password_asked():
@@ -29,7 +29,7 @@ def password_asked():
         return sys.stdin.buffer.readline().rstrip(b"\r\n")
     first = getpass.getpass("Password: ")
     if first != getpass.getpass("Again: "):
-        raise Wrong("the two aren't the same")
+        raise Wrong("the two passwords differ")
     return first.encode("utf-8", "surrogateescape")
 
 
@@ -64,7 +64,7 @@ def line_of(asked):
 def line_of_account(asked):
     """The line of somebody whose token the directory makes."""
     if asked.group or asked.bare or asked.primary or asked.owner or asked.privilege:
-        raise Wrong("what makes a token wants --user")
+        raise Wrong("what makes a token needs --user")
     return finished(asked, [shlex.quote(f"also={asked.also}")] if asked.also else [])
 
 
@@ -73,7 +73,7 @@ def finished(asked, told):
     names.one_line(" ".join([shlex.quote(asked.name), "password=x", *told]))
     password = password_asked()
     if not password:
-        raise Wrong("a password isn't empty")
+        raise Wrong("the password is empty")
     hashed = passwords.made(password, "pbkdf2" if asked.pbkdf2 else "scrypt")
     return " ".join([shlex.quote(asked.name), f"password={hashed}", *told])
 

@@ -49,6 +49,12 @@ def item_of(tag, body):
     return Item(tag, told[0x82], told[0x83], told[0x81])
 
 
+def pieces_of(body):
+    """The attribute of an item by stars, and its pieces: the kind of each and its bytes."""
+    (_, name), (_, held) = ber.parts(body)
+    return name, ber.parts(held)
+
+
 def changed(filter_made, change, level=1):
     """A filter whose items are changed: `change` gives the element of one by its tag and body."""
     if level > MOST_LEVELS:

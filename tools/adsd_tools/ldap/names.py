@@ -72,7 +72,7 @@ def one_line(text):
     """Who a line is about, and all names of them. The empty name is whoever hasn't bound, and has no password."""
     line = Line(text, pieces)
     if line.number is not None:
-        raise Wrong(f"{line.number} stands without a key")
+        raise Wrong(f"{line.number} has no key")
     also, password, uid = words.listed(line.take("also", "")), line.take("password", ""), line.take("uid", "")
     if max(map(len, [line.word, *also])) > LONGEST:
         raise Wrong(f"a name has at most {LONGEST} letters")
@@ -81,7 +81,7 @@ def one_line(text):
     if not line.word and (password or also or uid):
         raise Wrong("the empty name is whoever hasn't bound: it has no password, and no other name")
     if uid and not re.fullmatch("[0-9]{1,10}", uid):
-        raise Wrong(f"{uid!r} is no number of a user of the system")
+        raise Wrong(f"{uid!r} isn't a user number of this system")
     try:
         fits = passwords.read(password) if password else None
     except passwords.Unreadable as why:
@@ -112,10 +112,10 @@ class Names:
     def put(self, who, spelled):
         for name in spelled:
             if key_of(name) in self.known:
-                raise Wrong(f"{name!r} stands twice")
+                raise Wrong(f"{name!r} is given twice")
             self.known[key_of(name)] = who
         if who.uid is not None and self.of_uid.setdefault(who.uid, who) is not who:
-            raise Wrong(f"uid={who.uid} stands twice")
+            raise Wrong(f"uid={who.uid} is given twice")
 
     def who(self, name):
         return self.known.get(key_of(name)) if 0 < len(name) <= LONGEST else None

@@ -21,9 +21,9 @@ MOST_FRAMES = 1_000_000
 # What takes the token from a connection: an unbind.
 DROP = ber.sequence(ber.number(1), ber.octets(b"", 0x42))
 ENDS = {
-    1: "it was given what is no frame",
-    2: "its words aren't those of a command",
-    3: "the store stands for no directory; `adsd check` tells more",
+    1: "its input isn't a frame",
+    2: "wrong arguments",
+    3: "the store isn't readable as a directory; `adsd check` says why",
     4: "its input could not be read",
     5: "the store's files failed, or another program has them",
     6: "it ran out of memory",

@@ -12,7 +12,7 @@ from adsd_tools.forms import names as dns
 from . import items, messages, named, narrowing, sorting, times
 from .heavy import beside
 from .items import Deep
-from .searches import ADMIN_LIMIT, Refused
+from .searches import ADMIN_LIMIT, INAPPROPRIATE, Refused
 
 AND_RULE, OR_RULE, CHAIN = (b"1.2.840.113556.1.4." + number for number in (b"803", b"804", b"1941"))
 # So many different items of a filter are rewritten.
@@ -21,7 +21,7 @@ MOST_ITEMS = 256
 MOST_VALUES = 512
 # A filter without any of these has no item that is rewritten.
 MARKS = (b"memberof", b"1.2.840.113556.1.4.", b"anr", b"objectcategory")
-MEMBER, MEMBER_OF = b"member", b"memberOf"
+MEMBER_OF = b"memberOf"
 BITS = {sorting.INTEGER: 32, sorting.LARGE: 64}
 NUMBER = re.compile(rb"-?(0|[1-9][0-9]{0,19})")
 # The bit of searchFlags by which an attribute is asked for by `anr`.
@@ -96,7 +96,7 @@ class Rewriter:
             return Rewriter.by_bits if bits and number_of(item.value, bits) is not None else None
         linked = self.schema.has_member_of() and self.view.bridge.root
         if item.rule == CHAIN:
-            return Rewriter.by_chain if linked and item.name in ("member", "memberof") and is_name(item.value) else None
+            return self.way_by_links(item, linked)
         if self.schema.syntax(item.name) == times.TIME and item.tag in times.TAGS:
             return Rewriter.by_time if times.moment_of(item.value) is not None else None
         if (item.compares() or item.tag == items.PRESENT) and item.name == "memberof" and linked:
@@ -105,6 +105,26 @@ class Rewriter:
             return Rewriter.by_class if self.schema.category(item.value) else None
         return Rewriter.by_anr if item.compares() and item.name == "anr" and self.anr_terms(item) else None
 
+    def way_by_links(self, item, linked):
+        """How a chain is rewritten. Refused where it asks for one of an attribute that is no link."""
+        if self.schema.syntax(item.name) is not None and self.schema.link_of(item.name) is None:
+            raise Refused(INAPPROPRIATE, f"a chain goes by links, and {self.schema.spelled(item.name)} is none")
+        return Rewriter.by_chain if linked and self.schema.link_of(item.name) and is_name(item.value) else None
+
+    def of_pieces(self, body):
+        """The item by equality that one by stars is asked as: `anr` compares beginnings by itself. None where it stays
+        as the program has it. Refused where it would find nothing, though there may be what it asks for."""
+        name, pieces = items.pieces_of(body)
+        low = name.decode("latin-1").lower()
+        if self.schema is None or not (low == "memberof" and self.schema.has_member_of() or
+                                       low == "anr" and self.schema.searched(ANR)):
+            return None
+        if low == "memberof":
+            raise Refused(INAPPROPRIATE, "memberOf compares whole names: ask for the groups by stars, and then by each name")
+        if [kind for kind, _ in pieces] != [items.INITIAL]:
+            raise Refused(INAPPROPRIATE, "anr compares beginnings: a star may stand at its end alone")
+        return items.Item(items.EQUAL, name, pieces[0][1])
+
     def foreign(self):
         """The items that are rewritten, by tag and body: the way of each, the item, and how often it stands there.
         None where the filter is too deep, so that the program says so."""
@@ -112,7 +132,7 @@ class Rewriter:
 
         def look(tag, body):
             if (tag, body) not in found:
-                item = items.item_of(tag, body)
+                item = self.of_pieces(body) if tag == items.PIECES else items.item_of(tag, body)
                 found[tag, body] = [self.way(item), item, 0]
             found[tag, body][2] += 1
             return b""
@@ -167,10 +187,10 @@ class Rewriter:
         return await self.named(MEMBER_OF, await self.view.members(self.search, item.value))
 
     async def by_chain(self, item):
-        memberships = await self.view.memberships()
-        if item.name == "member":
-            return await self.named(MEMBER, memberships.reached(memberships.groups, item.value))
-        return await self.named(MEMBER_OF, memberships.reached(memberships.members, item.value))
+        """By the values of the link that are read: from an object by the link, or to it by its back link."""
+        forward, is_back = self.schema.link_of(item.name)
+        links = await self.view.links(forward)
+        return await self.named(item.sent, links.reached(links.members if is_back else links.groups, item.value))
 
     async def by_class(self, item):
         return items.equal(item.sent, self.schema.category(item.value))

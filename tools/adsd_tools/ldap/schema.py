@@ -55,6 +55,18 @@ class Schema(schemas.Schema):
         at = self.of_attribute.get(name)
         return self.attributes[at].number("linkID") if at is not None else 0
 
+    def link_of(self, name):
+        """The link that an attribute is, by its name in lower case, or is the back link of: the link's name as it is
+        spelled, and whether it is the back link. None where it is neither."""
+        number = self.link_number(name) or 0
+        if number < 2 or self.syntax(name) != NAME:
+            return None
+        if number % 2 == 0:
+            return self.spelled(name), False
+        found = [other for other, one in zip(self.attribute_names, self.attributes)
+                 if one.number("linkID") == number - 1 and one.text("attributeSyntax") == NAME]
+        return (found[0], True) if found else None
+
     def has_member_of(self):
         """Whether memberOf is the other end of the link member, and objects are told by their names."""
         if self.linked is None:

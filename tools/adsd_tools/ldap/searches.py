@@ -12,7 +12,7 @@ BASE, ONE, SUBTREE = b"\0", b"\1", b"\2"
 # Every object that the caller sees: the And of no filters is true.
 TRUE = ber.sequence(tag=0xA0)
 PRESENT = 0x87
-SIZE_LIMIT, ADMIN_LIMIT, NO_OBJECT = 4, 11, 32
+SIZE_LIMIT, ADMIN_LIMIT, INAPPROPRIATE, NO_OBJECT = 4, 11, 18, 32
 # How an answer ends that was more than the program gives at once.
 CUT = bytes.fromhex("65070a010b04000400")
 # Controls that change nothing here: there are no referrals, no deleted objects and one naming context, and what is

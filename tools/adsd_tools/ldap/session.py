@@ -175,7 +175,7 @@ class Session:
         try:
             data = await self.next()
         except messages.NoMessage:
-            return await self.leave(messages.PROTOCOL_ERROR, "what was sent is no message")
+            return await self.leave(messages.PROTOCOL_ERROR, "a protocol error")
         except messages.TooLong:
             told = f"{budgets.most_bytes(self)} bytes" + ("" if self.who else " before a bind")
             return await self.leave(messages.PROTOCOL_ERROR, f"a message has at most {told}")

@@ -9,7 +9,7 @@ from .heavy import beside
 from .searches import Refused, Search
 from .whole import Whole
 
-# For so many tokens who is in which group is kept until the directory changes.
+# For so many tokens and links the values are kept until the directory changes.
 MOST_TOKENS = 8
 
 
@@ -22,15 +22,15 @@ def key_of(name):
 
 
 class Memberships:
-    """Who is in which group, by the values of `member` that are read."""
+    """Who is in which group, by the values of `member` that are read; or so of another link."""
 
-    def __init__(self, found):
+    def __init__(self, found, link="member"):
         self.members, self.groups, self.names = {}, {}, {}
         keys = {}
         for entry in map(searches.entry_of, found.entries):
             group = key_of(entry.name)
             self.names[group] = entry.name
-            for value in entry.values("member"):
+            for value in entry.values(link):
                 member = keys[value] if value in keys else keys.setdefault(value, key_of(value))
                 self.names.setdefault(member, value)
                 self.members.setdefault(group, []).append(member)
@@ -112,18 +112,22 @@ class View:
         return list(searches.entry_of(found.entries[0]).values("member")) if found.entries else []
 
     async def memberships(self):
-        """Who is in which group, of the whole directory. It is kept until the directory changes."""
-        kept, changes, token = self.bridge.memberships, self.bridge.turns.changes, self.session.token
-        if token in kept and kept[token][0] == changes:
-            return kept[token][1]
-        member = b"member"
-        asked = Search(1, self.bridge.root, filter=items.present(member), attributes=(member,))
+        """Who is in which group, of the whole directory."""
+        return await self.links("member")
+
+    async def links(self, link):
+        """The values of a link, of the whole directory. They are kept until the directory changes."""
+        kept, changes, held = self.bridge.memberships, self.bridge.turns.changes, (self.session.token, link)
+        if held in kept and kept[held][0] == changes:
+            return kept[held][1]
+        name = link.encode()
+        asked = Search(1, self.bridge.root, filter=items.present(name), attributes=(name,))
         found = await self.whole(asked)
-        made = await beside(found.weight(), Memberships, found)
-        kept.pop(token, None)
+        made = await beside(found.weight(), Memberships, found, link.lower())
+        kept.pop(held, None)
         while len(kept) >= MOST_TOKENS:
             del kept[next(iter(kept))]
-        kept[token] = changes, made
+        kept[held] = changes, made
         return made
 
 

@@ -51,7 +51,7 @@ def count(low, high):
 
     def read(text):
         if not text.isascii() or not text.isdigit() or not low <= int(text) <= high:
-            raise argparse.ArgumentTypeError(f"{text!r} is no number from {low} to {high}")
+            raise argparse.ArgumentTypeError(f"{text!r} isn't a number from {low} to {high}")
         return int(text)
 
     return read
@@ -66,7 +66,7 @@ def address(text):
         ipaddress.ip_address(host)
     except ValueError:
         wanted = f"as 127.0.0.1:{PORT} or [::1]:{PORT}"
-        raise argparse.ArgumentTypeError(f"{text!r} is no address and port, {wanted}") from None
+        raise argparse.ArgumentTypeError(f"{text!r} isn't an address and port, {wanted}") from None
     return host, count(0, 65535)(port)
 
 
@@ -84,7 +84,7 @@ def reader(text):
 def host(text):
     """A host's name, in the domain or whole."""
     if not re.fullmatch("[A-Za-z0-9-]{1,63}(\\.[A-Za-z0-9-]{1,63})*", text):
-        raise argparse.ArgumentTypeError(f"{text!r} is no host's name")
+        raise argparse.ArgumentTypeError(f"{text!r} isn't a host name")
     return text
 
 
@@ -199,9 +199,9 @@ def check(form, asked):
     hosts = [one[0] for one in (asked.listen, asked.ldaps) if one]
     away = [host for host in hosts if not ipaddress.ip_address(host).is_loopback]
     if away and asked.trust_names:
-        form.error(f"{away[0]} is no loopback address: --trust-names would let anybody in")
+        form.error(f"{away[0]} isn't a loopback address: --trust-names would let anybody in")
     if away and not asked.any_address and not asked.certificate:
-        form.error(f"{away[0]} is no loopback address, and there is no TLS: passwords would go in the clear; "
+        form.error(f"{away[0]} isn't a loopback address, and there is no TLS: passwords would go in the clear; "
                    "--certificate makes TLS, and --any-address allows it without")
     if (asked.ldaps or asked.key) and not asked.certificate:
-        form.error("--ldaps and --key want --certificate")
+        form.error("--ldaps and --key need --certificate")

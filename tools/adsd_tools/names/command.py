@@ -12,12 +12,12 @@ from adsd_tools.rows import store
 from adsd_tools.rows.accounts import Accounts
 from adsd_tools.shown import SPELLED, Words, shown, text_of
 
-ABOUT = """Puts the name of an account behind each identifier of a text, as S-1-5-11 <authenticated users>:
+ABOUT = """Puts the name of an account after each identifier of a text, as S-1-5-11 <authenticated users>:
 
     adsd list corp DN | adsd-names corp
-    tools/adsd-ask frames day.txt | adsd serve corp | tools/adsd-ask replies | adsd-names corp
+    adsd-ask frames day.txt | adsd serve corp | adsd-ask replies | adsd-names corp
 
-The names are those of the store behind the last of its input, and of identifiers that are the same everywhere. Values
+The names are those of the store at the end of the input, and of identifiers that are the same everywhere. Values
 and names of LDIF say what they did, and so does the name of an object: no identifier within them gets a name. A value of
 LDIF that has a control in it is written in base64, and anywhere else a control stands spelled, as \\1B. The store's
 files are read and not locked. This script is not proved."""

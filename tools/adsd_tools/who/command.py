@@ -80,14 +80,18 @@ class Asked:
     def number(self, name):
         """The object of a name that the program printed."""
         if shown(name) not in self.numbers:
-            raise Changed(f"no object of it is {name}")
+            raise Changed(f"it has no object {name}")
         return self.numbers[shown(name)]
 
     def one(self, sid, name):
-        """What is told of somebody whose identifier and name the program printed: they are one object's."""
+        """What is told of somebody whose identifier and name the program printed: they are one object's, or nobody's."""
+        if name == "-":
+            if self.accounts.of_sid.get(sid_of_text(sid)) in self.names:
+                raise Changed(f"{sid} has an object")
+            return {"sid": sid, "account": self.called(sid), "name": None}
         number = self.number(name)
         if self.accounts.sids.get(number) != sid_of_text(sid):
-            raise Changed(f"{name} hasn't the identifier {sid}")
+            raise Changed(f"{name} doesn't have the SID {sid}")
         return {"sid": sid, "account": self.accounts.names_of(number)[0], "name": self.names[number]}
 
     def called(self, sid):
@@ -151,7 +155,7 @@ class Asked:
         """From another store to this one. The account is that of this one, as the identifier and the name are."""
         made = differences.read(text_of(program("diff", before, self.path)))
         principals = [{**one, **self.one(one["sid"], one["name"])} for one in made["principals"]]
-        for name in [one["name"] for one in made["objects"]] + made["onlyAfter"]:
+        for name in [one["name"] for one in made["objects"]] + differences.alone(made, "+"):
             self.number(name)
         return {"command": "diff", "before": before, "after": self.path, **made, "principals": principals}
 

@@ -11,7 +11,7 @@ class Changed(Exception):
     """What the program says isn't so of the rows that were read, with what it is."""
 
     def __init__(self, what):
-        super().__init__(f"it changed while it was asked, or the program is another one's: {what}")
+        super().__init__(f"the store changed meanwhile, or the program isn't of this release: {what}")
 
 
 def sddl(line, entry, schema):
@@ -49,7 +49,12 @@ class Entries:
 
     def decides(self, word, number):
         """What a first word of an answer says: by what; of an entry its place, its text and the line of `list`, and else who
-        owns the object."""
+        owns the object. Where it is the parent's, its name stands beside it; where nothing is needed, it is by nothing."""
+        if word.startswith("parent:"):
+            above = self.objects[number].parent
+            return {**self.decides(word[len("parent:"):], above), "parent": self.names[above]}
+        if word == "-":
+            return {"by": "nothing"}
         owner, texts = self.told(number)
         if not word.isdigit():
             return {"by": word, "owner": owner} if word == "owner" else {"by": word}

@@ -15,7 +15,8 @@ HEADS = {"token": ("part", "sid", "account"),
 
 def decides(told):
     entry = f"O:{told['owner']}" if "owner" in told else told.get("entry", "")
-    return [told["by"], told.get("place", ""), entry]
+    by = f"parent:{told['by']}" if "parent" in told else told["by"]
+    return [by, told.get("place", ""), entry]
 
 
 def rows(made):
@@ -25,18 +26,24 @@ def rows(made):
         found += [["group", one["sid"], one["account"] or ""] for one in made["groups"]]
         return found + [["privilege", "", name] for name in made["privileges"]]
     if made["command"] == "who":
-        return [decides(one["decides"]) + [one["sid"], one["account"], one["name"]] for one in made["principals"]]
+        return [decides(one["decides"]) + [one["sid"], one["account"] or "", one["name"] or ""] for one in made["principals"]]
     if made["command"] == "diff":
         return diff_rows(made)
     return [decides(one["decides"]) + [one["name"]] for one in made["objects"]]
 
 
+def cause_row(one):
+    """A cause: what was changed on what, beside it the entry, the owner or the member."""
+    word = f"{one['cause']} {one['sign']}" if one["sign"] else one["cause"]
+    who = one["name"] if "group" in one else ""
+    return [word, "", one.get("ace", ""), "", one.get("sid", ""), "", who, one.get("group", one["name"])]
+
+
 def diff_rows(made):
-    """One of each right of each principal on each object, and one of each object that isn't in both stores."""
-    found = [[differences.SIGNS[sign], right["of"], right["name"] or "", right["code"], who["sid"], who["account"] or "", who["name"], one["name"]]
-             for sign, right, who, one in differences.expanded(made)]
-    return found + [[word, "", "", "", "", "", "", name] for word, key in (("only before", "onlyBefore"), ("only after", "onlyAfter"))
-                    for name in made[key]]
+    """One of each cause, and one of each right of each principal on each object."""
+    return [cause_row(one) for one in made["causes"]] + [
+        [differences.SIGNS[sign], right["of"], right["name"] or "", right["code"], who["sid"], who["account"] or "", who["name"], one["name"]]
+        for sign, right, who, one in differences.expanded(made)]
 
 
 def as_json(made, told):
