@@ -3,7 +3,8 @@
 # make install    puts program, companions, man page, completion and documents below PREFIX (/usr/local), and below DESTDIR if given
 # make uninstall  takes them away again
 # make library    proves and builds the library for C, which the release has already
-# make deb        builds a package for Debian, here
+# make package    makes the download, here: a package for Debian, a tar file, and their sums
+# make deb        makes the package for Debian alone
 
 PREFIX = /usr/local
 DESTDIR =
@@ -23,7 +24,10 @@ uninstall:
 library:
 	tools/library --build
 
+package:
+	tools/package
+
 deb:
 	tools/deb
 
-.PHONY: all test install uninstall library deb
+.PHONY: all test install uninstall library package deb

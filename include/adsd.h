@@ -112,8 +112,8 @@ uint32_t adsd_granted_normal(const uint8_t *normal, size_t normal_size, const ui
 /* The rights of the wanted mask, after generic mapping, that the self-relative descriptor grants to the token at
  * each node of a tree of object types ([MS-DTYP] 2.5.3.2), in the order of the nodes: a leaf has what
  * adsd_granted answers for the GUIDs from the root down to it, and any other node what all its children have.
- * own is the identifier that the object has of its own; no bytes say that it has none. With any code but ADSD_OK
- * no right is given at any node.
+ * own is the identifier that the object has of its own; no bytes say that it has none. Masks after those of the
+ * nodes become 0. With any code but ADSD_OK no right is given at any node.
  *
  * Codes: The first in this order: ADSD_SD where the bytes are no descriptor with owner, group and DACL,
  * ADSD_TOKEN where they are no token, ADSD_OWN_SID where they are neither an identifier nor absent, ADSD_TREE

@@ -9,13 +9,13 @@ _adsd_stores() {
 
 _adsd() {
     local word=${COMP_WORDS[COMP_CWORD]} command=${COMP_WORDS[1]-}
-    local commands="access sddl change load serve settle check audit grants list effective token who can diff sample"
+    local commands="access sddl change load serve settle check audit grants list effective token who can rights diff sample"
     COMPREPLY=()
     if [ "$COMP_CWORD" -eq 1 ]; then
         mapfile -t COMPREPLY < <(compgen -W "$commands help --help --version" -- "$word")
     elif [ "$command" = help ]; then
         [ "$COMP_CWORD" -eq 2 ] && mapfile -t COMPREPLY < <(compgen -W "$commands" -- "$word")
-    elif [ "$COMP_CWORD" -eq 2 ] && [[ " load serve settle check audit grants list effective token who can diff sample " == *" $command "* ]]; then
+    elif [ "$COMP_CWORD" -eq 2 ] && [[ " load serve settle check audit grants list effective token who can rights diff sample " == *" $command "* ]]; then
         _adsd_stores "$word"
     elif [ "$COMP_CWORD" -eq 3 ] && [ "$command" = diff ]; then
         _adsd_stores "$word"
@@ -31,8 +31,8 @@ _adsd_companion() {
     fi
     of=${COMP_WORDS[at]-}
     case $name in
-        adsd-tools) words="ask bloodhound explore import ldap names replica report whatif who" ;;
-        adsd-ask) words="access frames replies" ;;
+        adsd-tools) words="ask audit bloodhound explore export import ldap names replica report whatif who" ;;
+        adsd-ask) words="access frames replies effective list grants search" ;;
         adsd-ldap) words="serve name" ;;
         adsd-replica) words="begin copy serve status health forget upgrade compare skip key" ;;
         adsd-who) words="token who can diff" ;;
@@ -51,4 +51,4 @@ _adsd_companion() {
 }
 
 complete -F _adsd adsd
-complete -F _adsd_companion adsd-tools adsd-ask adsd-bloodhound adsd-explore adsd-export adsd-import adsd-ldap adsd-names adsd-replica adsd-report adsd-whatif adsd-who
+complete -F _adsd_companion adsd-tools adsd-ask adsd-audit adsd-bloodhound adsd-explore adsd-export adsd-import adsd-ldap adsd-names adsd-replica adsd-report adsd-whatif adsd-who

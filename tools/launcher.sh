@@ -6,13 +6,32 @@
 help() {
     local name=${1-}
     if [ -z "$name" ]; then
-        cat "$tools/help"
+        show_help "$tools/help"
     elif [[ $name =~ ^[a-z]+$ ]] && [ -f "$tools/helps/$name" ]; then
-        cat "$tools/helps/$name"
+        show_help "$tools/helps/$name"
     else
         printf 'adsd: there is no command %q; adsd help names all\n' "$name" >&2
         return 2
     fi
+}
+
+# Prints a text of help, which names commands and files as they are called at the top of the repository. An adsd that is
+# installed has its documents and examples in the folder that $documents names, and its commands in the path.
+show_help() {
+    local text place quoted
+    text=$(<"$1")
+    if [ -n "${documents-}" ]; then
+        printf -v quoted %q "$documents"
+        text=${text//.\/adsd /adsd } text=${text//tools\/adsd-/adsd-}
+        for place in docs/ examples/ tools/README; do text=${text//"$place"/"$quoted/$place"}; done
+    fi
+    printf '%s\n' "$text"
+}
+
+# `effective STORE DN --as NAME` is asked by a companion, with the token that the store gives the account.
+ask_by_name() {
+    [ "${1-}" = effective ] && [ $# = 5 ] && [ "$4" = --as ] || return 0
+    exec "$tools/adsd-ask" effective "$2" "$3" --as "$5"
 }
 
 # Answers -h, --help, help and --version, and ends; returns where the words are others.
@@ -35,7 +54,7 @@ check_files() {
     local fault=
     case ${1-} in
         load | sample | serve | settle) umask 077 && look_at_files write "${2-}" ;;
-        check | audit | grants | list | effective | token | who | can) look_at_files read "${2-}" ;;
+        check | audit | grants | list | effective | token | who | can | rights) look_at_files read "${2-}" ;;
         diff) look_at_files read "${2-}" "${3-}" ;;
     esac
     [ -n "$fault" ] || return 0
@@ -87,13 +106,13 @@ fault_to_write() {
 # Sets `fault` to why a link isn't followed to what is read. What stands there is read, whoever may write it; but
 # another user's link would choose what is read. Root's are followed, and one's own.
 fault_to_read() {
-    [ "$3" = "$EUID" ] || [ "$3" = 0 ] || fault="is a link of another user (uid $3); name the file that it leads to"
+    [ "$3" = "$EUID" ] || [ "$3" = 0 ] || fault="is a symbolic link of another user (uid $3); name the file that it leads to"
 }
 
 # Long work tells how far it is, where somebody looks or asks: from beside, by a child that the program doesn't know.
 tell_progress() {
     case ${1-} in
-        load | serve | settle | check | audit | grants | list | effective | token | who | can | sample)
+        load | serve | settle | check | audit | grants | list | effective | token | who | can | rights | sample)
             if [ "${ADSD_PROGRESS-}" = 1 ] || { [ -t 2 ] && [ "${ADSD_PROGRESS-}" != 0 ]; }; then
                 "$tools/progress" $$ "$@" </dev/null >/dev/null &
             fi
