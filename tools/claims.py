@@ -112,8 +112,8 @@ def faults(writes):
         elif not name.startswith("tests_"):
             found.append(f"docs/claims.txt: there is nothing of {name}")
     found += [f"docs/claims.txt: {name} is no crate of crates.txt" for name in told if name not in crates]
-    promised = text_of(os.path.join(TOP, "README.md")).partition("## What is promised\n")[2].partition("\n## ")[0]
+    promised = text_of(os.path.join(TOP, "docs/reading.md")).partition("## What is promised\n")[2].partition("\n## ")[0]
     for code, parts in words_of(promised):
         if any(part not in known for part in parts):
-            found.append(f"README.md: `{code}` isn't found in the code")
+            found.append(f"docs/reading.md: `{code}` isn't found in the code")
     return found + generated.faults(os.path.join(TOP, "docs/claims.md"), "claims", page[:-1], writes)

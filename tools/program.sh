@@ -1,4 +1,5 @@
 # What the launcher and the scripts beside it know of the program; read by `.` with the top of the repository in $here.
+. "$here/tools/system.sh"
 
 # The program that is proved and built here, and the one that is run.
 built=$here/crates/adsd/out/adsd
@@ -121,7 +122,9 @@ fault_of_release() {
     if [ -n "$fault" ]; then
         echo "$fault"
     elif ! said=$(printf O:BA | "$release/adsd" sddl 2>&1) || [ "${said##*$'\n'}" != O:S-1-5-32-544 ]; then
-        echo "it doesn't start here: ${said##*$'\n'}"
+        fault=$(fault_of_system)
+        [ -n "$fault" ] || fault="it doesn't start here: ${said##*$'\n'}"
+        echo "$fault"
     fi
 } 2>/dev/null
 

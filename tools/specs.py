@@ -173,8 +173,10 @@ class House:
                 for at, _, names in os.walk(os.path.join(CRATES, crate, kind)):
                     for name in sorted(names):
                         path = os.path.join(at, name)
-                        if name.endswith(ending) and name != "Lib.antt" and "/tests" not in path:
-                            files[os.path.relpath(path, CRATES)] = (Specs if kind == "specs" else Code)(path)
+                        short = os.path.relpath(path, CRATES)
+                        # (a folder above the clone may have any name)
+                        if name.endswith(ending) and name != "Lib.antt" and "/tests" not in short:
+                            files[short] = (Specs if kind == "specs" else Code)(path)
         for short, code in self.code.items():
             for name in re.findall(r"^(?:pub(?:\([^)]*\))? )?(?:struct|enum|trait|type) (\w+)", code.text, re.M):
                 self.types.setdefault((short.split("/")[0], name), short)

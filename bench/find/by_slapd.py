@@ -145,7 +145,7 @@ class Counter:
         pass
 
 
-def database(place, export, indexes):
+def database(place, export, indexes, schema=None):
     """Makes a database of the export with these indexes, and gives the path of its slapd.conf and the words that slapadd is called with."""
-    config = slapd.config(place, True, ["objectClass", *indexes][:slapd.MOST_INDEXES], slapd.RIGHTS)
+    config = slapd.config(place, True, ["objectClass", *indexes][:slapd.MOST_INDEXES], slapd.RIGHTS, schema)
     return config, [SLAPADD, "-q", "-f", config, "-l", export]

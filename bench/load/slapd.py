@@ -43,13 +43,14 @@ def object_class(number, name, above, kind, may):
     return f"objectclass ( 1.3.6.1.4.1.99999.{number} NAME '{name}' SUP ( {above} ) {kind} MAY ( {' $ '.join(may)} ) )"
 
 
-def config(place, real=False, indexes=("objectClass", "sAMAccountName", "objectSid"), more=""):
-    """Writes a slapd.conf with these indexes for equality, and an empty folder for the database, and gives the path."""
+def config(place, real=False, indexes=("objectClass", "sAMAccountName", "objectSid"), more="", told=None):
+    """Writes a slapd.conf with these indexes for equality, and an empty folder for the database, and gives the path. The schema
+    is that of make.py, or the one that is told."""
     os.mkdir(os.path.join(place, "db"))
     path = os.path.join(place, "slapd.conf")
     with open(path, "w", encoding="utf-8") as out:
         modules = os.environ.get("SLAPD_MODULES", "/usr/lib/ldap")
-        out.write(f"modulepath {modules}\nmoduleload back_mdb\n" + schema(real))
+        out.write(f"modulepath {modules}\nmoduleload back_mdb\n" + (told or schema(real)))
         out.write(f'database mdb\nsuffix "{make.ROOT}"\ndirectory {place}/db\nmaxsize 4294967296\n{more}')
         out.writelines(f"index {name} eq\n" for name in indexes)
     return path

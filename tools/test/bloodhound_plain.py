@@ -8,13 +8,16 @@ import uuid
 ALL, GENERIC_WRITE = 0xF01FF, 0x20028
 SW, WP, CR, WD, WO = 0x8, 0x20, 0x100, 0x40000, 0x80000
 ALLOW, DENY, INHERIT_ONLY = (0, 5), (1, 6), 0x08
+KEY = "5b47d60f-6090-40b2-9f37-2a4de88f3063"
 RESET, MEMBER, SPN, CHANGES, CHANGES_ALL = (
     "00299570-246d-11d0-a768-00aa006e0529", "bf9679c0-0de6-11d0-a285-00aa003049e2", "f3a64788-5306-11d1-a9c5-0000f80367c1",
     "1131f6aa-9c07-11d1-f79f-00c04fc2dcd2", "1131f6ad-9c07-11d1-f79f-00c04fc2dcd2")
 # What an edge says that other edges say too.
-SAYS = {"User": {"AllExtendedRights": ["ForceChangePassword"], "GenericWrite": ["WriteSPN"]},
+SAYS = {"User": {"AllExtendedRights": ["ForceChangePassword"], "GenericWrite": ["WriteSPN", "AddKeyCredentialLink"]},
+        "Computer": {"GenericWrite": ["AddKeyCredentialLink", "AddAllowedToAct"]},
         "Group": {"GenericWrite": ["AddMember", "AddSelf"], "AddMember": ["AddSelf"]},
-        "Domain": {"AllExtendedRights": ["GetChanges", "GetChangesAll"]}}
+        "OU": {"GenericWrite": ["WriteGPLink"]},
+        "Domain": {"AllExtendedRights": ["GetChanges", "GetChangesAll", "GetChangesInFilteredSet"], "GenericWrite": ["WriteGPLink"]}}
 WITH_RIGHTS, WITH_WRITE = ("User", "Computer", "Domain"), ("User", "Group", "Computer", "OU", "Domain")
 
 try:
@@ -76,7 +79,7 @@ def of_entry(mask, guid, kind):
         named = {"User": {RESET: "ForceChangePassword"}, "Domain": {CHANGES: "GetChanges", CHANGES_ALL: "GetChangesAll"}}.get(kind, {})
         made |= {"AllExtendedRights"} if guid is None else {named[guid]} if guid in named else set()
     if mask & WP and kind in WITH_WRITE:
-        named = {"User": {SPN: "WriteSPN"}, "Group": {MEMBER: "AddMember"}}.get(kind, {})
+        named = {"User": {SPN: "WriteSPN", KEY: "AddKeyCredentialLink"}, "Computer": {KEY: "AddKeyCredentialLink"}, "Group": {MEMBER: "AddMember"}}.get(kind, {})
         made |= {"GenericWrite"} if guid is None else {named[guid]} if guid in named else set()
     return made
 

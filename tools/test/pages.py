@@ -1,6 +1,11 @@
-"""Pages whose commands are typed: the lines behind `$`, and what has to come of each."""
+"""Pages whose commands are typed: the lines behind `$`, and what has to come of each; and the examples of a help."""
 
 import re
+
+# A word in capitals stands for one of the reader's, and brackets for what may be left out.
+FORM = re.compile(r"(^|[\s<>])(STORE|FILE|NAME|SDDL|LDIF|SID|DN|NEW|ENTRY|COMPANION)\b|\[|\.\.($|\s)")
+# Behind three blanks stands what an example is for.
+REMARK = re.compile(r"\s{2,}(\(.*)?$|\s{3,}\S.*$")
 
 
 def commands(text):
@@ -34,3 +39,19 @@ def agrees(wanted, said):
         else:
             pattern += re.escape(line) + r"\n"
     return re.fullmatch(pattern, said.rstrip("\n") + "\n") is not None
+
+
+def examples(text, indent):
+    """The lines of a help that can be typed."""
+    for line in text.splitlines():
+        begins = re.match(indent + r"(?=(\./adsd|tools/adsd-|adsd-|adsd |echo |\())", line)
+        if begins and not FORM.search(line):
+            yield REMARK.sub("", line[begins.end() :])
+
+
+def overview(text):
+    """The examples in the last column of the help on all commands."""
+    for line in text.splitlines():
+        found = re.match(r"  [a-z]+.{38,46}?((\./adsd|tools/adsd-|adsd-|adsd ).*)$", line)
+        if found:
+            yield found.group(1)

@@ -98,10 +98,10 @@ objectSid: S-1-5-21-1-2-3-1005
 """
 BY = "allowed by entry 1 (anonymous)"
 RANKED = [
-    ("Directory Service", "owns the object, writes the list (WD) : the token holds the owner, and no entry is for "
+    ("Directory Service", "owns the object, writes the DACL (WD) : the token holds the owner, and no entry is for "
      "owner rights"),
-    ("Windows NT", f"writes the list (WD), writes the owner (WO), has all rights (GA) : {BY}"),
-    ("Configuration", f"writes the list (WD) : {BY}"),
+    ("Windows NT", f"writes the DACL (WD), writes the owner (WO), has all rights (GA) : {BY}"),
+    ("Configuration", f"writes the DACL (WD) : {BY}"),
     ("Services", f"writes the owner (WO) : {BY}"),
     ("ann", f"resets the password (User-Force-Change-Password): {BY}"),
     ("club", f"writes members of a protected group (member): {BY}"),
@@ -169,7 +169,7 @@ def result(tries, base):
         tries.check(row[0].startswith(name + " ") and row[1] == said, f"danger {at}: {row}, {said}")
     tries.check(len(found) == len(RANKED), f"{len(found)} rows of dangers")
     tries.check("protected" in found[4][0] + found[5][0] and "protected" not in found[7][0], f"protected: {found}")
-    wanted = [("1", "owns the object"), ("3", "writes the list (WD)"), ("2", "writes the owner (WO)"),
+    wanted = [("1", "owns the object"), ("3", "writes the DACL (WD)"), ("2", "writes the owner (WO)"),
               ("1", "has all rights (GA)"), ("1", "resets the password"), ("1", "writes members of a protected group"),
               ("1", "writes ways into an account"), ("1", "writes members of another group"),
               ("1", "reads confidential attributes")]

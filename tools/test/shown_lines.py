@@ -10,8 +10,9 @@ GUID = "bf967aba-0de6-11d0-a285-00aa003049e2"
 # Names that other ways of reading would part or trim.
 ODD = ["CN=a\u0085b,DC=x", "CN=\u0085", "CN=a\u2028b\u2029", "CN=a\x0b\x0c\x1c\x1d\x1e", "CN=\\ a \\ ,DC=x",
        " CN=a ", "CN=a\r", "CN=\u00a0a\u3000"]
-DIFF = (f"principal 1 {BOB} CN=bob,DC=x\nobject 1 CN=ann,DC=x\nprincipals 1 objects 1\n+ object WD\n+ right A b CR\n"
-        "- attribute cn WP\nonly before CN=old,DC=x\nonly after CN=new,DC=x\n")
+DIFF = ("object + CN=new,DC=x\nobject - CN=old,DC=x\nentry + CN=ann,DC=x\t(A;;WD;;;S-1-1-0)\nmember - CN=g h,DC=x\tCN=bob,DC=x\n"
+        f"principal 1 {BOB} CN=bob,DC=x\nobject 1 CN=ann,DC=x\nprincipals 1 objects 1\n+ object WD\n+ right A b CR\n"
+        "- attribute cn WP\n")
 LISTED = (f"object CN=a,DC=x\nowner {BOB}\ngroup {ANN}\ndacl inherits\nallow {BOB} GA - - - explicit\n"
           f"deny {ANN} 0x1 A b user CIIO inherited\nsacl protected\naudit {BOB} WP - - SA explicit\n")
 
@@ -88,19 +89,21 @@ CASES = [
     ("list", LISTED.replace(f"owner {BOB}", "owner x"), "owner x"),
     ("list", LISTED.replace("object ", "Object "), "Object CN=a,DC=x"),
     ("diff", "", 0),
-    ("diff", DIFF, 5),
+    ("diff", DIFF, 7),
     ("diff", DIFF.replace("principals 1 o", "principals 2 o"), "principals 2 objects 1"),
     ("diff", DIFF.replace("- attribute cn WP\n", "- attribute cn WP\n+ object SD\n"), "+ object SD"),
     ("diff", "+ object WD\n", "+ object WD"),
     ("diff", DIFF + "object 1 CN=b\n", "object 1 CN=b"),
     ("diff", DIFF.replace("object 1 CN=ann,DC=x", "object 1 CN=ann\n+ object GA,DC=x"), "+ object GA,DC=x"),
     ("diff", DIFF.replace("WD", "W"), "+ object W"),
-    ("diff", DIFF + "only after CN=new,DC=x\n", "only after CN=new,DC=x"),
+    ("diff", DIFF + "object + CN=new,DC=x\n", "object + CN=new,DC=x"),
+    ("diff", "member + CN=g CN=bob\n", "member + CN=g CN=bob"),
+    ("diff", "owner CN=ann\tann\n", "owner CN=ann"),
     ("diff", DIFF + "x\n", "x"),
     ("diff", DIFF.replace("object 1 ", "object 0 "), "object 0 CN=ann"),
-    ("diff", DIFF[:-1], "only after CN=new,DC=x"),
+    ("diff", DIFF[:-1], "- attribute cn WP"),
     *[(word, text.format(name), 1) for name in ODD for word, text in (
-        ("who", "1 " + BOB + " {}\n"), ("can", "1 {}\n"), ("diff", "only after {}\n"),
+        ("who", "1 " + BOB + " {}\n"), ("can", "1 {}\n"), ("diff", "object + {}\n"),
         ("audit", "1 0 success WD - " + BOB + " {}\n"))],
 ]
 REASONS = [("no object\n", "no object"), ("no right\n", "no right"),

@@ -11,9 +11,9 @@ import time
 from .web import Served
 
 # What the user waits at most, on a machine that is busy; an answer takes some milliseconds.
-SECONDS = 60
+SECONDS = 300
 # A head may take five seconds, and whoever looks has to come to his turn.
-SECONDS_HEAD, LATE = 5, 30
+SECONDS_HEAD, LATE = 5, 120
 MOST_GROWTH_KB = 24_000
 MEGABYTES, KNOWN = 4, 32
 

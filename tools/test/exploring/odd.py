@@ -18,7 +18,7 @@ GOOD = {"n": "1", "sid": "S-1-5-11", "kind": "object", "name": "", "code": "WD"}
 REQUESTS = {"children": ("n", "after"), "object": ("n", "step"), "who": ("n", "kind", "name", "code", "after", "step"),
             "principal": ("sid", "step"), "can": ("sid", "n", "step"), "exposed": ("step",), "moment": ("plan", "step"),
             "gains": ("plan", "step"), "gained": ("plan", "sid", "step"), "askable": ("n",), "find": ("q",), "whom": ("q",),
-            "frames": ("plan", "form"), "start": (), "classes": ()}
+            "frames": ("plan", "form"), "start": (), "classes": (), "audited": ()}
 CHANGES = [1, None, [], {}, {"op": None}, {"op": []}, {"op": {}}, {"op": "add"}, {"op": "add", "n": True, "ace": "(A;;WD;;;AU)"},
            {"op": "add", "n": 1.0, "ace": "(A;;WD;;;AU)"}, {"op": "add", "n": "1", "ace": "(A;;WD;;;AU)"},
            {"op": "add", "n": -1, "ace": "(A;;WD;;;AU)"}, {"op": "add", "n": 10**400, "ace": "(A;;WD;;;AU)"},

@@ -3,8 +3,10 @@ near misses; and that who stands there has the right by the program."""
 
 import csv
 import gzip
+import json
 import os
 import subprocess
+import time
 
 from . import corp
 from .rights import Opened
@@ -13,6 +15,8 @@ FAULTS = os.path.join(corp.TOP, "examples/faults")
 # The rows of faults.tsv that the first table is for, those of which nothing may stand there, and those of the second.
 SHOWN = ("F01", "F02", "F03", "F05", "F07", "F08", "F09", "F10", "F12", "F15")
 HIDDEN = ("N01", "N02", "N03", "N05", "N08", "N09", "N10", "N12")
+# How many findings the targets have together; and how long the program may be asked about them.
+FOUND, SECONDS = 21, 900
 MANY = (("hd.emil", "scripts"), ("theo.lab", "reset"))
 # What the program is asked for, by the rank.
 RIGHTS = {"owner": "WD", "list": "WD", "take": "WO", "secrets": "CR:DS-Replication-Get-Changes-All",
@@ -66,12 +70,30 @@ def as_who(tries, opened, store, rows):
             tries.check(not missing, f"{words[3:]}: `who` hasn't {missing}")
 
 
+def targets(tries, opened, store):
+    """The targets that the page leads with have the findings and the counts of adsd-audit, and each planted fault."""
+    end = time.monotonic() + SECONDS
+    while not (told := opened.get("audited"))["ready"] and time.monotonic() < end:
+        time.sleep(0.2)
+    words = [os.path.join(corp.TOP, "tools/adsd-audit"), store, "--json"]
+    made = json.loads(subprocess.run(words, stdout=subprocess.PIPE, check=True).stdout)
+    counts = {one["key"]: one["faults"] for one in told.get("targets", [])}
+    wanted = {key: made["counts"][key] for key in counts}
+    tries.check(counts == wanted, f"the counts of the targets: {counts}, {told.get('why')}")
+    whole = sum(made["counts"].values())
+    tries.check(told.get("faults") == whole == FOUND, f"{told.get('faults')} and {whole} findings, not {FOUND}")
+    asks = [one["ask"] for area in told.get("targets", []) for one in area["findings"]]
+    tries.check(asks == [one["ask"] for one in made["findings"]], f"the findings: {asks}")
+    tries.check(not os.path.exists(opened.explorer.auditing.copy), "the copy that was audited has its name still")
+
+
 def run(tries):
     """All of it."""
     store = tries.path("planted")
     load(store)
     opened = Opened(tries, store)
     try:
+        targets(tries, opened, store)
         as_who(tries, opened, store, first_page(tries, opened))
     finally:
         opened.explorer.close()

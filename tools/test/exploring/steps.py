@@ -33,15 +33,15 @@ CASES = {
 }
 FAULTS = [
     ({"op": "add", "ace": "(A;CI;WPXD;;;AU)"}, "at character 9: neither a right nor the end of the rights"),
-    ({"op": "add", "ace": "(A;;WP;;;AU)(A;;WP;;;AU)"}, "one entry is wanted, and here are 2"),
+    ({"op": "add", "ace": "(A;;WP;;;AU)(A;;WP;;;AU)"}, "expected one entry, not 2"),
     ({"op": "add", "ace": "(A;ID;WP;;;AU)"}, "an entry with the flag ID is inherited"),
-    ({"op": "add", "ace": "(AU;SA;WP;;;AU)"}, "an audit entry stands in the system list"),
+    ({"op": "add", "ace": "(AU;SA;WP;;;AU)"}, "an audit entry belongs in the SACL"),
     ({"op": "add", "ace": "(A;;WP;;;AU)S:"}, "a list begins with D: and has nothing else"),
     ({"op": "list", "sddl": "O:BAD:"}, "a list begins with D: and has nothing else"),
-    ({"op": "remove", "old": "(A;;WP;;;S-1-5-11)"}, "the object has no such entry of its own now"),
-    ({"op": "revoke", "sid": "S-1-5-7"}, "no entry of the object's own is for it"),
-    ({"op": "owner", "sid": "nobody"}, "the owner is no identifier"),
-    ({"op": "nonsense"}, "a change of no kind"), ({"op": "add", "ace": 7}, "a change of no kind"),
+    ({"op": "remove", "old": "(A;;WP;;;S-1-5-11)"}, "the object no longer has this explicit entry"),
+    ({"op": "revoke", "sid": "S-1-5-7"}, "the object has no explicit entry for it"),
+    ({"op": "owner", "sid": "nobody"}, "the owner isn't a SID"),
+    ({"op": "nonsense"}, "unknown kind of change"), ({"op": "add", "ace": 7}, "unknown kind of change"),
 ]
 
 

@@ -1,4 +1,4 @@
-"""Ten tasks of an auditor in the browser, by keyboard alone, at two widths, light and dark."""
+"""Eleven tasks of an auditor in the browser, by keyboard alone, at two widths, light and dark."""
 
 import http.client
 import os
@@ -6,11 +6,11 @@ import subprocess
 
 from adsd_tools.report.state import State
 
-from . import corp, seen
+from . import corp, seen, tabs
 from .driver import Broken, Browser
 from .web import Served
 
-SIZES = [(1280, 900, False), (1280, 900, True), (400, 800, False), (400, 800, True)]
+SIZES = [(1280, 900, False), (1280, 900, True), (390, 844, False), (390, 844, True)]
 NAME = """
 const one = document.activeElement;
 const label = one.labels && one.labels.length ? one.labels[0].textContent : "";
@@ -115,7 +115,7 @@ def reset(one):
     one.looks()
     one.find("Administrator")
     one.looks()
-    one.select("do this to it", "resets")
+    one.select("what is done", "resets")
     one.push("Who can?")
     one.reads("4 accounts, by 2 ways")
     text = one.browser.script("return document.getElementById('main').textContent")
@@ -150,7 +150,7 @@ def may(one):
     """What an account may do and where, the worst first."""
     one.find("dave")
     one.push("What dave may do, and where")
-    one.reads("The worst, on 5 objects of 31: it writes the list (WD).")
+    one.reads("The worst, on 5 objects of 31: it writes the DACL (WD).")
     one.push("11 resets the password")
     one.reads("bob, carol, erin, frank, grace")
     one.looks()
@@ -163,7 +163,7 @@ def members(one):
     """Who writes the members of the domain's administrators."""
     one.push("Who can ..", "link")
     one.choose("to which object", "Domain Admins")
-    one.select("do this to it", "writes members")
+    one.select("what is done", "writes members")
     one.push("Who can?")
     one.reads("2 accounts:")
     one.reads("alice")
@@ -174,11 +174,11 @@ def take_away(one):
     """Takes a right away, and sees who still has it by a group."""
     one.find("Administrator")
     one.push("Try without it (the entry for old-support)")
-    one.reads("take an entry away")
+    one.reads("remove an entry")
     one.reads("loses 1")
     one.looks()
     one.choose("to which object", "Administrator")
-    one.select("do this to it", "resets")
+    one.select("what is done", "resets")
     one.push("Who can, then?")
     one.reads("in the store: 4 accounts")
     one.reads("at the end: 2 accounts")
@@ -239,7 +239,7 @@ def frames(one):
     """The frames that make it so."""
     one.find("staff")
     one.push("Try without it (the entry for helpdesk)")
-    one.reads("The frames that make it so")
+    one.reads("The requests that make these changes")
     lines = one.browser.script("return [...document.querySelectorAll('pre')].map((one) => one.textContent)")
     one.check(lines and lines[0].startswith("token 0 user=S-1-5-18 ") and "modify 0 dn=OU=staff,DC=corp,DC=example sd=dacl" in lines[0], lines)
     address = one.browser.script("return document.querySelector('a[download=\"adsd.txt\"]').href")
@@ -257,7 +257,7 @@ def write(one):
     one.push("Try without it (the entry for helpdesk)")
     one.reads("Write it to the store itself")
     one.looks()
-    one.push(f"Write to {os.path.basename(one.store)}: OU=staff: take an entry away; and pass it all on")
+    one.push(f"Write to {os.path.basename(one.store)}: OU=staff: remove an entry; and propagate it all")
     one.reads("Written to")
     found = State(one.store)
     number = found.found(corp.STAFF)
@@ -308,7 +308,7 @@ def reported(tries):
         tries.check(subprocess.run(words, stdout=opened).returncode == 0, "the page of rights")
 
 
-TASKS = [reset, unfold, may, members, take_away, add, by_text, protect, frames]
+TASKS = [reset, tabs.tabs, unfold, may, members, take_away, add, by_text, protect, frames]
 
 
 def all_of(tries, served, odd_one, size):

@@ -195,7 +195,7 @@ def writes(tries):
         _, told = served.post("try", change)
         before = State(tries.path("written")).objects
         found = served.post("write", {"plan": told["plan"], "settle": True})
-        tries.check(found == (400, {"error": "the store is explored without --write"}), f"without --write: {found}")
+        tries.check(found == (400, {"error": "the explorer was started without --write"}), f"without --write: {found}")
         now = State(tries.path("written")).objects
         tries.check({n: one.normal for n, one in now.items()} == {n: one.normal for n, one in before.items()}, "it was written")
     finally:
@@ -215,7 +215,7 @@ def writes(tries):
         subprocess.run([os.environ["ADSD"], "serve", tries.path("written")], input=bytes.fromhex("04000000000000"),
                        stdout=subprocess.DEVNULL)
         status, said = served.post("write", {"plan": told["plan"], "settle": False})
-        tries.check(status == 409 and "written by another program" in said["error"], f"a store that another wrote: {status} {said}")
+        tries.check(status == 409 and "another program has written" in said["error"], f"a store that another wrote: {status} {said}")
     finally:
         status, said = served.end()
     tries.check(status == 0 and "1 changes written" in said, f"the end: {status} {said}")
@@ -230,7 +230,7 @@ def words(tries):
     taken.bind(("127.0.0.1", 0))
     taken.listen()
     for given, status, said in (([tries.path("missing")], 1, "there is no such file"), ([junk], 1, "store empty"), ([], 2, "required"),
-                                ([tries.path("corp"), "--port", "x"], 2, "is no port"),
+                                ([tries.path("corp"), "--port", "x"], 2, "isn't a port"),
                                 ([tries.path("corp"), "--port", str(taken.getsockname()[1])], 5, "Address already in use")):
         done = subprocess.run([COMMAND, *given], capture_output=True, text=True, timeout=SECONDS)
         tries.check(done.returncode == status and said in done.stderr and not done.stdout, f"{given}: {done}")

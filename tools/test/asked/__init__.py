@@ -1,0 +1,1 @@
+"""What tools/test/rules rests on: the rules of rights in Python, and directories made by chance."""
