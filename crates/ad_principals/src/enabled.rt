@@ -32,7 +32,7 @@ fn has_security_bit(value: &Value) -> bool
 
 /// Whether a group counts for access: it has no groupType, or one with that bit.
 #[tactic(auto, unfolding(crate::specs::Groups::is_security_enabled))]
-pub(crate) fn is_security_enabled(dir: &Dir, group: u32) -> bool
+pub fn is_security_enabled(dir: &Dir, group: u32) -> bool
     ensures { result ≡ is_security_enabled dir.now group }
 {
     match first_value(dir, group, dir.schema().attr(b"groupType")) {

@@ -42,6 +42,7 @@ mod taking;
 mod token;
 mod values;
 
+pub use enabled::is_security_enabled;
 pub use fault::{NameFault, TokenFault};
 pub use groups::in_order;
 pub use laws::{

@@ -11,7 +11,7 @@
 //!
 //! The edits may be applied one after the other and make the directory after a run, in which each protected object
 //! has the frozen descriptor of AdminSDHolder and adminCount, and no other object is touched. Both numbers are
-//! those of the definition.
+//! those of the definition. Which objects are protected is told by itself too.
 //!
 //! # The caller owes
 //!
@@ -26,14 +26,15 @@ mod adding;
 mod frozen;
 mod given;
 mod group;
+mod listing;
 mod mark;
 mod marks;
 mod primary;
-mod protected;
 mod puts;
 mod run;
 mod seeds;
 mod spread;
 mod taking;
 
+pub use listing::protected;
 pub use run::run_edits;

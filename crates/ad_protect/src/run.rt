@@ -12,7 +12,7 @@ ghost use Rattle.ad_protect.specs.Run.{MakeRun};
 
 use crate::given::{Given, given_by};
 use crate::marks::marked_all;
-use crate::protected::protected;
+use crate::listing::protected;
 use crate::puts::puts_of;
 use ad_dir::{Dir, Edit};
 use std::alloc::{AllocError, Global};

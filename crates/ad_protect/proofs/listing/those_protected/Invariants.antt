@@ -1,7 +1,7 @@
 use Rattle.std.proofs.Common.{◌≡◌, take}
 use Rattle.std.specs.Prelude.{filter}
 use Rattle.ad_protect.specs.Spreading.{is_protected}
-use Rattle.ad_protect.proofs.protected.those_protected.Given as goal
+use Rattle.ad_protect.proofs.listing.those_protected.Given as goal
 
 -- those of the numbers so far
 abbrev pub invariant-loop-number : goal.invariant-loop-number

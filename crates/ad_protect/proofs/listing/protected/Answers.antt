@@ -5,7 +5,7 @@ use Rattle.std.specs.Global.{Vec}
 use Rattle.ad_dir_model.specs.Protection.{protected}
 use Rattle.ad_protect.specs.Spreading.{is_protected}
 use Rattle.ad_protect.proofs.Least.{those_protected}
-use Rattle.ad_protect.proofs.protected.protected.Goals as goal
+use Rattle.ad_protect.proofs.listing.protected.Goals as goal
 
 pub returns : goal.returns
 returns c =

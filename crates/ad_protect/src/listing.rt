@@ -36,7 +36,11 @@ fn those_protected(
 }
 
 /// The protected objects by rising number.
-pub(crate) fn protected(alloc: Global, dir: &Dir) -> Result<Vec<u32>, AllocError>
+///
+/// # Errors
+///
+/// Out of memory.
+pub fn protected(alloc: Global, dir: &Dir) -> Result<Vec<u32>, AllocError>
     requires { IsSound dir.now }
     ensures { IfOk result (λ all. all.items ≡ protected dir.now) }
 {
