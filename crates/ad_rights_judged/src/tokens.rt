@@ -58,7 +58,8 @@ impl Tokens {
         self.all.len()
     }
 
-    pub(crate) fn holding(&self) -> &Holding
+    /// Which of them hold each identifier.
+    pub fn holding(&self) -> &Holding
         ensures { result.now ≡ self.now.holding }
     {
         &self.holding
