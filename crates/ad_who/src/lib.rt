@@ -40,5 +40,6 @@ pub use laws::{
     a_line_stands_where_the_token_is_told_yes, a_right_is_granted_where_what_decides_it_grants,
     a_right_is_told_by_what_decides_it, no_question_is_both_answered_and_refused,
 };
+pub use pieces::put_reason;
 pub use reason::{Reason, reason_on};
 pub use told::{Answer, can, token, who};

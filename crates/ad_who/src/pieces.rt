@@ -64,7 +64,11 @@ fn put_above(into: &mut Vec<u8>, decider: Decider) -> Result<(), AllocError>
 }
 
 /// Why a token is told yes, and a blank.
-pub(crate) fn put_reason(into: &mut Vec<u8>, reason: Reason) -> Result<(), AllocError>
+///
+/// # Errors
+///
+/// Memory ran out.
+pub fn put_reason(into: &mut Vec<u8>, reason: Reason) -> Result<(), AllocError>
     ensures { OnOk result (into.new.items ≡ into.old.items ++ spaced (reason_text reason)) }
 {
     match reason {
