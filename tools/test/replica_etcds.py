@@ -9,7 +9,7 @@ import time
 from adsd_tools.forms import ber
 from adsd_tools.replica import entries
 from adsd_tools.replica.etcd import Away, Denied, User, encoded
-from replica_asked import put_by_hand
+from replica_asked import is_told, put_by_hand
 from replica_cases import DONE, READ, WRITE, has, same, shown, written
 from replica_checks import all_entries, differences
 from replica_faults import begun, ended
@@ -90,10 +90,10 @@ def filled(world):
     client, said, end = a.client(), "", time.monotonic() + SECONDS
     while not said.startswith("# modify: 51") and time.monotonic() < end:
         said = written(client, MANY, 400_000 * "x")
-    wrong += has(said, "# modify: 51, etcd is full to ") + has(a.said(), "warning: etcd is full to ")
-    # (by now the keeper may have freed enough inside the file)
-    status, lines = world.command("health", *etcd, good=False)
-    wrong += same(status in (1, 3), True) + has(lines, "replica b doesn't run")
+    wrong += has(said, "# modify: 51, etcd is full to ")
+    world.wait("a warns", lambda: "warning: etcd is full to " in a.said())
+    # (by now the keeper may have freed enough inside the file; and etcd has to notice that b is away)
+    world.wait("b is away", lambda: is_told(world.command("health", *etcd, good=False), "replica b doesn't run"))
     world.command("forget", "b", *etcd)
     world.wait("changes go on", lambda: client.ask(WRITE + "room") == DONE)
     wrong += has(a.said(), "frees ")
