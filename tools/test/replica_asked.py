@@ -185,7 +185,7 @@ def stated(world):
 
 def is_told(said, line):
     """Whether health says that something has to be looked at, and what."""
-    return said[0] == 1 and line in said[1]
+    return said[0] in (1, 3) and line in said[1]
 
 
 def twice(world, b):

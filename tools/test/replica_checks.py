@@ -13,6 +13,7 @@ from adsd_tools.ldap import messages
 from adsd_tools.ldap.program import DROP, MESSAGE, TOKEN
 from adsd_tools.replica import entries
 from adsd_tools.rows import store
+from replica_world import Late
 
 MARK = re.compile(rb"w\d+-\d+\.")
 MOST = 900_000
@@ -69,19 +70,21 @@ class Lasting(str):
 
 def differences(world, notes=None):
     """All that isn't as it should be. The replicas hold still for it: a keeper's steps would come between. Where they
-    weren't at the log's end then, all is looked at again."""
+    weren't at the log's end then, or something came into the log that one of them had sent before, all is looked at
+    again."""
     for _ in range(TRIES):
         world.wait("level", world.is_level)
         running = [one for one in world.replicas if one.is_running() and not one.is_stopped]
         for one in running:
             one.stop()
         try:
-            if world.is_level():
-                return list(map(Lasting, compared(world, all_entries(world), notes)))
+            found = all_entries(world)
+            if all(one.position() == len(found) for one in world.replicas):
+                return list(map(Lasting, compared(world, found, notes)))
         finally:
             for one in running:
                 one.go_on()
-    return [f"the log doesn't come to rest: it has {world.head()} entries"]
+    raise Late(f"the log doesn't come to rest: it has {world.head()} entries")
 
 
 def compared(world, found, notes):

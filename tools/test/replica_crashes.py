@@ -5,8 +5,9 @@ import os
 import subprocess
 
 from ldap_client import PROGRAM
+from replica_cases import resting
 from replica_checks import all_entries, frames_of, same_rows
-from replica_world import MANY, SECONDS, World
+from replica_world import MANY, SECONDS, Late, World
 from adsd_tools.replica.entries import beginning, chained, of_run
 from adsd_tools.replica.ordered import line_of, put_of
 from adsd_tools.replica.position import BLOCK, Position, Positions
@@ -38,7 +39,8 @@ class Crashes:
         for line in CHANGES:
             client.ask(line)
         client.close()
-        world.wait("nothing is pending", lambda: len(all_entries(world)) > len(CHANGES) and world.is_level())
+        resting(world)  # (steps that came later would change rows)
+        world.wait("level", world.is_level)
         self.replica.kill()
         self.entries = all_entries(world)
         self.head = len(self.entries)
@@ -102,8 +104,7 @@ class Crashes:
         try:
             found = self.replica.running.wait(timeout=SECONDS)
         except subprocess.TimeoutExpired:
-            self.replica.kill()
-            return [f"{what}: it goes on"]
+            raise Late(f"{what}: it goes on") from None
         if found != status or told not in self.replica.said():
             return [f"{what}: it ended with {found}, expected {status}: {self.replica.said()[-300:]}"]
         return []

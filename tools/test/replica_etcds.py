@@ -9,7 +9,7 @@ import time
 from adsd_tools.forms import ber
 from adsd_tools.replica import entries
 from adsd_tools.replica.etcd import Away, Denied, User, encoded
-from replica_asked import put_by_hand
+from replica_asked import is_told, put_by_hand
 from replica_cases import DONE, READ, WRITE, has, same, shown, written
 from replica_checks import all_entries, differences
 from replica_faults import begun, ended
@@ -87,13 +87,16 @@ def filled(world):
     etcd refuses them. Once that one is forgotten the keeper makes room, and changes go on."""
     (a, b), etcd, wrong = world.replicas, world.etcd_words(), []
     b.kill()
-    client, said, end = a.client(), "", time.monotonic() + SECONDS
-    while not said.startswith("# modify: 51") and time.monotonic() < end:
+    client = a.client()
+
+    def refused():
         said = written(client, MANY, 400_000 * "x")
-    wrong += has(said, "# modify: 51, etcd is full to ") + has(a.said(), "warning: etcd is full to ")
-    # (by now the keeper may have freed enough inside the file)
-    status, lines = world.command("health", *etcd, good=False)
-    wrong += same(status in (1, 3), True) + has(lines, "replica b doesn't run")
+        return said if said.startswith("# modify: 51") else ""
+
+    wrong += has(world.wait("changes are refused", refused), "# modify: 51, etcd is full to ")
+    world.wait("a warns", lambda: "warning: etcd is full to " in a.said())
+    # (by now the keeper may have freed enough inside the file; and etcd has to notice that b is away)
+    world.wait("b is away", lambda: is_told(world.command("health", *etcd, good=False), "replica b doesn't run"))
     world.command("forget", "b", *etcd)
     world.wait("changes go on", lambda: client.ask(WRITE + "room") == DONE)
     wrong += has(a.said(), "frees ")
@@ -137,9 +140,6 @@ def flipped(world):
     """A bit of an entry is another one in etcd's file: an idle replica finds it by itself."""
     a, b = world.replicas
     mark = "flipme" + 20 * "z"
-    wrong = same(a.client().ask(WRITE + mark), DONE)
-    wrong += same(a.client().ask(WRITE + "behind"), DONE)
-    world.wait("level", world.is_level)
     (member,) = world.members
     path = os.path.join(world.place, member.name + ".data", "member/snap/db")
 
@@ -147,8 +147,13 @@ def flipped(world):
         with open(path, "rb") as file:
             return file.read()
 
-    # (etcd writes its file some moments later, and would do it again out of its log after a start)
-    world.wait("etcd has written its file", lambda: mark.encode() in bytes_of_etcd())
+    # (etcd writes its file some moments later, and would do it again out of its log after a start; where it has written
+    # the second one too, the first one counts there)
+    wrong = []
+    for one in (mark, "behind" + 20 * "z"):
+        wrong += same(a.client().ask(WRITE + one), DONE)
+        world.wait("etcd has written its file", lambda: one.encode() in bytes_of_etcd())
+    world.wait("level", world.is_level)
     member.kill()
     held = bytes_of_etcd()
     with open(path, "r+b") as file:

@@ -6,7 +6,7 @@ import signal
 import time
 
 from replica_checks import differences
-from replica_world import SECONDS, is_apart
+from replica_world import SECONDS, Late, is_apart
 from replica_writers import Notes, Reader, Writer
 
 
@@ -167,7 +167,7 @@ def ended(workers):
     for one in workers:
         one.join(SECONDS)
         if one.is_alive():
-            raise AssertionError(f"{type(one).__name__} {one.number} doesn't end")
+            raise Late(f"{type(one).__name__} {one.number} doesn't end")
 
 
 def rest(world, notes):

@@ -12,7 +12,7 @@ import zlib
 from ldap_client import PROGRAM, TOP, Closed
 from replica_cases import DONE, READ, WRITE, alike, has, in_world, resting, same, shown
 from replica_checks import differences
-from replica_world import SECONDS
+from replica_world import SECONDS, Late
 from adsd_tools.ask.words import Wrong
 from adsd_tools.rows import store as rows
 from adsd_tools.replica import entries
@@ -95,8 +95,7 @@ def stops(replica, *told, begin=False):
     try:
         status = replica.running.wait(timeout=SECONDS)
     except subprocess.TimeoutExpired:
-        replica.kill()
-        return [f"replica {replica.name} goes on: {replica.said()[-500:]}"]
+        raise Late(f"replica {replica.name} goes on: {replica.said()[-500:]}") from None
     return same(status, 6) + [wrong for one in told for wrong in has(replica.said(), one)]
 
 

@@ -1,14 +1,15 @@
 """Parts of adsd-replica that need neither etcd nor a program: bounds, the log's length, kept answers, keys, entries."""
 
 import argparse
+import asyncio
 import os
 import tempfile
 import time
 
 from replica_cases import same
 from adsd_tools.ask.words import Wrong
-from adsd_tools.replica import answers, cutting, entries, following, rates, seal
-from adsd_tools.replica.etcd import Waits, decoded, encoded
+from adsd_tools.replica import answers, cutting, entries, following, rates, room, seal
+from adsd_tools.replica.etcd import NO_SPACE, Denied, Waits, decoded, encoded
 from adsd_tools.replica.ordered import Ordered, line_of
 
 OWN = b"the log"
@@ -69,6 +70,71 @@ def lengths():
     cutting.SEEN = kept
     cutter(Room(1, 1), forget_after=0).forget(log)
     return wrong + same(log.gone, [b"b"])
+
+
+class Full:
+    """A log in a full etcd: what replicas told last is old, and nothing is put any more. As its member it tells of
+    nothing free until its file is written anew."""
+
+    url, size, used, quota, leads = "http://member", 95, 95, 100, True
+
+    def __init__(self):
+        self.etcd, self.below, self.done = self, 0, []
+
+    def other(self):
+        return self
+
+    def replicas(self):
+        return {b"a": 24, b"c": 40}, 1
+
+    def read(self, number, many):
+        return argparse.Namespace(first=1, revision=1, found=())
+
+    def compact(self, first, revision):
+        raise Denied(NO_SPACE)
+
+    def forgets(self, revision):
+        pass
+
+    def sweep(self, below):
+        self.below = below
+
+    def fullness(self):
+        return self.size / self.quota
+
+    def freed(self):
+        return 0.0
+
+    def only(self, url):
+        return self
+
+    def call(self, path, asked, patience=0):
+        self.done.append(path)
+        self.size = 20
+
+
+def full():
+    """In a full etcd a replica counts itself as far as it is, though it can't tell so."""
+    wrong, log, one = [], Full(), cutter(Room(95, 100, True), forget_after=0, keep=0)
+    one.forgot = time.monotonic()
+    for name, number, wanted in ((b"a", 33, 34), (b"a", 12, 25), (b"a", 50, 41), (b"b", 33, 25)):
+        one.cut(log, name, number)
+        wrong += same(log.below, wanted)
+    return wrong + asyncio.run(silent(log))
+
+
+async def silent(log):
+    """A member that is full and tells of nothing free is written anew nevertheless, once a while has gone; then the
+    alarm is taken away."""
+    it, wrong = room.Room(log, argparse.Namespace(etcd_upkeep="keeper"), lambda _: None), []
+    it.members, it.alarms = [log], [("1", room.NO_SPACE)]
+    for ahead, wanted in ((True, []), (True, []), (False, ["maintenance/defragment"]),
+                          (True, ["maintenance/defragment", "maintenance/alarm"])):
+        it.untold = it.untold if ahead else 0.0
+        await it.act()
+        wrong += same(log.done, wanted)
+    it.close()
+    return wrong + same(it.untold, None)
 
 
 def remembered():
@@ -190,4 +256,4 @@ def growing():
 
 
 def tried():
-    return growing() + bounds() + lengths() + remembered() + by_keys() + hand_made()
+    return growing() + bounds() + lengths() + full() + remembered() + by_keys() + hand_made()

@@ -25,8 +25,8 @@ NAMES = ("admin password=adm1n user=BA privileges=security\n'' user=AN groups=WD
          f"low password=l0w {LOW}\nsecond password=sec0nd {SECOND}\n")
 ROOT = "DC=corp,DC=example"
 MANY = f"OU=many,{ROOT}"
-# So long something is waited for, in seconds: also where the machine has much else to do.
-SECONDS = 600
+# So long something is waited for, in seconds: ten times as long as it takes on a machine that has nothing else to do.
+SECONDS = 150
 # So long a change and a linear read wait for the log, where nothing of it is away; where something is; and so long a
 # client waits for an answer, in seconds.
 PATIENT, IMPATIENT, ANSWER = 60, 10, 150
@@ -34,6 +34,12 @@ APART = "ADSD_TEST_APART"
 # The scripts are run by the Python that runs this, and not by one that has to be found first.
 os.environ["PATH"] = f"{os.path.dirname(sys.executable)}:{os.environ['PATH']}"
 DISK = "24m"
+# What a command says where etcd gave no answer in time; and so often a replica may end by itself before it serves.
+AWAY, ENDS = "etcd doesn't answer", 10
+
+
+class Late(AssertionError):
+    """What was waited for, and didn't come in time."""
 
 
 def goes_apart():
@@ -244,13 +250,13 @@ class Far(Client):
 
     def __init__(self, host, port):
         self.number = 0
-        self.socket = socket.create_connection((host, port), timeout=5)
+        self.socket = socket.create_connection((host, port), timeout=15)
         self.socket.settimeout(ANSWER)
         # A server whose network is gone, or cut off, is noticed by the system.
         self.socket.setsockopt(socket.SOL_SOCKET, socket.SO_KEEPALIVE, 1)
         for option, value in ((socket.TCP_KEEPIDLE, 2), (socket.TCP_KEEPINTVL, 1), (socket.TCP_KEEPCNT, 3)):
             self.socket.setsockopt(socket.IPPROTO_TCP, option, value)
-        self.socket.setsockopt(socket.IPPROTO_TCP, socket.TCP_USER_TIMEOUT, 5000)
+        self.socket.setsockopt(socket.IPPROTO_TCP, socket.TCP_USER_TIMEOUT, 15000)
 
 
 class World:
@@ -296,9 +302,10 @@ class World:
 
     def command(self, *words, good=True, adsd=PROGRAM):
         done = subprocess.run([COMMAND, *words], stdout=subprocess.PIPE, stderr=subprocess.STDOUT,
-                              env={**os.environ, "ADSD": adsd}, text=True)
+                              env={**os.environ, "ADSD": adsd}, text=True, timeout=2 * SECONDS)
         if good and done.returncode:
-            raise AssertionError(f"adsd-replica {' '.join(words)} ended with {done.returncode}: {done.stdout}")
+            kind = Late if AWAY in done.stdout else AssertionError
+            raise kind(f"adsd-replica {' '.join(words)} ended with {done.returncode}: {done.stdout}")
         return done.stdout if good else (done.returncode, done.stdout)
 
     def add(self, name, *words):
@@ -323,14 +330,14 @@ class World:
             self.command("copy", first.store, one.store, "--name", one.name, *self.etcd_words())
 
     def wait(self, what, asked, seconds=SECONDS):
-        """What some question is answered by, once that is true."""
+        """What some question is answered by, once that is true; Late where it isn't in time."""
         end = time.monotonic() + seconds
         while time.monotonic() < end:
             found = asked()
             if found:
                 return found
             time.sleep(0.05)
-        raise AssertionError(f"{what}: not within {seconds} seconds")
+        raise Late(f"{what}: not within {seconds} seconds")
 
     def leader(self):
         """The member that leads; None where there is none."""
@@ -347,21 +354,25 @@ class World:
             self.serves(one)
 
     def serves(self, replica):
-        """Waits until a replica takes clients. One that has ended meanwhile is started again, as a supervisor does."""
+        """Waits until a replica takes clients. One that has ended meanwhile is started again, as a supervisor does,
+        but not without end."""
+        ends = []
 
         def asked():
             if not replica.is_running():
-                replica.begin()
+                if len(ends) > ENDS:
+                    raise AssertionError(f"replica {replica.name} ends each time: {replica.said()[-2000:]}")
+                ends.append(replica.begin())
             try:
                 replica.client().close()
                 return True
-            except (OSError, AssertionError, Exception):
+            except Exception:
                 return False
 
         try:
             self.wait(f"replica {replica.name} serves", asked)
-        except AssertionError as why:
-            raise AssertionError(f"{why}; its log ends so: {replica.said()[-2000:]}") from None
+        except Late as why:
+            raise Late(f"{why}; its log ends so: {replica.said()[-2000:]}") from None
 
     def log(self, user=None):
         """The log, as the replicas see it."""

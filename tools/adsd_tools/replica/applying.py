@@ -81,6 +81,10 @@ class Applying:
         """The number of the last entry that was answered."""
         return self.position.entry
 
+    def noted(self):
+        """The number of the last entry after which the position is on the disk. (The file may be one entry after it.)"""
+        return self.number() - (self.writing is not None)
+
     def waits_for_taken(self):
         """Whether the store has taken a change before a crash, and the entry that it is of isn't known yet."""
         return self.skips and not self.queue
@@ -211,10 +215,10 @@ class Applying:
     def write(self):
         """Writes the position beside, behind what has to be written before; the next entry waits for it."""
         some, self.unwritten = self.unwritten, []
-        self.writing = asyncio.get_running_loop().run_in_executor(self.lane, self.noted, some, self.position)
+        self.writing = asyncio.get_running_loop().run_in_executor(self.lane, self.put_down, some, self.position)
         self.writing.add_done_callback(self.written)
 
-    def noted(self, some, position):
+    def put_down(self, some, position):
         if some:
             self.answers.write(some)
         self.positions.write(position)

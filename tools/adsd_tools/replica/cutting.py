@@ -40,13 +40,15 @@ class Cutter:
 
     async def work(self):
         """One piece of it; whether there is more to do at once."""
-        return await self.lane.call(self.cut)
+        return await self.lane.call(self.cut, self.applying.position.name.encode(), self.applying.noted())
 
-    def cut(self, log):
+    def cut(self, log, own, number):
+        """The same, by the replica of this name, which has noted the entry of this number. It may not have told so: a
+        full etcd takes nothing that is told."""
         self.forget(log)
         found, revision = log.replicas()
         part = log.read(0, 0)
-        taken = min(found.values(), default=0)
+        taken = min((max(at, number) if name == own else at for name, at in found.items()), default=0)
         wanted, below = self.wanted(log, part.first, taken), part.first
         if wanted > part.first:
             below = self.compacted(log, part.first, wanted, revision)

@@ -150,9 +150,7 @@ class Keeper:
             await asyncio.sleep(PACE if more else REPORT)
 
     async def told(self):
-        # The file of the position may be one entry after it.
-        number = self.applying.number() - (self.applying.writing is not None)
-        now = time.monotonic()
+        number, now = self.applying.noted(), time.monotonic()
         if number != self.reported[0] or now - self.reported[1] >= STILL:
             state = self.applying.digests.known.get(number)
             await self.lane.call(lambda log: log.register(self.own(), number, state))

@@ -9,7 +9,7 @@ import asyncio
 import re
 import time
 
-from .etcd import Away, Denied
+from .etcd import Away, Denied, Waits
 from .lane import Lane
 
 # Etcd's own quota where it isn't told, and how often it is looked.
@@ -17,6 +17,10 @@ USUAL, LOOK = 2 << 30, 5.0
 HALF, FULL = 0.5, 0.9
 # So much of the quota has to be free inside a member's file before it is written anew, and so often is that done.
 FREED, AGAIN = 0.1, 60.0
+# A member counts what is free inside when it writes, and one that is full writes nothing: it may have more than it
+# tells. So it is written anew also where it tells of little, after so long, in seconds, and each time later up to so
+# long.
+UNTOLD, SELDOM = 5.0, 600.0
 DEFRAGS, QUOTA = 300.0, re.compile(r"^etcd_server_quota_backend_bytes (\S+)$", re.M)
 NO_SPACE = "NOSPACE"
 FULL_TOLD = ("etcd is full to {:.0%} of its quota: no change is taken until there is room, nothing was changed; "
@@ -70,6 +74,8 @@ class Room:
         self.lane, self.say, self.acts = Lane(log), say, options.etcd_upkeep == "keeper"
         self.members, self.alarms, self.quotas, self.is_warned, self.told = [], [], {}, False, set()
         self.done, self.is_keeper, self.hurry = 0.0, lambda: False, asyncio.Event()
+        # When a full member that tells of little room is written anew next, None while there is none, and when each was.
+        self.untold, self.waits, self.tried = None, Waits(UNTOLD, SELDOM), {}
 
     def fullness(self):
         """The part of the quota that the fullest member has."""
@@ -128,15 +134,35 @@ class Room:
         """Frees room in one member's file, or takes an alarm away, or says that it has to be done."""
         ones = sorted((one for one in self.members if one.freed() >= FREED and one.fullness() >= HALF),
                       key=lambda one: one.leads)
+        other = None if ones else self.silent()
         if ones and (time.monotonic() - self.done >= AGAIN or self.full()):
             self.done = time.monotonic()
             await self.defragment(ones[0])
+        elif other:
+            await self.defragment(other)
         elif self.alarms and not ones and self.fullness() < FULL:
             await self.disarm()
 
+    def silent(self):
+        """The full member that is written anew now though it tells of little room: the one that wasn't for longest;
+        None where there is none, or it isn't time yet."""
+        full, now = [one for one in self.members if one.fullness() >= FULL], time.monotonic()
+        if not full:
+            self.untold = None
+            self.waits.again()
+        elif self.untold is None:
+            self.untold = now + self.waits.grow()
+        elif now >= self.untold:
+            self.untold = now + self.waits.grow()
+            found = min(full, key=lambda one: (self.tried.get(one.url, 0.0), one.leads))
+            self.tried[found.url] = now
+            return found
+        return None
+
     async def defragment(self, one):
         command, free = f"etcdctl --endpoints {one.url} defrag", one.size - one.used
-        await self.done_or_told(f"frees {free} bytes inside the file of {one.url}", command,
+        much = f"{free} bytes" if one.freed() >= FREED else "what may be free"
+        await self.done_or_told(f"frees {much} inside the file of {one.url}", command,
                                 lambda log: log.etcd.only(one.url).call("maintenance/defragment", {}, DEFRAGS))
 
     async def disarm(self):
