@@ -294,6 +294,13 @@ def open_descriptors(count):
     return opens(with_descriptors(count))
 
 
+@case("rights-lists", 400, 200, "each different list has a set, of a byte an identity")
+def rights_lists(count):
+    """Who may read so many objects, each of which has a list of its own for an identifier of its own."""
+    words = "rights", "S", "RP"
+    return Call(with_descriptors(count), b"", lambda said: said.count(b"\non ") >= count, words, bare={"words": CHECK})
+
+
 @case("queue", 8000, 4000)
 def queue(count):
     """Opening a store whose pending list has so many parents, and behind them its first again."""
