@@ -88,7 +88,13 @@ class Crashes:
     def goes_on(self, what):
         """The replica begins, comes to the log's end, and holds what a plain run makes of it."""
         self.replica.begin()
-        self.world.wait(f"{what}: the replica is level", self.world.is_level)
+
+        def is_level():
+            if not self.replica.is_running():
+                raise AssertionError(f"{what}: the replica has ended: {self.replica.said()[-500:]}")
+            return self.world.is_level()
+
+        self.world.wait(f"{what}: the replica is level", is_level)
         self.replica.kill()
         plain = os.path.join(self.world.place, "plain")
         for slot, data in zip(SLOTS, self.places[self.head][0]):

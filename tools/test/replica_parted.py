@@ -39,7 +39,9 @@ class Snapshot:
         self.ctl("--endpoints", self.member.client, "snapshot", "save", self.path)
 
     def ctl(self, *words):
-        subprocess.run([ETCDCTL, *words], check=True, capture_output=True, env={**os.environ, "ETCDCTL_API": "3"})
+        bounds = f"--dial-timeout={SECONDS}s", f"--command-timeout={SECONDS}s"
+        own = {**os.environ, "ETCDCTL_API": "3"}
+        subprocess.run([ETCDCTL, *bounds, *words], check=True, capture_output=True, env=own)
 
     def restore(self):
         """etcd is what it was then."""

@@ -34,8 +34,8 @@ APART = "ADSD_TEST_APART"
 # The scripts are run by the Python that runs this, and not by one that has to be found first.
 os.environ["PATH"] = f"{os.path.dirname(sys.executable)}:{os.environ['PATH']}"
 DISK = "24m"
-# What a command says where etcd gave no answer in time; and so often a replica may end by itself before it serves.
-AWAY, ENDS = "etcd doesn't answer", 10
+# What a command says where etcd doesn't answer; how often a replica may end before it serves; what refuses a store.
+AWAY, ENDS, REFUSED = "etcd doesn't answer", 10, (3, 6)
 
 
 class Late(AssertionError):
@@ -330,14 +330,17 @@ class World:
             self.command("copy", first.store, one.store, "--name", one.name, *self.etcd_words())
 
     def wait(self, what, asked, seconds=SECONDS):
-        """What some question is answered by, once that is true; Late where it isn't in time."""
+        """What some question is answered by, once that is true; Late where it isn't in time. Where a replica has ended
+        since its store isn't the log's, no want of time did that."""
         end = time.monotonic() + seconds
         while time.monotonic() < end:
             found = asked()
             if found:
                 return found
             time.sleep(0.05)
-        raise Late(f"{what}: not within {seconds} seconds")
+        ended = [one for one in self.by_name.values() if one.running is not None and one.running.poll() in REFUSED]
+        told = "".join(f"; {one.name} ended with {one.running.returncode}: {one.said()[-500:]}" for one in ended)
+        raise (AssertionError if ended else Late)(f"{what}: not within {seconds} seconds{told}")
 
     def leader(self):
         """The member that leads; None where there is none."""
@@ -354,14 +357,13 @@ class World:
             self.serves(one)
 
     def serves(self, replica):
-        """Waits until a replica takes clients. One that has ended meanwhile is started again, as a supervisor does,
-        but not without end."""
+        """Waits until a replica takes clients. One that ends is started again so often, as a supervisor does."""
         ends = []
 
         def asked():
             if not replica.is_running():
                 if len(ends) > ENDS:
-                    raise AssertionError(f"replica {replica.name} ends each time: {replica.said()[-2000:]}")
+                    raise AssertionError(f"replica {replica.name} ends each time")
                 ends.append(replica.begin())
             try:
                 replica.client().close()
@@ -371,8 +373,8 @@ class World:
 
         try:
             self.wait(f"replica {replica.name} serves", asked)
-        except Late as why:
-            raise Late(f"{why}; its log ends so: {replica.said()[-2000:]}") from None
+        except AssertionError as why:
+            raise type(why)(f"{why}; its log ends so: {replica.said()[-2000:]}") from None
 
     def log(self, user=None):
         """The log, as the replicas see it."""
