@@ -239,7 +239,8 @@ class Growing:
             return found
         keys = [{"kvs": [{"value": encoded(value)}]} for value in (line_of(self.head), b"1")]
         answers = [*keys, self.ranged(asked["success"][2]["request_range"])]
-        return {"succeeded": True, "responses": [{"response_range": one} for one in answers], "header": {"revision": "1"}}
+        found = [{"response_range": one} for one in answers]
+        return {"succeeded": True, "responses": found, "header": {"revision": "1"}}
 
 
 def growing():
