@@ -11,8 +11,8 @@ ghost use Rattle.ad_protect.specs.Putting.{sd_given, IsGiven, AreRunEdits};
 ghost use Rattle.ad_protect.specs.Run.{MakeRun};
 
 use crate::given::{Given, given_by};
-use crate::marks::marked_all;
 use crate::listing::protected;
+use crate::marks::marked_all;
 use crate::puts::puts_of;
 use ad_dir::{Dir, Edit};
 use std::alloc::{AllocError, Global};
