@@ -167,8 +167,6 @@ class Crashes:
         """What isn't the store of the position, or not of the log, is refused."""
         at = next(n for n in range(1, self.head - 1) if self.changing(n) and self.changing(n + 1))
         held, wrong = self.places[at][0], []
-        self.put(self.places[at + 2][0], self.position(at))
-        wrong += self.ends("two changes more", 3, "something else has written to it")
         self.put(self.places[at][0], self.position(at + 1))
         wrong += self.ends("a change fewer", 3, "something else has written to it")
         self.put(held, b"", b"nothing")

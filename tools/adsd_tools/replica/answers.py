@@ -44,11 +44,24 @@ def read(data):
     return found
 
 
+class Unsynced:
+    """The file of the answers, open once more."""
+
+    def __init__(self, file):
+        self.file = file
+
+    def sync(self):
+        try:
+            os.fdatasync(self.file)
+        finally:
+            os.close(self.file)
+
+
 class Answers:
     """The answers of a store's replica."""
 
     def __init__(self, store):
-        self.path, self.file, self.size, self.known = store + SUFFIX, None, 0, {}
+        self.path, self.file, self.size, self.known, self.is_synced = store + SUFFIX, None, 0, {}, True
 
     def open(self, number):
         """Reads what stands there, up to an entry: what is behind it is given to the program once more."""
@@ -73,24 +86,30 @@ class Answers:
         self.close()
         data = b"".join(one.record() for one in reversed(kept))
         write(self.path, data)
-        self.size = len(data)
+        self.size, self.is_synced = len(data), True
 
     def note(self, answer):
         """Keeps an answer in mind. (The first one to a request stays.)"""
         self.known.setdefault(answer.request, answer)
 
     def write(self, some):
-        """Writes records behind the others, and syncs them."""
+        """Writes records behind the others; they aren't synced yet."""
         data = b"".join(one.record() for one in some)
         if self.file is None:
             if not os.path.exists(self.path):
                 write(self.path, b"")
             self.file = os.open(self.path, os.O_WRONLY | os.O_APPEND | os.O_NOFOLLOW | os.O_CLOEXEC)
         put(self.file, (data,))
-        os.fdatasync(self.file)
-        self.size += len(data)
+        self.size, self.is_synced = self.size + len(data), False
         if self.size > MOST:
             self.anew()
+
+    def unsynced(self):
+        """What has to be synced, in another thread; None where nothing has."""
+        if self.is_synced or self.file is None:
+            return None
+        self.is_synced = True
+        return Unsynced(os.dup(self.file))
 
     def close(self):
         if self.file is not None:

@@ -43,9 +43,12 @@ class Appender:
 
     def __init__(self, log, applying, heads, patience, remembered=None, counts=None):
         self.lane, self.applying, self.heads, self.patience = Lane(log), applying, heads, patience
-        self.queue, self.sent, self.news, self.closed = deque(), {}, asyncio.Event(), False
+        self.queue, self.exacts, self.sent, self.news, self.closed = deque(), deque(), {}, asyncio.Event(), False
         self.remembered, self.counts, self.pause = remembered, counts, Waits(PAUSE, PAUSED)
-        self.no_room = lambda: None
+        # The claim to the next place, where there may be one at all.
+        self.claims = None
+        # Who is told of a full etcd, and of entries that were put, with the head before them.
+        self.no_room, self.own = lambda: None, lambda head, data: None
         applying.tells.append(self.applied)
 
     async def put(self, data, behind=None, named=None):
@@ -56,7 +59,7 @@ class Appender:
         if len(data) > entries.MOST:
             raise NotPut(f"an entry of {len(data)} bytes is more than the log takes; nothing was changed")
         one = Waiting(data, behind, named)
-        self.queue.append(one)
+        (self.queue if behind is None else self.exacts).append(one)
         self.news.set()
         try:
             return await asyncio.wait_for(asyncio.shield(one.answer), self.patience)
@@ -76,30 +79,68 @@ class Appender:
         while True:
             await self.news.wait()
             self.news.clear()
-            while self.queue:
+            while self.exacts or (self.queue and not self.has_claim()):
                 some = self.some()
                 if some:
                     await self.append(some)
 
+    def has_claim(self):
+        """Whether this replica has a claim: then nothing is put but behind what has to follow a certain entry."""
+        return self.claims is not None and self.claims.own is not None
+
     def some(self):
         """The next entries that are put at once. One that has to follow a certain one stands first or is overtaken."""
         found, size = [], 0
-        while self.queue and len(found) < MANY:
+        while self.exacts and not found:
+            one = self.exacts.popleft()
+            if one.behind == self.heads.known.number and not one.answer.done():
+                found, size = [one], len(one.data)
+            elif not one.answer.done():
+                one.answer.set_exception(Overtaken())
+        if not found and self.has_claim():
+            return found
+        while self.queue and len(found) < MANY and not (found and found[-1].named):
             one = self.queue[0]
-            if one.answer.done():
-                self.queue.popleft()
-                continue
-            if found and (one.behind is not None or one.named or size + len(one.data) > MANY_BYTES):
+            if not one.answer.done() and found and (one.named or size + len(one.data) > MANY_BYTES):
                 break
             self.queue.popleft()
-            if one.behind is not None and one.behind != self.heads.known.number:
-                one.answer.set_exception(Overtaken())
-                continue
-            found.append(one)
-            size += len(one.data)
-            if one.named:
-                break
+            if not one.answer.done():
+                found.append(one)
+                size += len(one.data)
         return found
+
+    async def claim(self):
+        """Claims the place behind the head, where that can be had; the number of the head as it is known then."""
+        if self.claims is not None and self.claims.own is None:
+            try:
+                head = await self.claims.claim()
+                if head is not None:
+                    self.heads.seen(head)
+            except (Away, Denied) as why:
+                self.heads.missed(why)
+        return self.heads.known.number
+
+    async def is_free(self):
+        """Waits while another one has a claim; False where the own one was taken away."""
+        if self.has_claim():
+            await self.claims.end()
+            return False
+        if self.claims is not None:
+            await self.claims.wait()
+        return True
+
+    async def claimed(self, done):
+        """The own claim went with what was put, or is given up since something else was."""
+        if self.has_claim() and done:
+            self.claims.own = None
+        elif self.has_claim():
+            await self.claims.end()
+
+    async def unclaim(self):
+        """Gives a claim up that nothing was put by."""
+        if self.has_claim():
+            await self.claims.end()
+            self.news.set()
 
     async def append(self, some):
         """Puts entries, after whatever head the log has. Nothing is sent anew that nobody waits for, or that has to
@@ -133,10 +174,13 @@ class Appender:
                     return True
                 more = await self.once(some[0], then)
                 done, now, behind = await self.lane.call(lambda log: log.put(head, data, then, more))
-                if not done and now == head and some[0].named:
+                if not done and now == head:
                     if await self.repeated(some[0]):
                         return True
-                    continue
+                    if await self.is_free():
+                        continue
+                    return False
+                await self.claimed(done)
             except (Away, Denied) as why:
                 is_sure = is_sure and isinstance(why, Denied)
                 if is_sure and why.is_full():
@@ -151,6 +195,8 @@ class Appender:
                     return False
                 self.look(head, now, behind)
             self.heads.seen(now)
+            if done:
+                self.own(head, data)
             if done and self.counts:
                 self.counts.batch(len(some), sum(map(len, data)))
             return done or entries.id_of(behind) == entries.id_of(data[0])
@@ -171,11 +217,12 @@ class Appender:
             self.remembered.denied(why)
 
     async def once(self, one, then):
-        """What has to be so, and what is put besides, where a request is made only once."""
-        if not one.named:
-            return (), ()
-        lease = await self.remembered.current(self.lane)
-        return self.lane.log.is_new(one.named[0], (then.number, one.named[1]), lease)
+        """What has to be so, and what is done besides: a request is made only once, and nobody else has a claim."""
+        more = (), ()
+        if one.named:
+            lease = await self.remembered.current(self.lane)
+            more = self.lane.log.is_new(one.named[0], (then.number, one.named[1]), lease)
+        return self.claims.more(*more) if self.claims is not None else more
 
     async def repeated(self, one):
         """Whether the log has a named request already; who waits for it is told so."""
@@ -213,13 +260,15 @@ class Appender:
 
     def is_idle(self):
         """Whether nobody waits for an answer."""
-        return not self.queue and all(one.answer.done() for one in self.sent.values())
+        return not self.queue and not self.exacts and all(one.answer.done() for one in self.sent.values())
 
     def refuse(self):
         """Nobody is answered any more."""
         self.closed = True
-        for one in (*self.queue, *self.sent.values()):
+        for one in (*self.queue, *self.exacts, *self.sent.values()):
             refuse(one.answer)
 
     def close(self):
         self.lane.close()
+        if self.claims is not None:
+            self.claims.close()

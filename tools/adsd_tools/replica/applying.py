@@ -1,7 +1,7 @@
 """Gives the entries of the log to the program, one after the other, and notes where the replica stands.
 
-It stands in the place of a bridge's upkeep (ldap/upkeep.py): an entry has its turn as soon as the position after
-the one before is on the disk. Meanwhile clients' frames have theirs."""
+It stands in the place of a bridge's upkeep (ldap/upkeep.py): an entry has its turn once the position after the one
+before is noted. Meanwhile clients' frames have theirs."""
 
 import asyncio
 import time
@@ -15,6 +15,7 @@ from . import replay
 from .answers import Answer
 from .digests import Digests
 from .entries import is_named
+from .noting import Noting
 from .position import taken
 from .slots import Unfit
 
@@ -53,15 +54,16 @@ class Applying:
 
     def __init__(self):
         self.slots, self.positions, self.position, self.place = None, None, None, None
-        # Whether the next entry was taken before a crash, so that it isn't given again, with what it was answered then.
-        self.skips, self.program, self.once = False, None, None
+        # How many changes the store has taken since its position, before a crash; and what looks which entries these
+        # were, with what it has found.
+        self.ahead, self.program, self.again, self.redone = 0, None, None, []
         self.queue, self.bytes, self.room, self.news = deque(), 0, None, None
-        self.lane, self.writing, self.fault = ThreadPoolExecutor(1), None, ""
+        self.lane, self.noting = ThreadPoolExecutor(1), None
         # Who waits until an entry is answered, by rising numbers; and who is told of each entry with its answer.
         self.waiting, self.tells = deque(), []
-        # What named requests were answered, and which of it isn't written yet; where the last entries left the store,
-        # by their numbers; when entries came that wait; and what is asked of an entry that the program doesn't take.
-        self.answers, self.unwritten, self.places, self.came, self.may_skip = None, [], {}, deque(), None
+        # What named requests were answered; where the last entries left the store, by their numbers; when entries came
+        # that wait; and what is asked of an entry that the program doesn't take.
+        self.answers, self.places, self.came, self.may_skip = None, {}, deque(), None
         self.digests = Digests()
 
     def open(self, slots, positions, answers, news, program):
@@ -71,8 +73,10 @@ class Applying:
         self.position, self.place = positions.read(), slots.look()
         if self.position is None:
             raise Unfit(f"{slots.store} isn't a replica's store: {positions.path} isn't there")
-        self.skips = taken(self.position, self.place) == 1
+        self.ahead = slots.since(self.position.generation, self.position.records)
         answers.open(self.position.entry)
+        positions.open()
+        self.noting = Noting(positions, answers, self.position, news)
         self.places = {self.position.entry: (self.position.generation, self.position.records)}
         self.digests.add(self.position.entry, self.position.id, self.position.digest)
         self.room.set()
@@ -82,24 +86,41 @@ class Applying:
         return self.position.entry
 
     def noted(self):
-        """The number of the last entry after which the position is on the disk. (The file may be one entry after it.)"""
-        return self.number() - (self.writing is not None)
+        """The number of the last entry after which the position is on the disk, whatever comes."""
+        return self.noting.synced.entry
 
-    def waits_for_taken(self):
-        """Whether the store has taken a change before a crash, and the entry that it is of isn't known yet."""
-        return self.skips and not self.queue
-
-    async def took(self, entry):
-        """Whether the change that was taken before a crash is that of an entry."""
+    async def took(self, some):
+        """How many of the next entries were taken before a crash; None where the changes that the store has taken
+        aren't theirs. Nothing is noted of them before it is known of all."""
         loop = asyncio.get_running_loop()
-        given = self.program, self.slots.store, self.position, entry
-        took, self.once = await loop.run_in_executor(self.lane, replay.took, *given)
-        return took
+        if self.again is None:
+            given = self.program, self.slots.store, self.position, self.ahead
+            self.again = await loop.run_in_executor(self.lane, replay.Replay, *given)
+        made = await loop.run_in_executor(self.lane, self.again.take, some)
+        self.redone += made or ()
+        if made is not None and self.again.left:
+            return len(made)
+        if made is not None:
+            self.ahead, last = 0, self.redone[-1]
+            for one in self.redone:
+                self.note(one.entry, one.reply, one.changed, self.place if one is last else one.place, one.body)
+        await self.forgotten()
+        return None if made is None else len(made)
+
+    def lacking(self):
+        """How many of the changes that the store has taken aren't known yet."""
+        return self.again.left if self.again is not None else self.ahead
+
+    async def forgotten(self):
+        """Removes what looked which entries were taken."""
+        again, self.again, self.redone = self.again, None, []
+        if again is not None:
+            await asyncio.get_running_loop().run_in_executor(self.lane, again.close)
 
     # ---- as an upkeep
 
     def is_due(self):
-        return (bool(self.queue) or bool(self.fault)) and self.writing is None
+        return bool(self.noting.fault) or (bool(self.queue) and not self.noting.must_wait())
 
     presses = is_due
 
@@ -111,24 +132,19 @@ class Applying:
 
     async def turn(self, program):
         """One entry; whether it changed the directory."""
-        if self.fault:
-            raise Spoilt(self.fault)
+        if self.noting.fault:
+            raise Spoilt(self.noting.fault)
         entry = self.pulled()
         try:
             reply, changed = await self.done(program, entry)
+            body = self.slots.body() if changed else b""
         except (Unfit, OSError) as why:
             raise Spoilt(f"{self.slots.store}: {why}") from None
-        self.position = self.position.behind(entry, self.place, self.slots.body() if changed else b"")
-        self.keep(entry, reply)
-        self.write()
-        self.tell(entry, reply, changed)
+        self.note(entry, reply, changed, self.place, body)
         return changed
 
     async def done(self, program, entry):
-        """The program's answer to an entry, None where that isn't known; and whether it changed the directory."""
-        if self.skips:
-            self.skips = False
-            return self.once, True
+        """The program's answer to an entry, and whether it changed the directory."""
         self.look(0)
         try:
             reply = await self.given(program, entry)
@@ -141,15 +157,18 @@ class Applying:
             reply = b""
         return reply, self.look(1)
 
-    def keep(self, entry, reply):
-        """Keeps in mind where the entry left the store, and what it was answered where its request has a name."""
+    def note(self, entry, reply, changed, place, body):
+        """Notes where an entry left the store, and tells what it was answered."""
+        self.position = self.position.behind(entry, place, body)
         self.places[entry.number] = self.position.generation, self.position.records
         self.places.pop(entry.number - LAST, None)
         self.digests.add(self.position.entry, self.position.id, self.position.digest)
+        made = None
         if is_named(entry.request) and reply and entry.frames:
             made = Answer(entry.number, entry.request, reply)
             self.answers.note(made)
-            self.unwritten.append(made)
+        self.noting.note(self.position, made, size_of(entry))
+        self.tell(entry, reply, changed)
 
     def look(self, most):
         """Whether the store has taken a change since the last look, of so many that it may have."""
@@ -212,34 +231,14 @@ class Applying:
             self.waiting.append((number, done))
             await done
 
-    def write(self):
-        """Writes the position beside, behind what has to be written before; the next entry waits for it."""
-        some, self.unwritten = self.unwritten, []
-        self.writing = asyncio.get_running_loop().run_in_executor(self.lane, self.put_down, some, self.position)
-        self.writing.add_done_callback(self.written)
-
-    def put_down(self, some, position):
-        if some:
-            self.answers.write(some)
-        self.positions.write(position)
-
-    def written(self, done):
-        self.writing = None
-        if not done.cancelled() and done.exception():
-            self.fault = f"{self.positions.path} can't be written: {done.exception()}"
-        self.news.set()
-
     async def close(self):
-        """Waits until the position is written."""
-        if self.writing is not None:
-            await asyncio.wait({self.writing})
+        """Waits until the position is synced."""
+        if self.noting is not None:
+            await self.noting.close()
+        await self.forgotten()
         self.lane.shutdown()
-        if self.positions:
-            self.positions.close()
         if self.slots:
             self.slots.close()
-        if self.answers:
-            self.answers.close()
 
     def delay(self):
         """For how long the entry whose turn is next has been here, in seconds."""

@@ -11,9 +11,11 @@ from adsd_tools.ldap.turns import Stopped
 from .answers import Answers
 from .appending import Appender
 from .applying import Applying, Spoilt, Unsuited
+from .claiming import Claims
 from .client import Client
-from .etcd import Away, Denied, Etcd
+from .etcd import Away, Denied
 from .following import Follower, NotTaken
+from .giving import Giving
 from .heads import Heads
 from .keeper import Keeper
 from .listing import Listing
@@ -89,8 +91,7 @@ class Replica(Bridge):
         position, asked, say = self.applying.position, self.options, self.log.timed
         if asked.etcd_warning:
             self.log.say(asked.etcd_warning)
-        etcd = Etcd(asked.etcd, asked.etcd_tls, asked.etcd_user_known)
-        log = Ordered(etcd, position.log, position.own, asked.release, asked.known_keys)
+        log = Ordered(asked.etcd_known, position.log, position.own, asked.release, asked.known_keys)
         age = time.time() - os.stat(asked.store + ".position").st_mtime
         self.heads = self.turns.heads = Heads(log, position.head(), say, self.parted, max(0.0, age))
         remembered = Remembered(asked.remember)
@@ -99,11 +100,16 @@ class Replica(Bridge):
         self.room = self.turns.room = Room(log, asked, say)
         appender.no_room = self.room.hurry.set
         self.follower = Follower(log, self.applying, self.heads, asked.check_every)
+        appender.own = self.follower.own
         self.keeper = Keeper(log, self.applying, appender, asked, say, self.room)
         self.presence = Presence(log, asked, position, asked.release)
+        appender.claims = Claims(log, position.name.encode(), lambda: self.presence.lease)
         listing = Listing(self.turns, self.applying, lambda: self.schema and self.schema.root)
         self.sums = Sums(log, self.applying, listing, asked.check_every, self.keeper.is_keeper, say)
         self.parts = [self.follower, self.heads, appender, self.room, self.sums]
+        if asked.copies:
+            self.giving = Giving(log, self.applying, asked.copy_secret, say)
+            self.parts.append(self.giving)
         self.applying.may_skip = self.may_skip
         self.applying.tells.append(self.counts.applied)
 
@@ -133,6 +139,11 @@ class Replica(Bridge):
             self.servers_beside.append(server)
             host, port = server.sockets[0].getsockname()[:2]
             self.log.say(f"metrics on http://{host}:{port}/metrics")
+
+        if self.options.copies:
+            server = await self.giving.listen(self.options.copies)
+            self.servers_beside.append(server)
+            self.log.say("gives copies on " + "{}:{}".format(*server.sockets[0].getsockname()[:2]))
 
     async def session(self, session):
         await super().session(Client(session))
@@ -206,6 +217,8 @@ class Replica(Bridge):
         """Ends what goes on beside; what was put is put."""
         for server in self.servers_beside:
             server.close()
+        if self.applying.noting is not None:
+            await self.applying.noting.level()
         if self.tasks:
             await self.keeper.close()
         for task in self.tasks:

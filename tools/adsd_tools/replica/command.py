@@ -13,7 +13,7 @@ from adsd_tools.rows import store as rows
 from adsd_tools.run import ADSD
 from adsd_tools.shown import shown, text_of
 
-from . import etcd, repairing, seal, skipping, state, sums
+from . import etcd, getting, repairing, rpc, seal, skipping, state, sums
 from .bridge import Replica
 from .copying import begin, copied
 from .ordered import Ordered, Other, Unformed
@@ -40,6 +40,16 @@ def tls_of(asked):
 def user_of(asked):
     """By whom etcd is asked; None where it wants nobody."""
     return etcd.User(asked.etcd_user, seal.password_of(asked.etcd_password)) if asked.etcd_user else None
+
+
+def etcd_of_serve(asked):
+    """How a replica asks etcd: by its JSON gateway, or by gRPC."""
+    known = asked.etcd, tls_of(asked), user_of(asked)
+    if asked.etcd_calls == "json":
+        return etcd.Etcd(*known)
+    if not rpc.is_there():
+        raise Wrong("python3-grpcio isn't installed, and --etcd-calls grpc wants it")
+    return rpc.Rpc(*known, (asked.etcd_ca, asked.etcd_cert, asked.etcd_key))
 
 
 def warning_of_etcd(asked):
@@ -84,7 +94,21 @@ def do_begin(asked):
     print(shown(f"log {asked.log} begins with {asked.store}, replica {asked.name}"))
 
 
+def secret_for_copies(asked):
+    """What two replicas have in common to give a copy from one to the other; None where no file of it is named."""
+    if not asked.copy_key:
+        return None
+    if not seal.is_there():
+        raise Wrong(seal.ABSENT)
+    return seal.secret_of(seal.private_text(asked.copy_key), asked.copy_key)
+
+
 def do_copy(asked):
+    address = getting.address_of(asked.store)
+    if address:
+        one, count = getting.got(address, asked.new, asked.name, secret_for_copies(asked))
+        print(shown(f"{asked.new} is replica {one.name} of log {one.log}, at entry {one.entry}, with {count} rows"))
+        return
     incomplete.warn(asked.store)
     position = copied(asked.store, asked.new, asked.name, lambda one: log_of(asked, one.log, one.own))
     print(shown(f"{asked.new} is replica {position.name} of log {position.log}, at entry {position.entry}"))
@@ -173,9 +197,9 @@ def compare_running(asked):
 
 
 def do_serve(asked):
-    asked.etcd_warning, asked.etcd_tls = warning_of_etcd(asked), tls_of(asked)
-    asked.release = release_of(ADSD)
-    asked.etcd_user_known, asked.known_keys = user_of(asked), seal.keys_of(asked)
+    asked.etcd_warning, asked.etcd_known = warning_of_etcd(asked), etcd_of_serve(asked)
+    asked.release, asked.known_keys = release_of(ADSD), seal.keys_of(asked)
+    asked.copy_secret = secret_for_copies(asked)
     status = ldap.serve(asked, Replica, "adsd-replica")
     sys.stderr.flush()
     os._exit(status)  # A call of etcd that isn't answered doesn't hold up the end.

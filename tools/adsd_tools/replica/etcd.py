@@ -12,6 +12,8 @@ from urllib.parse import urlsplit
 # So long one member is waited for, in seconds, and so long at most where a wait grows.
 PATIENCE, LONGEST, LOG_IN = 3.0, 60.0, 10.0
 USUAL_PORT = 2379
+# A member that tells of nothing for so long is asked anew, in seconds.
+QUIET = 60.0
 # What etcd answers while it has no leader, or is overloaded: another member, or a later moment, may do better.
 NOT_NOW = (4, 8, 10, 14)
 # What it answers where it knows the user no longer, or not yet.
@@ -83,6 +85,33 @@ def context(certificate, key, authority):
     return made
 
 
+class Told:
+    """What a watch tells, one after the other. Another thread may end it."""
+
+    def __init__(self, opened, lines):
+        self.opened, self.lines = opened, lines
+
+    def __iter__(self):
+        try:
+            for line in self.lines:
+                said = json.loads(line)
+                if "error" in said:
+                    return
+                yield said.get("result", {})
+        except (http.client.HTTPException, ValueError) as fault:
+            raise OSError(type(fault).__name__) from None
+
+    def close(self):
+        self.opened.close()
+
+    def shut(self):
+        """Ends it from another thread, so that whoever reads there reads its end."""
+        try:
+            self.opened.sock.shutdown(socket.SHUT_RDWR)
+        except (OSError, AttributeError):
+            pass
+
+
 class Etcd:
     """The members of one etcd, by one connection at a time. Each thread has its own."""
 
@@ -92,7 +121,7 @@ class Etcd:
 
     def other(self):
         """The same members, by a connection of its own."""
-        made = Etcd([], self.tls, self.user)
+        made = type(self)([], self.tls, self.user)
         made.urls, made.at = self.urls, self.at
         return made
 
@@ -109,6 +138,9 @@ class Etcd:
             return http.client.HTTPSConnection(host, port, timeout=patience, context=self.tls)
         return http.client.HTTPConnection(host, port, timeout=patience)
 
+    def is_open(self):
+        return self.open is not None
+
     def close(self):
         if self.open is not None:
             self.open.close()
@@ -123,7 +155,7 @@ class Etcd:
         """The answer of the first member that answers, from the one on that answered last. That one is asked twice,
         since it may have closed the connection meanwhile."""
         why = "none is named"
-        for _ in range(len(self.urls) + (self.open is not None)):
+        for _ in range(len(self.urls) + self.is_open()):
             try:
                 return self.known(path, asked, patience)
             except (OSError, http.client.HTTPException, ValueError) as fault:
@@ -177,13 +209,13 @@ class Etcd:
             raise OSError(told)
         raise Denied(told)
 
-    def stream(self, path, asked, patience):
-        """The connection and the lines of an answer that doesn't end, of the member that answered last. Each line is
-        waited for so long, but the first one as any answer."""
-        opened = self.connection()
+    def stream(self, asked, patience):
+        """What the member that answered last tells of a watch, until it ends. Each line is waited for so long as it is
+        quiet, but the first one as any answer."""
+        opened = self.connection(patience)
         try:
             token = self.log_in() if self.user else ""
-            opened.request("POST", "/v3/" + path, json.dumps(asked), self.head(token))
+            opened.request("POST", "/v3/watch", json.dumps(asked), self.head(token))
             response = opened.getresponse()
         except http.client.HTTPException as fault:
             raise OSError(type(fault).__name__) from None
@@ -191,8 +223,8 @@ class Etcd:
             if self.user:
                 self.user.token = None
             raise OSError(f"status {response.status}")
-        opened.sock.settimeout(patience)
-        return opened, response
+        opened.sock.settimeout(QUIET)
+        return Told(opened, response)
 
     def text(self, path):
         """The text that one member has at a path, as its metrics."""
@@ -208,11 +240,3 @@ class Etcd:
         if response.status != 200:
             raise OSError(f"status {response.status}")
         return said.decode("utf-8", "replace")
-
-
-def shut(connection):
-    """Ends a connection from another thread, so that whoever reads there reads its end."""
-    try:
-        connection.sock.shutdown(socket.SHUT_RDWR)
-    except (OSError, AttributeError):
-        pass

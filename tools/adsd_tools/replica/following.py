@@ -5,21 +5,22 @@ names it too. So what was put in the place of another is noticed before it is ta
 looked through again, also where nothing is put."""
 
 import asyncio
-import http.client
-import json
 
 from . import entries
-from .etcd import LONGEST, PATIENCE, Away, Denied, Waits, shut
+from .etcd import LONGEST, PATIENCE, Away, Denied, Waits
 from .lane import Lane
 from .ordered import Other, Parted
 
-# A member that tells of nothing for so long is asked anew, in seconds; and so long one waits where none answers, the
-# first time and at most.
-QUIET, PAUSE, PAUSED = 60.0, 0.25, 2.0
+# So long one waits where no member answers, the first time and at most, in seconds.
+PAUSE, PAUSED = 0.25, 2.0
 # So long one waits between two parts of the log that is looked through, so that it doesn't hold up others.
 BETWEEN = 0.05
 # The log's head is asked for so often, and where it isn't reached for so long, another member is followed.
 LOOK, LATE = 2.0, 1.5
+
+
+def changes(count):
+    return "one change" if count == 1 else f"{count} changes"
 
 
 class NotTaken(Other):
@@ -40,6 +41,8 @@ class Follower:
         # `at` is the last entry that was pushed.
         self.lane, self.at, self.open = Lane(log), applying.position.head(), None
         self.beside, self.patience, self.pause = Lane(log), Waits(PATIENCE, LONGEST), Waits(PAUSE, PAUSED)
+        # Whether entries are being taken, so that own ones aren't; and the ids of own ones that weren't told yet.
+        self.is_busy, self.untold = True, {}
 
     async def work(self):
         """Follows until it is cancelled; Other where the log doesn't go with the replica."""
@@ -85,8 +88,9 @@ class Follower:
         """Looks whether the log ends with what the replica has taken, or after it."""
         if part.head.number <= self.at.number and part.head != self.at:
             raise Parted(f"the log ends at {part.head.told()}, and the replica has taken {self.at.told()}")
-        if part.head == self.at and self.applying.waits_for_taken():
-            raise Parted(f"the log ends at {self.at.told()}, and the store has taken one change more")
+        if part.head == self.at and self.applying.ahead:
+            more = changes(self.applying.lacking())
+            raise Parted(f"the log ends at {self.at.told()}, and the store has taken {more} more")
 
     async def take(self, part):
         """Takes what was read, as far as something names it."""
@@ -146,14 +150,26 @@ class Follower:
         return made
 
     async def push(self, made):
-        if made and self.applying.waits_for_taken() and not await self.applying.took(made[0]):
-            raise Parted(f"the store has taken one change after {self.at.told()}, and it isn't entry {made[0].number}, "
-                         f"{made[0].id.hex()}")
+        if made and self.applying.ahead:
+            made = await self.behind_taken(made)
         for one in made:
             await self.applying.room.wait()
             self.applying.push(one)
             self.at = entries.Head(one.number, one.id)
             self.heads.seen(self.at)
+
+    async def behind_taken(self, made):
+        """The entries behind those that the store has taken before a crash."""
+        found = self.applying.lacking(), self.at.told()
+        count = await self.applying.took(made)
+        if count is None:
+            one = f"{made[0].number}, {made[0].id.hex()}"
+            isnt = f"and it isn't entry {one}" if found[0] == 1 else f"and they aren't those from entry {one}, on"
+            raise Parted(f"the store has taken {changes(found[0])} after {found[1]}, {isnt}")
+        if count:
+            self.at = entries.Head(made[count - 1].number, made[count - 1].id)
+            self.heads.seen(self.at)
+        return made[count:]
 
     # ---- news
 
@@ -161,29 +177,29 @@ class Follower:
         """Takes each entry that is put from now on, until the connection ends."""
         loop = asyncio.get_running_loop()
         look = asyncio.ensure_future(self.look())
+        self.is_busy = False
         try:
             await loop.run_in_executor(self.lane.pool, self.listen, revision + 1, loop)
             if look.done():
                 look.result()
         finally:
+            self.is_busy = True
+            self.untold.clear()
             look.cancel()
 
     def listen(self, revision, loop):
         """Reads lines in the lane's thread, and has each taken before the next one is read."""
-        opened, lines = self.lane.log.watch(revision, QUIET)
-        self.open = opened
+        self.open = opened = self.lane.log.watch(revision)
         try:
-            for line in lines:
-                said = json.loads(line)
-                result = said.get("result", {})
+            for result in opened:
                 # (a part of what one transaction put: it is read then, bounded in bytes)
-                if "error" in said or result.get("canceled") or result.get("fragment"):
+                if result.get("canceled") or result.get("fragment"):
                     return
                 events = [one["kv"] for one in result.get("events", ()) if one.get("type", "PUT") == "PUT"]
                 new, head = self.lane.log.news(events)
                 if new and not asyncio.run_coroutine_threadsafe(self.hear(new, head), loop).result():
                     return
-        except (OSError, ValueError, http.client.HTTPException):
+        except (OSError, ValueError):
             return
         finally:
             self.open = None
@@ -191,12 +207,35 @@ class Follower:
 
     async def hear(self, new, head):
         """Takes entries that were told, with the head that came with them; whether that was all."""
+        new = [one for one in new if not self.is_known(*one)]
+        if not new:
+            return True
         if new[0][0] <= self.at.number:
             raise Parted(f"entry {new[0][0]} was put once more, and the replica stands at {self.at.told()}")
         if new[0][0] != self.at.number + 1 or head is None or head.number != new[-1][0]:
             return False
-        await self.push(await self.joined(new, head))
+        self.is_busy = True
+        try:
+            await self.push(await self.joined(new, head))
+        finally:
+            self.is_busy = False
         return True
+
+    def is_known(self, number, data):
+        """Whether an entry that is told was taken already, since this replica has put it."""
+        return number in self.untold and self.untold.pop(number) == entries.id_of(data)
+
+    def own(self, head, data):
+        """Takes entries at once that this replica has put behind a head, where that is what it has taken. What etcd
+        tells of them comes later."""
+        if self.is_busy or self.at != head or not self.applying.room.is_set():
+            return
+        own, keys = self.log.own, self.log.keys
+        made = [entries.read(number, one, own, keys) for number, one in enumerate(data, head.number + 1)]
+        for one in made:
+            self.untold[one.number] = one.id
+            self.applying.push(one)
+        self.at = entries.Head(made[-1].number, made[-1].id)
 
     async def look(self):
         """Ends the connection where the log goes on and nothing is told of it."""
@@ -220,7 +259,7 @@ class Follower:
         opened = self.open
         if opened is not None:
             self.lane.log.etcd.next()
-            shut(opened)
+            opened.shut()
 
     def close(self):
         self.end()

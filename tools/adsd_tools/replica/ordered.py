@@ -225,16 +225,20 @@ class Ordered(Roster):
         """The last entry's number and id, as of now."""
         return self.read(0, 0).head
 
+    def head_at(self, answer):
+        """The head that is told."""
+        return head_of(self.formed(b"head", value_of(answer)))
+
     def head_line(self):
         """The same, as it stands there."""
         return line_of(self.head())
 
-    def watch(self, revision, patience):
-        """The connection and the answer that tells from a revision on of entries, the head, the id and the release: of
-        all keys from the first to the last of these, and so of the keeper too."""
+    def watch(self, revision):
+        """What tells from a revision on of entries, the head, the id and the release: of all keys from the first to the
+        last of these, and so of the keeper too."""
         asked = {"key": encoded(self.key(b"entry/")), "range_end": encoded(self.key(b"release") + b"\0")}
         asked.update(start_revision=str(revision), filters=["NODELETE"], fragment=True)
-        return self.etcd.stream("watch", {"create_request": asked}, patience)
+        return self.etcd.stream({"create_request": asked}, PATIENCE)
 
     def news(self, events):
         """What was put, of what the watch tells at once: entries by their numbers, and the head; Other where the log

@@ -1,9 +1,8 @@
 """Where a replica stands in the log, in a file beside its store, and what that says after a crash.
 
-The file has two blocks, each a line with a checksum. The next position is written over the older one and synced, so a
-torn write leaves the one before. It is written after the answer to an entry, and before the next entry is given to
-the program. So after a crash the store is that of the position, or has one entry more; and where a write was torn,
-that of the position before it and the one entry."""
+The file has two blocks, each a line with a checksum. Positions are written over the older one, each after the answer to
+its entry, until it is synced; then they go over the other one. So a torn write leaves a position from before, and after
+a crash the store is that of the position, or has taken some entries more (noting.py)."""
 
 import os
 import zlib
@@ -108,12 +107,21 @@ class Positions:
         self.newest = max(known)[1]
         return blocks[self.newest]
 
-    def write(self, position):
-        """Writes a position in the place of the older one, and syncs it."""
+    def open(self):
+        """Opens the file, and syncs what stands there: what a program before this one has written may not be yet."""
         if self.file is None:
             self.file = os.open(self.path, os.O_WRONLY | os.O_NOFOLLOW | os.O_CLOEXEC)
+            self.sync()
+
+    def write(self, position):
+        """Writes a position in the place of the one that isn't synced; it isn't synced itself."""
         os.pwrite(self.file, position.line().ljust(BLOCK, b"\0"), BLOCK * (1 - self.newest))
+
+    def sync(self):
         os.fdatasync(self.file)
+
+    def turn(self):
+        """What was written last is synced, and is kept until the next one is."""
         self.newest = 1 - self.newest
 
     def close(self):

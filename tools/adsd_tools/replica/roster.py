@@ -5,6 +5,7 @@
   its rows, and of what its program lists.
 - `alive/` and a name: which process runs it, under a lease; `keeper`: who puts steps and runs, under one.
 - `request/` and the number of a named request: which entry it was, under a lease.
+- `claim`: who alone puts the next entry, under a lease (claiming.py).
 - `compare/`: which entry the stores are compared at, and the sums of their rows.
 
 All of it may have been written by hand: what isn't of its form is passed over."""
@@ -41,6 +42,11 @@ def value_of(answer):
 def absent(key):
     """That a key isn't there."""
     return {"key": encoded(key), "target": "CREATE", "result": "EQUAL", "create_revision": "0"}
+
+
+def gone(key):
+    """That a key is removed."""
+    return {"request_delete_range": {"key": encoded(key)}}
 
 
 def is_leased(found):
@@ -122,6 +128,24 @@ class Roster:
     def keeper(self):
         """The name of the keeper, or None."""
         return self.held(self.key(b"keeper"))[0]
+
+    # ---- the claim to the next place
+
+    def claim(self, own, lease):
+        """Claims the place behind the head; the head, or None where another one has a claim."""
+        key, head = self.key(b"claim"), range_of(self.key(b"head"))
+        done, answers, _ = self.txn([*self.is_own(), absent(key)], [put_of(key, own, lease=lease), head])
+        return self.head_at(answers[1]) if done else None
+
+    def claimed(self):
+        """Who claims it; None where nobody does."""
+        answer = self.etcd.call("kv/range", {"key": encoded(self.key(b"claim"))})
+        return value_of({"response_range": answer})
+
+    def unclaim(self, value):
+        """Ends a claim."""
+        key = self.key(b"claim")
+        self.txn([self.is_value(key, value)], [gone(key)])
 
     # ---- who runs
 

@@ -23,6 +23,15 @@ class Unsealed(Exception):
     """What isn't signed by one of the keys, or isn't sealed by the key; why."""
 
 
+def is_there():
+    """Whether there can be keys."""
+    try:
+        import cryptography  # noqa: F401
+    except ImportError:
+        return False
+    return True
+
+
 def raw_of(key):
     from cryptography.hazmat.primitives import serialization as forms
 

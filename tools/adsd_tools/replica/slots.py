@@ -6,6 +6,8 @@ from dataclasses import dataclass
 
 SLOTS = ("", ".b")
 HEAD, RECORD = 14, 9
+# So many bytes are read at once behind the last known record.
+AHEAD = 4096
 OPEN = b"\x01"
 
 
@@ -28,7 +30,7 @@ class Slots:
     """The two files of a store. They are never replaced by others, so they are opened once, and read without a lock."""
 
     def __init__(self, store):
-        self.store, self.known, self.files = store, None, []
+        self.store, self.known, self.files, self.newest = store, None, [], b""
         try:
             for name in SLOTS:
                 self.files.append(os.open(store + name, os.O_RDONLY))
@@ -52,29 +54,54 @@ class Slots:
 
     def look(self):
         """Where the store stands now, while no frame is in work."""
+        known = self.known
+        if known is None or self.generation(1 - known.slot) > known.generation:
+            known = self.live()
+        self.known = self.counted(known)
+        return self.known
+
+    def live(self):
+        """The slot that is live, without its records."""
         first, second = self.generation(0), self.generation(1)
         generation, slot = max((first, 0), (second, 1))
         if not generation:
             raise Unfit(f"{self.store} is empty")
-        known = self.known
-        if known is None or (known.slot, known.generation) != (slot, generation):
-            known = Place(slot, generation, 0, HEAD)
-        self.known = self.counted(known)
-        return self.known
+        return Place(slot, generation, 0, HEAD)
 
     def counted(self, place):
         """The same place with the records that stand after it."""
         file, records, end, last = self.files[place.slot], place.records, place.end, place.last
+        at, held = end, os.pread(file, AHEAD, end)
         while True:
-            head = os.pread(file, RECORD, end)
+            if end + RECORD > at + len(held):
+                at, held = end, os.pread(file, AHEAD, end)
+            head = held[end - at : end - at + RECORD]
             if head[:1] != OPEN:
-                return Place(place.slot, place.generation, records, end, last)
+                break
             records, last, end = records + 1, end, end + RECORD + int.from_bytes(head[1:], "big")
+            self.newest = held[last - at + RECORD : end - at]
+        return Place(place.slot, place.generation, records, end, last)
 
     def body(self):
         """The body of the last record, as of the last look."""
         place = self.known
-        return os.pread(self.files[place.slot], place.end - place.last - RECORD, place.last + RECORD)
+        size = place.end - place.last - RECORD
+        if len(self.newest) != size:
+            self.newest = os.pread(self.files[place.slot], size, place.last + RECORD)
+        return self.newest
+
+    def since(self, generation, records):
+        """How many changes the store has taken since it stood at a place, of its live slot or of the one before: a
+        snapshot, which begins a new generation with one record, is none."""
+        place, before = self.look(), Place(0, generation, 0, HEAD)
+        found = place.records - records
+        if place.generation == generation + 1 and self.generation(1 - place.slot) == generation:
+            before = self.counted(Place(1 - place.slot, generation, 0, HEAD))
+            found, self.newest = place.records - 1 + before.records - records, b""
+        if place.generation - generation not in (0, 1) or found < 0 or 0 < before.records < records:
+            raise Unfit(f"the store has generation {place.generation} and {place.records} records, after generation "
+                        f"{generation} and {records}: something else has written to it")
+        return found
 
     def cut(self, generation, records):
         """The bytes of a slot of this generation with so many records, as one piece after the other, the gate after

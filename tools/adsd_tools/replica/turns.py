@@ -100,20 +100,32 @@ class LogTurns(Turns):
         made, number = await self.judging(connection, judge, exact)
         if number is None:
             return await send(*made)
-        end = time.monotonic() + self.patience
+        end, claims = time.monotonic() + self.patience, False
         async with self.exact:
-            while number is not None:
-                try:
-                    self.behind[connection] = number
-                    return await send(*made)
-                except Overtaken:
-                    if time.monotonic() >= end:
-                        raise Refused(messages.BUSY, OFTEN) from None
-                    await self.applying.reaches(self.heads.known.number)
-                finally:
-                    self.behind.pop(connection, None)
-                made, number = await self.judging(connection, judge, exact)
+            try:
+                while number is not None:
+                    try:
+                        self.behind[connection] = number
+                        return await send(*made)
+                    except Overtaken:
+                        await self.level(end - time.monotonic(), claims)
+                        claims = True
+                    finally:
+                        self.behind.pop(connection, None)
+                    made, number = await self.judging(connection, judge, exact)
+            finally:
+                await self.appender.unclaim()
         return await send(*made)
+
+    async def level(self, seconds, claims):
+        """Waits until all that the log is known to have is taken here; with a claim to the place behind that, where it
+        is wanted."""
+        number = self.heads.known.number
+        if claims:
+            number = await within(max(0.0, seconds), self.appender.claim())
+        if number is None or seconds <= 0:
+            raise Refused(messages.BUSY, OFTEN)
+        await self.applying.reaches(number)
 
     async def judging(self, connection, judge, exact):
         """What a change is made of; and which entry it has to follow, None where nothing was read for it."""

@@ -7,6 +7,7 @@ from urllib.parse import urlsplit
 
 from adsd_tools.ldap import words as ldap
 
+from .getting import SCHEME, address_of
 from .listing import CONNECTION
 
 ABOUT = ("Replicas of a store: each a process with a store and an `adsd serve` of its own, which takes the changes of "
@@ -14,6 +15,8 @@ ABOUT = ("Replicas of a store: each a process with a store and an `adsd serve` o
 BEHIND = """
     adsd-replica begin STORE --name a        begins a log with a store, which becomes replica a
     adsd-replica copy STORE NEW --name b     makes a copy of a replica's store, running or not, for a new replica b
+    adsd-replica copy replica://HOST:PORT NEW --name b --copy-key FILE
+                                             the same of a replica that runs on another machine
     adsd-replica serve STORE ..              runs a replica; it takes the words of `adsd-ldap serve` too
     adsd-replica status [--json]             tells the log's head, and how far each replica is
     adsd-replica health                      tells what isn't well
@@ -103,12 +106,17 @@ def words_of_etcd(form, has_log=True):
 def words_of_serve(form):
     ldap.words_of_serve(form)
     words_of_etcd(form, has_log=False)
+    form.add_argument("--etcd-calls", choices=("json", "grpc"), default="json",
+                      help="how etcd is asked: by its JSON gateway, or by gRPC, which wants python3-grpcio (%(default)s)")
     form.add_argument("--reads", choices=("local", "linear"), default="local",
                       help="what a read is answered by: the store as it is, or as the log's head has it when the read "
                            "comes (%(default)s)")
     form.add_argument("--patience", metavar="SECONDS", type=ldap.count(1, 3600), default=10,
                       help="how long a change, and a linear read, wait for the log before they are answered by 52 "
                            "(%(default)s)")
+    form.add_argument("--copies", metavar="[HOST:]PORT", type=ldap.address,
+                      help="give copies of the store at this address, to who has the secret of --copy-key")
+    word_of_copies(form)
     words_of_log(form)
     words_of_keys(form)
 
@@ -168,11 +176,19 @@ def words_of_stores(word):
     begin.add_argument("--name", type=name, required=True, help="the replica's name")
     words_of_etcd(begin)
     copy = word("copy", "makes a copy of a replica's store for a new replica")
-    copy.add_argument("store", metavar="STORE", type=ldap.store)
+    copy.add_argument("store", metavar="STORE", type=ldap.store,
+                      help="or replica://HOST:PORT, where another machine's replica gives copies (--copies)")
     copy.add_argument("new", metavar="NEW", type=ldap.store)
     copy.add_argument("--name", type=name, required=True, help="the new replica's name")
+    word_of_copies(copy)
     words_of_etcd(copy, has_log=False)
     words_of_serve(word("serve", "runs a replica"))
+
+
+def word_of_copies(form):
+    form.add_argument("--copy-key", metavar="FILE",
+                      help="the secret by which one replica gives another one a copy: adsd-replica key FILE, the same at "
+                           "both")
 
 
 def words_of_logs(word):
@@ -223,9 +239,25 @@ def check(form, asked):
     if away and not asked.etcd_clear:
         form.error(f"{away[0]} isn't a loopback address, and there is no TLS: who is between could change the directory; "
                    "https:// makes TLS, and --etcd-clear allows it without")
+    check_copies(form, asked)
     if asked.word == "serve":
         ldap.check(form, asked)
         asked.connections = min(asked.connections, CONNECTION - 1)
+
+
+def check_copies(form, asked):
+    """Copies are given and taken by a secret alone."""
+    if asked.word == "serve" and (asked.copies is None) != (asked.copy_key is None):
+        form.error("--copies and --copy-key go together")
+    is_far = asked.word == "copy" and asked.store.startswith(SCHEME + "://")
+    try:
+        known = is_far and address_of(asked.store)
+    except ValueError:
+        known = None
+    if is_far and not known:
+        form.error(f"{asked.store} isn't an address as {SCHEME}://192.0.2.1:7389")
+    if asked.word == "copy" and is_far != (asked.copy_key is not None):
+        form.error("a copy from another machine wants --copy-key, and one of a store here has none")
 
 
 def is_loopback(host):
