@@ -7,11 +7,12 @@ use Rattle.ad_dir_model.specs.Directory.{Directory}
 use Rattle.ad_chains.specs.declared.ways.Pass.{Pass}
 use Rattle.ad_chains.specs.declared.ways.Way.{Way}
 use Rattle.ad_chains.specs.Ways.{way_at}
-use Rattle.ad_control.specs.declared.kind.Kind.{Kind}
-use Rattle.ad_control.specs.declared.node.Node.{Node}
-use Rattle.ad_control.specs.declared.node.Node.TheVariants.{Object}
+use Rattle.ad_control_graph.specs.declared.kind.Kind.{Kind}
+use Rattle.ad_control_graph.specs.declared.node.Node.{Node}
+use Rattle.ad_control_graph.specs.declared.node.Node.TheVariants.{Object}
 use Rattle.ad_control.specs.Edges.{IsEdge}
-use Rattle.ad_control.specs.Chains.{Step, IsChain, cost, length_of, arcs_length, LeadsTo, ComesFrom}
+use Rattle.ad_control.specs.Chains.{Step, IsChain, length_of, arcs_length, LeadsTo, ComesFrom}
+use Rattle.ad_control_graph.specs.Kinds.{cost}
 use Rattle.ad_control.specs.Chains.{AreControlling, AreReached, IsToldOf}
 
 -- a chain as long as some arcs

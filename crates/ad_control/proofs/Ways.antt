@@ -8,10 +8,11 @@ use Rattle.ad_chains.specs.declared.arc.Arc.{Arc}
 use Rattle.ad_chains.specs.declared.ways.Pass.{Pass}
 use Rattle.ad_chains.specs.declared.ways.Way.{Way}
 use Rattle.ad_chains.specs.Ways.{IsPass, arc_cost, way_length, IsWay, LeadsOn, LeadsBack, AreWaysTo, AreWaysFrom}
-use Rattle.ad_control.specs.declared.kind.Kind.{Kind}
-use Rattle.ad_control.specs.declared.node.Node.{Node}
-use Rattle.ad_control.specs.declared.node.Node.TheVariants.{Object}
-use Rattle.ad_control.specs.Chains.{Step, IsChain, cost, length_of, arcs_length, LeadsTo, ComesFrom}
+use Rattle.ad_control_graph.specs.declared.kind.Kind.{Kind}
+use Rattle.ad_control_graph.specs.declared.node.Node.{Node}
+use Rattle.ad_control_graph.specs.declared.node.Node.TheVariants.{Object}
+use Rattle.ad_control.specs.Chains.{Step, IsChain, length_of, arcs_length, LeadsTo, ComesFrom}
+use Rattle.ad_control_graph.specs.Kinds.{cost}
 use Rattle.ad_control.specs.Chains.{AreControlling, AreReached}
 use Rattle.ad_control.specs.Graph.{AreArcsOf}
 

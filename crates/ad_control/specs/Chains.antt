@@ -1,14 +1,14 @@
 -- Chains of edges, and what is told of them.
-use Rattle.std.specs.Prelude.{◌≡◌, ℕ, ◌+◌, ◌≤◌, if◌then◌else◌, Option, Some, None, List, [], ◌∷◌, slice_get}
+use Rattle.std.specs.Prelude.{◌≡◌, ℕ, ◌+◌, ◌≤◌, Option, Some, None, List, [], ◌∷◌, slice_get}
 use Rattle.std.specs.Option.{option_map_or}
 use Rattle.ad_dir_model.specs.Directory.{Directory}
 use Rattle.ad_chains.specs.declared.ways.Pass.{Pass}
 use Rattle.ad_chains.specs.declared.ways.Way.{Way}
 use Rattle.ad_chains.specs.Ways.{way_at}
-use Rattle.ad_control.specs.declared.kind.Kind.{Kind}
-use Rattle.ad_control.specs.declared.node.Node.{Node}
-use Rattle.ad_control.specs.declared.node.Node.TheVariants.{Object}
-use Rattle.ad_control.specs.Kinds.{row}
+use Rattle.ad_control_graph.specs.declared.kind.Kind.{Kind}
+use Rattle.ad_control_graph.specs.declared.node.Node.{Node}
+use Rattle.ad_control_graph.specs.declared.node.Node.TheVariants.{Object}
+use Rattle.ad_control_graph.specs.Kinds.{cost}
 use Rattle.ad_control.specs.Edges.{IsEdge}
 
 -- ---- chains
@@ -22,10 +22,6 @@ pub record Step : Type 0 where
 abbrev pub IsChain : Directory → Node → List Step → Node → Type 0
 IsChain dir node [] end = node ≡ end
 IsChain dir node (step ∷ steps) end = IsEdge dir step.kind node step.to × IsChain dir (Object step.to) steps end
-
--- what an edge of a kind adds to the length of a chain
-abbrev pub cost : Kind → ℕ
-cost kind = if (row kind).counts then 1 else 0
 
 -- how long a chain is: how many of its steps count
 abbrev pub length_of : List Step → ℕ

@@ -23,11 +23,11 @@ use Rattle.ad_identities.specs.declared.identity.Identity.{Identity}
 use Rattle.ad_identities.specs.Identities.{identity_at, lone, is_without_principal, IsIdentityToken}
 use Rattle.ad_questions.specs.Question.{question_of}
 use Rattle.ad_questions.specs.Requirements.{is_allowed}
-use Rattle.ad_control.specs.declared.kind.Kind.{Kind}
-use Rattle.ad_control.specs.declared.node.Node.{Node}
-use Rattle.ad_control.specs.declared.node.Node.TheVariants.{Object, Identifier}
-use Rattle.ad_control.specs.Kinds.{Of, Each, TheRoot, Groups, Having, Way, Held, From, Nowhere, TheRootItself}
-use Rattle.ad_control.specs.Kinds.{ItsParent, ItsHolder, ItsPolicies, Above, ItsMembers, row}
+use Rattle.ad_control_graph.specs.declared.kind.Kind.{Kind}
+use Rattle.ad_control_graph.specs.declared.node.Node.{Node}
+use Rattle.ad_control_graph.specs.declared.node.Node.TheVariants.{Object, Identifier}
+use Rattle.ad_control_graph.specs.Kinds.{Of, Each, TheRoot, Groups, Having, Way, Held, From, Nowhere, TheRootItself}
+use Rattle.ad_control_graph.specs.Kinds.{ItsParent, ItsHolder, ItsPolicies, Above, ItsMembers, row}
 use Rattle.ad_policies.specs.Policies.{above, policies_of}
 
 -- ---- nodes and their tokens
@@ -77,15 +77,9 @@ unfoldable pub may_ask : Directory → Token → ℕ → List ℕ → Bool
 may_ask dir token number text =
     option_map_or (λ question. is_allowed dir token question number) (question_of dir.schema text) false
 
--- the same, but yes where the schema has no such question
-unfoldable pub may_ask_if : Directory → Token → ℕ → List ℕ → Bool
-may_ask_if dir token number text =
-    option_map_or (λ question. is_allowed dir token question number) (question_of dir.schema text) true
-
 unfoldable pub goes : Directory → Token → ℕ → Way → Bool
 goes dir token number way =
-    has_one dir number way.stored && (list_all (may_ask dir token number) way.asks
-    && list_all (may_ask_if dir token number) way.if_known)
+    has_one dir number way.stored && list_all (may_ask dir token number) way.asks
 
 -- ---- by a descriptor that is a value
 

@@ -4,12 +4,13 @@ use Rattle.std.specs.Global.{Vec}
 use Rattle.ad_dir_model.specs.Directory.{Directory}
 use Rattle.ad_chains.specs.declared.arc.Arc.{Arc}
 use Rattle.ad_chains.specs.Ways.{IsPass, arc_cost, AreMembersWithin, AreArcsWithin}
-use Rattle.ad_control.specs.declared.kind.Kind.{Kind}
-use Rattle.ad_control.specs.declared.node.Node.{Node}
-use Rattle.ad_control.specs.declared.node.Node.TheVariants.{Object}
-use Rattle.ad_control.specs.declared.graph.Graph.{Graph}
+use Rattle.ad_control_graph.specs.declared.kind.Kind.{Kind}
+use Rattle.ad_control_graph.specs.declared.node.Node.{Node}
+use Rattle.ad_control_graph.specs.declared.node.Node.TheVariants.{Object}
+use Rattle.ad_control_graph.specs.declared.graph.Graph.{Graph}
 use Rattle.ad_control.specs.Edges.{IsEdge}
-use Rattle.ad_control.specs.Chains.{cost, IsArcFrom}
+use Rattle.ad_control.specs.Chains.{IsArcFrom}
+use Rattle.ad_control_graph.specs.Kinds.{cost}
 
 -- an edge is an arc's
 pub record IsOfArc (nodes : List Node) (kinds : List Kind) (sets : List (Vec ℕ)) (arcs : List Arc) (kind : Kind)

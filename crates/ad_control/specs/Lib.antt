@@ -1,4 +1,3 @@
-pub mod Kinds
 pub mod Edges
 pub mod Chains
 pub mod Graph

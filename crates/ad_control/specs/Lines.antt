@@ -15,10 +15,10 @@ use Rattle.ad_who.specs.Lines.{reason_text}
 use Rattle.ad_chains.specs.declared.ways.Pass.{Pass}
 use Rattle.ad_chains.specs.declared.ways.Way.{Way}
 use Rattle.ad_chains.specs.Ways.{way_at}
-use Rattle.ad_control.specs.declared.kind.Kind.{Kind}
-use Rattle.ad_control.specs.declared.node.Node.{Node}
-use Rattle.ad_control.specs.declared.node.Node.TheVariants.{Object, Identifier}
-use Rattle.ad_control.specs.Kinds.{Way as KindWay, row}
+use Rattle.ad_control_graph.specs.declared.kind.Kind.{Kind}
+use Rattle.ad_control_graph.specs.declared.node.Node.{Node}
+use Rattle.ad_control_graph.specs.declared.node.Node.TheVariants.{Object, Identifier}
+use Rattle.ad_control_graph.specs.Kinds.{Way as KindWay, row}
 use Rattle.ad_control.specs.Edges.{IsTokenIf, goes}
 
 -- ---- nodes

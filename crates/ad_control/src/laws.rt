@@ -3,9 +3,19 @@
 ghost use Rattle.std.specs.Prelude.{◌≡◌, ℕ, List, Option, Some, slice_get};
 ghost use Rattle.ad_dir_model.specs.Directory.{Directory};
 ghost use Rattle.ad_chains.specs.declared.ways.Way.{Way as WayValue};
-ghost use Rattle.ad_control.specs.declared.kind.Kind.{Kind as KindValue};
-ghost use Rattle.ad_control.specs.declared.node.Node.{Node as NodeValue};
+ghost use Rattle.ad_control_graph.specs.declared.kind.Kind.{Kind as KindValue};
+ghost use Rattle.ad_control_graph.specs.declared.node.Node.{Node as NodeValue};
+ghost use Rattle.ad_control_graph.specs.Drawing.{IsSteady};
+ghost use Rattle.ad_control.specs.Graph.{IsWhole};
 ghost use Rattle.ad_control.specs.Chains.{Step, IsChain, length_of, AreControlling, AreReached, IsToldOf};
+
+use ad_control_graph::Graph;
+
+/// In a graph that was drawn, all members of sets are there and all that arcs name, and the numbers of both fit.
+pub fn a_graph_that_is_drawn_is_whole(graph: &Graph)
+    requires { IsSteady graph.now }
+    ensures { IsWhole graph.now }
+{}
 
 /// Who is told has a chain to the end, as long as is told.
 pub fn who_comes_to_control_has_a_chain()

@@ -22,16 +22,11 @@
 //! Linear in the nodes, the members of the sets and the arcs.
 #![tactic(auto)]
 
-mod graph;
-mod kind;
 mod laws;
-mod node;
 mod telling;
 
-pub use graph::Graph;
-pub use kind::Kind;
 pub use laws::{
-    who_comes_to_control_has_a_chain, who_is_not_told_has_no_chain, who_is_reached_has_a_chain,
+    a_graph_that_is_drawn_is_whole, who_comes_to_control_has_a_chain, who_is_not_told_has_no_chain,
+    who_is_reached_has_a_chain,
 };
-pub use node::Node;
 pub use telling::{controlling, reached};

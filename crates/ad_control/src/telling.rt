@@ -5,8 +5,8 @@ ghost use Rattle.ad_dir_model.specs.Directory.{Directory};
 ghost use Rattle.ad_control.specs.Chains.{AreControlling, AreReached};
 ghost use Rattle.ad_control.specs.Graph.{IsGraphOf, IsWhole};
 
-use crate::graph::Graph;
 use ad_chains::{Way, ways_from, ways_to};
+use ad_control_graph::Graph;
 use std::alloc::{AllocError, Global};
 
 /// Of each node of a graph of the directory, its shortest chain to the node at a place.

@@ -14,7 +14,7 @@ use Rattle.cmd_store_serve.specs.Outcome.{IsOfSample}
 use Rattle.cmd_words.specs.declared.command.Command.{Command}
 use Rattle.cmd_words.specs.Command.{CommandValue, value_of}
 use Rattle.cmd_words.specs.Command.CommandValue.{Access, Sddl, Change, Load, Serve, Settle, Check, Audit, Grants}
-use Rattle.cmd_words.specs.Command.CommandValue.{Listing, Effective, Token, Who, Can, Rights, Diff, Sample}
+use Rattle.cmd_words.specs.Command.CommandValue.{Listing, Effective, Token, Who, Can, Rights, Control, Reach, Diff, Sample}
 use Rattle.cmd_words.specs.Table.{has_store, may_end, is_among, other_store_of}
 use Rattle.adsd.specs.Commands.{Rules, CommandDoes, Does}
 use Rattle.adsd.specs.NoSite.{no_site, over_one}
@@ -61,6 +61,8 @@ not_two (Token store name sids) = refl
 not_two (Who store right name) = refl
 not_two (Can store name right base) = refl
 not_two (Rights store right base) = refl
+not_two (Control store name) = refl
+not_two (Reach store name) = refl
 not_two (Diff store second) = refl
 not_two (Sample store size) = refl
 
@@ -266,6 +268,8 @@ module _ {I S T : Type 0} (source : SourceGhosts I) (site : SiteGhosts S) (other
   alone (Who store right name) from to old new before after outcome one r = ((r.0, r.1, refl), r.2)
   alone (Can store name right base) from to old new before after outcome one r = ((r.0, r.1, refl), r.2)
   alone (Rights store right base) from to old new before after outcome one r = ((r.0, r.1, refl), r.2)
+  alone (Control store name) from to old new before after outcome one r = ((r.0, r.1, refl), r.2)
+  alone (Reach store name) from to old new before after outcome one r = ((r.0, r.1, refl), r.2)
   alone (Diff store second) from to old new before after outcome one r = absurd (cc)
   alone (Sample store size) from to old new before after outcome one r = ((r.0, r.1, refl), r.2)
 

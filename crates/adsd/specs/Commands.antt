@@ -10,6 +10,7 @@ use Rattle.cmd_call.specs.Outcome.{status_of}
 use Rattle.cmd_call.specs.Store.{HasFailed}
 use Rattle.cmd_audit.specs.Audit.{AuditDoes}
 use Rattle.cmd_change.specs.Change.{ChangeDoes}
+use Rattle.cmd_control.specs.Controls.{ControlDoes, ReachDoes}
 use Rattle.cmd_diff.specs.Compares.{DiffDoes}
 use Rattle.cmd_grants.specs.Grants.{GrantsDoes}
 use Rattle.cmd_who.specs.Asks.{TokenDoes, WhoDoes, CanDoes}
@@ -25,7 +26,7 @@ use Rattle.cmd_store.specs.Settle.{SettleDoes}
 use Rattle.cmd_store_serve.specs.serving.Does.{ServeDoes}
 use Rattle.cmd_words.specs.Command.{CommandValue}
 use Rattle.cmd_words.specs.Command.CommandValue.{Access, Sddl, Change, Load, Serve, Settle, Check, Audit, Grants}
-use Rattle.cmd_words.specs.Command.CommandValue.{Listing, Effective, Token, Who, Can, Rights, Diff, Sample}
+use Rattle.cmd_words.specs.Command.CommandValue.{Listing, Effective, Token, Who, Can, Rights, Control, Reach, Diff, Sample}
 use Rattle.cmd_words.specs.Table.{has_store, may_end}
 
 module _ {I S T : Type 0} (source : SourceGhosts I) (site : SiteGhosts S) (other : SiteGhosts T) where
@@ -70,6 +71,10 @@ module _ {I S T : Type 0} (source : SourceGhosts I) (site : SiteGhosts S) (other
   Rules (Can store name right base) from to old new before after outcome = CanDoes site name right base old new outcome
       × (to ≡ from) × (after ≡ before)
   Rules (Rights store right base) from to old new before after outcome = RightsDoes site right base old new outcome
+      × (to ≡ from) × (after ≡ before)
+  Rules (Control store name) from to old new before after outcome = ControlDoes site name old new outcome
+      × (to ≡ from) × (after ≡ before)
+  Rules (Reach store name) from to old new before after outcome = ReachDoes site name old new outcome
       × (to ≡ from) × (after ≡ before)
   Rules (Diff store second) from to old new before after outcome = DiffDoes site other old new before after outcome
       × (to ≡ from)

@@ -6,6 +6,7 @@ ghost use Rattle.adsd.specs.Commands.{CommandDoes};
 use cmd_audit::audit;
 use cmd_call::Outcome;
 use cmd_change::change;
+use cmd_control::{control, reach};
 use cmd_diff::diff;
 use cmd_grants::grants;
 use cmd_plain::{access, sddl};
@@ -58,6 +59,10 @@ use std::alloc::Global;
 ///   an empty one is a name that nothing has. All else is as by `token`.
 /// - `rights STORE RIGHT BASE`: what is emitted says to whom the right is granted on each object at or below BASE, each
 ///   set of identities once and each object by its set. BASE may be left out, as of `can`. All else is as by `token`.
+/// - `control STORE NAME`: what is emitted says who can come to control the object of this name, over which steps: a line
+///   for each, and one for the next step of each. All else is as by `token`.
+/// - `reach STORE NAME`: what is emitted says what the object of this name can come to control, with the last step to
+///   each. All else is as by `token`.
 /// - `diff STORE STORE2`: what is emitted are the lines that say who gains and who loses which right from the
 ///   directory of the first store to that of the second one. The slots of STORE2 are those of the second site; both may
 ///   have the same. The input isn't read, no slot is written, and nothing is emitted by the second site. Slots that
@@ -98,6 +103,8 @@ pub fn run_command<I: Source, S: Site, T: Site>(
             ..
         } => can(alloc, site, name, right, base),
         Command::Rights { right, base, .. } => rights(alloc, site, right, base),
+        Command::Control { name, .. } => control(alloc, site, name),
+        Command::Reach { name, .. } => reach(alloc, site, name),
         Command::Diff { .. } => diff(alloc, site, other),
         Command::Sample { size, .. } => sample(alloc, site, size),
     }

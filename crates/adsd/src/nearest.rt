@@ -99,6 +99,8 @@ fn in_command<'a>(
             ..
         } => in_can(alloc, dir, name, right, base),
         Command::Rights { right, base, .. } => in_right_and_base(alloc, dir, right, base),
+        Command::Control { name, .. } => unknown_name(alloc, dir, name, false),
+        Command::Reach { name, .. } => unknown_name(alloc, dir, name, false),
         _ => Ok(None),
     }
 }

@@ -23,6 +23,8 @@ pub data CommandValue : Type 0 where
   Who : (store right name : List ℕ) → CommandValue
   Can : (store name right : List ℕ) (base : Option (List ℕ)) → CommandValue
   Rights : (store right : List ℕ) (base : Option (List ℕ)) → CommandValue
+  Control : (store name : List ℕ) → CommandValue
+  Reach : (store name : List ℕ) → CommandValue
   Diff : (store other : List ℕ) → CommandValue
   Sample : (store : List ℕ) (size : ℕ) → CommandValue
 
@@ -42,6 +44,8 @@ value_of (code.Token store name sids) = Token store.now name.now (map string_byt
 value_of (code.Who store right name) = Who store.now right.now name.now
 value_of (code.Can store name right base) = Can store.now name.now right.now (option_map (λ text. text.now) base)
 value_of (code.Rights store right base) = Rights store.now right.now (option_map (λ text. text.now) base)
+value_of (code.Control store name) = Control store.now name.now
+value_of (code.Reach store name) = Reach store.now name.now
 value_of (code.Diff store other) = Diff store.now other.now
 value_of (code.Sample store size) = Sample store.now size
 
@@ -62,5 +66,7 @@ HasSize (code.Token store name sids) = Unit {0}
 HasSize (code.Who store right name) = Unit {0}
 HasSize (code.Can store name right base) = Unit {0}
 HasSize (code.Rights store right base) = Unit {0}
+HasSize (code.Control store name) = Unit {0}
+HasSize (code.Reach store name) = Unit {0}
 HasSize (code.Diff store other) = Unit {0}
 HasSize (code.Sample store size) = size ≤ max_size

@@ -4,7 +4,7 @@ use Rattle.std.specs.Str.{bytes_eq}
 use Rattle.cmd_words.specs.Size.{size_of}
 use Rattle.cmd_words.specs.Command.{CommandValue}
 use Rattle.cmd_words.specs.Command.CommandValue.{Access, Sddl, Change, Load, Serve, Settle, Check, Audit, Grants}
-use Rattle.cmd_words.specs.Command.CommandValue.{Listing, Effective, Token, Who, Can, Rights, Diff, Sample}
+use Rattle.cmd_words.specs.Command.CommandValue.{Listing, Effective, Token, Who, Can, Rights, Control, Reach, Diff, Sample}
 
 -- one word alone
 abbrev pub alone : List ℕ → Option CommandValue
@@ -38,6 +38,13 @@ sized store (Some size) = Some (Sample store size)
 abbrev pub with_size : List ℕ → List ℕ → Option CommandValue
 with_size store text = sized store (size_of text)
 
+-- a word, a store and a name
+abbrev pub with_name : List ℕ → List ℕ → List ℕ → Option CommandValue
+with_name word store name =
+    if bytes_eq word (codes "control") then Some (Control store name)
+    else (if bytes_eq word (codes "reach") then Some (Reach store name)
+    else None)
+
 -- a word, a store and one text
 abbrev pub with_text : List ℕ → List ℕ → List ℕ → Option CommandValue
 with_text word store text =
@@ -46,7 +53,7 @@ with_text word store text =
     else (if bytes_eq word (codes "diff") then with_other store text
     else (if bytes_eq word (codes "sample") then with_size store text
     else (if bytes_eq word (codes "rights") then Some (Rights store text None)
-    else None))))
+    else with_name word store text))))
 
 -- a word, a store and two texts
 abbrev pub with_two : List ℕ → List ℕ → List ℕ → List ℕ → Option CommandValue

@@ -2,7 +2,7 @@
 use Rattle.std.specs.Prelude.{ℕ, ◌==◌, Bool, false, ◌||◌, List, [], ◌∷◌, Option, Some, None, is_some}
 use Rattle.cmd_words.specs.Command.{CommandValue}
 use Rattle.cmd_words.specs.Command.CommandValue.{Access, Sddl, Change, Load, Serve, Settle, Check, Audit, Grants}
-use Rattle.cmd_words.specs.Command.CommandValue.{Listing, Effective, Token, Who, Can, Rights, Diff, Sample}
+use Rattle.cmd_words.specs.Command.CommandValue.{Listing, Effective, Token, Who, Can, Rights, Control, Reach, Diff, Sample}
 use Rattle.cmd_words.specs.declared.command.Opening.{Opening}
 use Rattle.cmd_words.specs.declared.command.Opening.TheVariants.{NoStore, Makes, Writes, Reads}
 
@@ -22,6 +22,8 @@ opening_of (Token store name sids) = Reads
 opening_of (Who store right name) = Reads
 opening_of (Can store name right base) = Reads
 opening_of (Rights store right base) = Reads
+opening_of (Control store name) = Reads
+opening_of (Reach store name) = Reads
 opening_of (Diff store other) = Reads
 opening_of (Sample store size) = Makes
 
@@ -42,6 +44,8 @@ store_of (Token store name sids) = Some store
 store_of (Who store right name) = Some store
 store_of (Can store name right base) = Some store
 store_of (Rights store right base) = Some store
+store_of (Control store name) = Some store
+store_of (Reach store name) = Some store
 store_of (Diff store other) = Some store
 store_of (Sample store size) = Some store
 
@@ -62,6 +66,8 @@ other_store_of (Token store name sids) = None
 other_store_of (Who store right name) = None
 other_store_of (Can store name right base) = None
 other_store_of (Rights store right base) = None
+other_store_of (Control store name) = None
+other_store_of (Reach store name) = None
 other_store_of (Diff store other) = Some other
 other_store_of (Sample store size) = None
 
@@ -87,6 +93,8 @@ statuses_of (Token store name sids) = 0 ∷ 3 ∷ 5 ∷ 6 ∷ []
 statuses_of (Who store right name) = 0 ∷ 3 ∷ 5 ∷ 6 ∷ []
 statuses_of (Can store name right base) = 0 ∷ 3 ∷ 5 ∷ 6 ∷ []
 statuses_of (Rights store right base) = 0 ∷ 3 ∷ 5 ∷ 6 ∷ []
+statuses_of (Control store name) = 0 ∷ 3 ∷ 5 ∷ 6 ∷ []
+statuses_of (Reach store name) = 0 ∷ 3 ∷ 5 ∷ 6 ∷ []
 statuses_of (Diff store other) = 0 ∷ 3 ∷ 5 ∷ 6 ∷ []
 statuses_of (Sample store size) = 0 ∷ 1 ∷ 3 ∷ 5 ∷ 6 ∷ []
 

@@ -73,6 +73,16 @@ pub enum Command<'a> {
         right: &'a str,
         base: Option<&'a str>,
     },
+    /// Who can come to control the object of this name is told.
+    Control {
+        store: &'a str,
+        name: &'a str,
+    },
+    /// What the object of this name can come to control is told.
+    Reach {
+        store: &'a str,
+        name: &'a str,
+    },
     /// Who gains and who loses which right from the first store to the second one.
     Diff {
         store: &'a str,
@@ -130,6 +140,8 @@ impl<'a> Command<'a> {
             | Command::Who { store, .. }
             | Command::Can { store, .. }
             | Command::Rights { store, .. }
+            | Command::Control { store, .. }
+            | Command::Reach { store, .. }
             | Command::Diff { store, .. } => Some(store),
         }
     }

@@ -1,7 +1,7 @@
 //! The forms of the words as they are told: what help, completion and the documents say is made of them or compared.
 
 /// Each command's name, and the words after it.
-pub static FORMS: [(&str, &str); 17] = [
+pub static FORMS: [(&str, &str); 19] = [
     ("access", ""),
     ("sddl", ""),
     ("change", ""),
@@ -17,6 +17,8 @@ pub static FORMS: [(&str, &str); 17] = [
     ("who", " STORE RIGHT NAME"),
     ("can", " STORE NAME RIGHT BASE, and BASE may be left out"),
     ("rights", " STORE RIGHT BASE, and BASE may be left out"),
+    ("control", " STORE NAME"),
+    ("reach", " STORE NAME"),
     ("diff", " STORE STORE2"),
     ("sample", " STORE N, and N is from 1 to 1000"),
 ];

@@ -4,8 +4,8 @@ ghost use Rattle.std.specs.Prelude.{◌≡◌, ◌≤◌, map, IfSome};
 ghost use Rattle.std.specs.Option.{option_map};
 ghost use Rattle.std.specs.String.{string_bytes};
 ghost use Rattle.cmd_words.specs.Command.{value_of};
-ghost use Rattle.cmd_words.specs.Forms.{alone, with_store, with_text, with_other, with_size, with_two, with_three};
-ghost use Rattle.cmd_words.specs.Forms.{with_texts, command_of};
+ghost use Rattle.cmd_words.specs.Forms.{alone, with_store, with_text, with_name, with_other, with_size, with_two};
+ghost use Rattle.cmd_words.specs.Forms.{with_three, with_texts, command_of};
 ghost use Rattle.cmd_words.specs.Command.{HasSize};
 
 use crate::command::Command;
@@ -68,6 +68,20 @@ fn with_text<'a>(word: &str, store: &'a str, text: &'a str) -> Option<Command<'a
             right: text,
             base: None,
         })
+    } else {
+        with_name(word, store, text)
+    }
+}
+
+// Of a word, a store and a name.
+fn with_name<'a>(word: &str, store: &'a str, name: &'a str) -> Option<Command<'a>>
+    ensures command { option_map value_of result ≡ with_name word.now store.now name.now }
+    ensures few { IfSome result HasSize }
+{
+    if word == "control" {
+        Some(Command::Control { store, name })
+    } else if word == "reach" {
+        Some(Command::Reach { store, name })
     } else {
         None
     }

@@ -101,6 +101,18 @@ returns-in-Rights g c =
     c.args.other.now c.args.other.now c.rights.result c.in-Rights.is (c.rights.ensures.does, refl, refl) refl (of_list
     c.rights.result c.rights.ensures.does.only) refl (λ failed. inl (c.rights.ensures.site_failed failed))
 
+pub returns-in-Control : goal.returns-in-Control
+returns-in-Control g c =
+    deaf g.I.Source g.S.Site g.T.Site c.args.command.now _ c.args.source.now c.args.site.now c.control.new.site
+    c.args.other.now c.args.other.now c.control.result c.in-Control.is (c.control.ensures.does, refl, refl) refl (of_list
+    c.control.result c.control.ensures.does.only) refl (λ failed. inl (c.control.ensures.site_failed failed))
+
+pub returns-in-Reach : goal.returns-in-Reach
+returns-in-Reach g c =
+    deaf g.I.Source g.S.Site g.T.Site c.args.command.now _ c.args.source.now c.args.site.now c.reach.new.site
+    c.args.other.now c.args.other.now c.reach.result c.in-Reach.is (c.reach.ensures.does, refl, refl) refl (of_list
+    c.reach.result c.reach.ensures.does.only) refl (λ failed. inl (c.reach.ensures.site_failed failed))
+
 pub returns-in-Diff : goal.returns-in-Diff
 returns-in-Diff g c =
     deaf g.I.Source g.S.Site g.T.Site c.args.command.now _ c.args.source.now c.args.site.now c.diff.new.site

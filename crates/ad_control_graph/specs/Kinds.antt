@@ -1,9 +1,9 @@
 -- The table of kinds: of each, what leads from a node to an object, as `docs/profile/control.md` says it. A kind more
 -- is a row more.
-use Rattle.std.specs.Prelude.{ℕ, Bool, true, false, Option, Some, None, List, [], ◌∷◌, codes}
+use Rattle.std.specs.Prelude.{ℕ, Bool, true, false, if◌then◌else◌, Option, Some, None, List, [], ◌∷◌, codes}
 use Rattle.ad_acl.specs.Mask.{read_property}
-use Rattle.ad_control.specs.declared.kind.Kind.{Kind}
-use Rattle.ad_control.specs.declared.kind.Kind.TheVariants as kind
+use Rattle.ad_control_graph.specs.declared.kind.Kind.{Kind}
+use Rattle.ad_control_graph.specs.declared.kind.Kind.TheVariants as kind
 
 -- ---- what a row says
 
@@ -17,11 +17,10 @@ pub data Of : Type 0 where
   Having : List ℕ → Of
 
 -- One way: at an object that has a value of one of these attributes (or any, where none is named), who is allowed each
--- of these questions, and those of the others that the schema knows.
+-- of these questions.
 pub record Way : Type 0 where
   pub stored : List (List ℕ)
   pub asks : List (List ℕ)
-  pub if_known : List (List ℕ)
 
 -- An attribute of the object whose value is a descriptor, and the place of the right that it has to grant, or none
 -- where any will do.
@@ -57,11 +56,11 @@ pub record Row : Type 0 where
 
 -- who is allowed the question
 abbrev pub asked : List ℕ → Way
-asked question = record { stored = []; asks = question ∷ []; if_known = [] }
+asked question = record { stored = []; asks = question ∷ [] }
 
 -- the same at an object that has a value of one of these
 abbrev pub asked_where : List (List ℕ) → List ℕ → Way
-asked_where attrs question = record { stored = attrs; asks = question ∷ []; if_known = [] }
+asked_where attrs question = record { stored = attrs; asks = question ∷ [] }
 
 abbrev pub account : Of
 account = Having (codes "unicodePwd")
@@ -129,7 +128,6 @@ row kind.Replicate = record {
   ways = record {
     stored = [];
     asks = codes "CR:DS-Replication-Get-Changes" ∷ codes "CR:DS-Replication-Get-Changes-All" ∷ [];
-    if_known = [];
   } ∷ [];
   held = [];
   from = [];
@@ -175,6 +173,10 @@ row kind.Member = record {
   from = ItsMembers ∷ [];
   counts = false;
 }
+
+-- what an edge of a kind adds to the length of a chain
+abbrev pub cost : Kind → ℕ
+cost kind = if (row kind).counts then 1 else 0
 
 -- all kinds, in the order in which one is told of several that lead alike
 abbrev pub kinds : List Kind

@@ -1,7 +1,7 @@
 //! The kinds of edges.
 
-ghost use Rattle.std.specs.Prelude.{◌≡◌};
-ghost use Rattle.ad_control.specs.Kinds.{row};
+ghost use Rattle.std.specs.Prelude.{◌≡◌, Some, slice_get};
+ghost use Rattle.ad_control_graph.specs.Kinds.{row, kinds};
 
 /// What leads from a node to an object. Which node that is, the table of kinds says.
 #[derive(Clone, Copy, Debug, PartialEq, Eq)]
@@ -33,6 +33,46 @@ pub enum Kind {
 }
 
 impl Kind {
+    /// All kinds, in the order in which one is told of several that lead alike.
+    pub fn all() -> [Kind; 12]
+        ensures { result ≡ kinds }
+    {
+        [
+            Kind::Descriptor,
+            Kind::Reset,
+            Kind::Join,
+            Kind::Key,
+            Kind::Act,
+            Kind::Secret,
+            Kind::Replicate,
+            Kind::All,
+            Kind::Child,
+            Kind::Protect,
+            Kind::Link,
+            Kind::Member,
+        ]
+    }
+
+    /// Its place among all kinds.
+    pub fn place(self) -> usize
+        ensures { slice_get kinds result ≡ Some self }
+    {
+        match self {
+            Kind::Descriptor => 0,
+            Kind::Reset => 1,
+            Kind::Join => 2,
+            Kind::Key => 3,
+            Kind::Act => 4,
+            Kind::Secret => 5,
+            Kind::Replicate => 6,
+            Kind::All => 7,
+            Kind::Child => 8,
+            Kind::Protect => 9,
+            Kind::Link => 10,
+            Kind::Member => 11,
+        }
+    }
+
     /// The word that tells it.
     #[tactic(auto, unfolding(crate::specs::Kinds::row))]
     pub fn name(self) -> &'static [u8]

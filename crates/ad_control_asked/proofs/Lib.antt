@@ -1,0 +1,5 @@
+mod SignLaws
+mod DrawnLaws
+mod NeededLaws
+mod WayLaws
+pub mod Stays

@@ -1,0 +1,5 @@
+pub mod Growing
+pub mod Whole
+pub mod Naming
+pub mod Telling
+pub mod Refusals

@@ -1,0 +1,3 @@
+pub mod Control
+-- only for private contracts, invariants and proofs
+pub mod Drawn

@@ -1,0 +1,2 @@
+-- only for private contracts, invariants and proofs
+pub mod Granting

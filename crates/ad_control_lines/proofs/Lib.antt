@@ -1,0 +1,6 @@
+mod Counting
+mod Owning
+mod Putting
+mod Told
+mod Whys
+pub mod Chained

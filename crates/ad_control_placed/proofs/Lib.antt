@@ -1,0 +1,4 @@
+pub mod Staying
+pub mod Stands
+pub mod Groups
+pub mod Found

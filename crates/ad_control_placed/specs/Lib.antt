@@ -1,0 +1,3 @@
+pub mod Places
+-- only for private contracts, invariants and proofs
+pub mod Standing
