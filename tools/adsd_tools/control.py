@@ -12,6 +12,14 @@ WORD = {False: "control", True: "reach"}
 NODE = re.compile(r"object ([1-9][0-9]{0,9}) (\S+) (.+)")
 STEP = re.compile(r"step (0|[1-9][0-9]{0,9}) ([1-9][0-9]{0,9}) ([a-z]+) (\S+) ([1-9][0-9]{0,9})")
 MEMBER = "member"
+DOMAIN = re.compile(r"S-1-5-(?:32|21(?:-[0-9]+){3})")
+# What whoever begins a step of each kind does to its end, in words.
+DOES = {
+    "descriptor": "writes the DACL of", "reset": "resets the password of", "join": "puts members into",
+    "key": "puts a key of its own on", "act": "comes as anybody to", "secret": "reads the password of",
+    "replicate": "replicates all secrets of", "all": "holds, as the root,", "child": "hands its DACL down to",
+    "protect": "gives its DACL, with the next protection run, to", "link": "runs a policy on", MEMBER: "is in",
+}
 
 
 class Node(NamedTuple):
@@ -39,6 +47,12 @@ class Told:
     steps: dict[int, Step]
     asked: int
     back: bool
+
+    def identities(self) -> list[int]:
+        """The places of those that have an identifier, the nearest first; but for the one that was asked about, and for
+        domains, as which nobody comes."""
+        found = [place for place in self.steps if self.nodes[place].sid and not DOMAIN.fullmatch(self.nodes[place].sid)]
+        return sorted(found, key=lambda place: (self.lengths[place], place))
 
     def chain(self, place: int) -> list[Step]:
         """The steps from a place to the one that was asked about; backwards, from that one to the place."""

@@ -19,7 +19,8 @@ def parts(text):
 
 def rows(text):
     """The rows of the table: number, question, command and answer."""
-    return [found.groups() for found in map(ROW.fullmatch, text.split("\n")) if found]
+    found = [one.groups() for one in map(ROW.fullmatch, text.split("\n")) if one]
+    return [(number, question, command.replace("\\|", "|"), answer) for number, question, command, answer in found]
 
 
 def typed(command):
@@ -28,8 +29,10 @@ def typed(command):
 
 
 def told(command, said):
-    """Whom an output names, in its order: what stands first in a name, or the account of a table of groups."""
+    """Whom an output names, in its order: what stands first in a name, or the account of a table of groups or chains."""
     lines = said.split("\n")
+    if " control " in command:
+        return [re.split(" {2,}", line)[2] for line in lines if line]
     if " token " in command:
         return [line.split("  ")[-1].strip() for line in lines if line.startswith("group ")]
     if "adsd-whatif" in command:

@@ -120,8 +120,7 @@ class Chains:
 
     def to(self, target: Target, told: Told) -> Reach:
         """Who outside comes to control a target."""
-        begins = [place for place in told.steps
-                  if told.nodes[place].sid and not self.ruling.is_inside(told.nodes[place].sid)]
+        begins = [place for place in told.identities() if not self.ruling.is_inside(told.nodes[place].sid)]
         own = {place: self.domain.number(told.nodes[place].sid) for place in begins}
         accounts = [place for place, number in own.items() if number is not None and self.domain.is_account(number)
                     and not self.domain.is_disabled(number)]

@@ -3,7 +3,9 @@ asks it again, and what takes it away."""
 
 from typing import Iterator, Sequence
 
+from adsd_tools.control import DOES
 from adsd_tools.report.html import code, plural, tag, text
+from adsd_tools.shown import shown
 
 from .chains import Link, Reach
 from .findings import Finding
@@ -59,7 +61,7 @@ class Page:
             here = [one for one in self.told.findings if one.area == area]
             faults = sum(not one.look for one in here)
             accounts = {one for finding in here for one in self.whose(finding)}
-            if not here and not self.reaches(area):
+            if not here and not self.told.reaches(area):
                 continue
             link = tag("a", text(title), href=f"#{area}")
             cells = [tag("th", link + tag("div", text(means), of="soft"), scope="row"),
@@ -67,11 +69,12 @@ class Page:
                      tag("td", f"{len(here) - faults:,}", of="n", data_of="to look at"),
                      tag("td", f"{len(accounts):,}", of="n", data_of="accounts")]
             if self.told.has_control:
-                come = max((found.identities for found in self.reaches(area)), default=None)
+                come = max((found.identities for found in self.told.reaches(area)), default=None)
                 cells.append(tag("td", "" if come is None else f"{come:,}", of="n", data_of="come to control it"))
             rows.append(tag("tr", "".join(cells)))
         none = [title for area, (title, _) in AREAS.items()
-                if area in areas_of(self.told) and not self.reaches(area) and not any(one.area == area for one in self.told.findings)]
+                if area in areas_of(self.told) and not self.told.reaches(area)
+                and not any(one.area == area for one in self.told.findings)]
         heads = "".join(tag("th", one, scope="col", of="n" if one != "target" else None)
                         for one in ("target", "findings", "to look at", "accounts",
                                     *(["come to control it"] if self.told.has_control else [])))
@@ -87,7 +90,7 @@ class Page:
     # ---- findings
 
     def area(self, area: str) -> str:
-        here, reaches = [one for one in self.told.findings if one.area == area], self.reaches(area)
+        here, reaches = [one for one in self.told.findings if one.area == area], self.told.reaches(area)
         if not here and not reaches:
             return ""
         title, means = AREAS[area]
@@ -97,11 +100,6 @@ class Page:
             more = tag("summary", plural(len(reaches) - 1, "other object") + " of this target, and who controls it")
             made += tag("details", more + "".join(map(self.control, reaches[1:])))
         return made + self.targets(area) + "".join(self.finding(one) for one in here)
-
-    def reaches(self, area: str) -> list[Reach]:
-        """The targets of an area to which a chain leads, first those that most come to control."""
-        found = [one for one in self.told.control if one.target.area == area and one.chains]
-        return sorted(found, key=lambda one: (-one.identities, not self.domain.is_a(one.target.number, "group")))
 
     def control(self, one: Reach) -> str:
         """Who comes to control a target: the shortest chain, and all of them where it is opened."""
@@ -115,7 +113,16 @@ class Page:
         ask = command(["control", self.domain.names[target.number]], self.told.store)
         more = tag("details", tag("summary", plural(len(one.chains), "chain") + ", the shortest first")
                    + tag("ul", rows) + tag("pre", text(ask, 4000), tabindex="0"))
-        return tag("div", tag("p", head) + tag("p", self.chain(first.links), of="first") + more, of="control")
+        picture = self.drawn(first.links, self.domain.label(target.number))
+        return tag("div", tag("p", head) + picture + more, of="control")
+
+    def drawn(self, links: Sequence[Link], target: str) -> str:
+        """The picture of a chain: a list of nodes with named edges, which the style draws."""
+        items = [tag("li", tag("span", text(links[0].name), of="node"))] if links else []
+        for one in links:
+            edge = tag("span", text(DOES.get(one.kind, one.kind)), of="edge", title=one.kind)
+            items.append(tag("li", edge + " " + tag("span", text(one.to_name), of="node", title=one.to_sid or None)))
+        return tag("ol", "".join(items), of="drawn", role="list", aria_label=f"the shortest chain to {shown(target)}")
 
     def chain(self, links: Sequence[Link]) -> str:
         """A chain in a line: who, and of each step its kind and where it leads."""
@@ -130,8 +137,10 @@ class Page:
         found = [one for one in self.told.reach if one[0].area == area]
         if len(found) < 2:
             return ""
+        come = {one.target.number: f"{one.identities:,}" for one in self.told.control}
         rows = "".join(tag("tr", tag("th", text(self.domain.label(target.number)), scope="row")
-                           + tag("td", text(target.told)) + tag("td", f"{accounts:,}", of="n", data_of="accounts"))
+                           + tag("td", text(target.told)) + tag("td", f"{accounts:,}", of="n", data_of="accounts")
+                           + tag("td", come.get(target.number, ""), of="n", data_of="come to control it"))
                        for target, accounts, _ in found)
         return tag("details", tag("summary", plural(len(found), "target") + " that somebody else opens")
                    + tag("table", tag("tbody", rows), of="wide"))

@@ -40,6 +40,13 @@ dt { color: var(--soft); } dd { margin: 0; min-width: 0; overflow-wrap: anywhere
 .node { display: inline-block; max-width: 100%; border: 1px solid var(--line); border-radius: .7rem; padding: 0 .5rem;
   background: var(--page); overflow-wrap: anywhere; }
 .edge { color: var(--soft); font-size: .88em; white-space: nowrap; } .chain { line-height: 1.9; }
+.drawn { list-style: none; margin: .2rem 0 .5rem; padding: 0; display: flex; flex-wrap: wrap; gap: .5rem 0; }
+.drawn > li { display: flex; align-items: center; min-width: 0; max-width: 100%; padding: 0; }
+.drawn .edge { position: relative; white-space: normal; padding: 0 1.1rem .1rem .6rem; margin: 0 .15rem;
+  border-bottom: 2px solid var(--soft); }
+.drawn .edge::after { content: ""; position: absolute; right: -1px; bottom: -6px; border-left: 9px solid var(--soft);
+  border-top: 5px solid transparent; border-bottom: 5px solid transparent; }
+.drawn > li:last-child > .node { border: 2px solid var(--bad); }
 details { margin: .2rem 0; } summary { cursor: pointer; }
 ul { margin: .2rem 0; padding-left: 1.2rem; }
 .banner { margin: 0; padding: .6rem 1rem; border: 3px solid currentColor; overflow-wrap: anywhere; }
@@ -52,5 +59,11 @@ footer { margin: 3rem auto 2rem; color: var(--soft); font-size: .9rem; }
   .wide tr { border: 1px solid var(--line); border-radius: .4rem; margin: .5rem 0; padding: .2rem 0; }
   .wide th, .wide td { border: 0; padding: .1rem .6rem; } .wide td:empty { display: none; }
   .wide .n { text-align: left; } .wide .n::after { content: " " attr(data-of); color: var(--soft); } }
+@media (max-width: 600px) { .drawn { flex-direction: column; gap: 0; }
+  .control .drawn > li { flex-direction: column; align-items: flex-start; padding: 0; }
+  .drawn .edge { margin-left: 1.1rem; padding: .3rem .2rem .6rem .9rem; border-bottom: 0;
+    border-left: 2px solid var(--soft); }
+  .drawn .edge::after { right: auto; bottom: 0; left: -6px; border: 5px solid transparent; border-bottom: 0;
+    border-top: 9px solid var(--soft); } }
 @media print { .skip { display: none; } .finding, tr, h2 { break-inside: avoid; } h2 { break-after: avoid; } }
 """

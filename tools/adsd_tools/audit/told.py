@@ -39,6 +39,11 @@ class Told:
     notes: list[str] = field(default_factory=list)
     control: list[Reach] = field(default_factory=list)
 
+    def reaches(self, area: str) -> list[Reach]:
+        """The targets of an area to which a chain leads, first those that most come to control."""
+        found = [one for one in self.control if one.target.area == area and one.chains]
+        return sorted(found, key=lambda one: -one.identities)
+
 
 def areas_of(told: Told) -> list[str]:
     """The areas that were looked at: what only leads on to the root is known by chains alone."""

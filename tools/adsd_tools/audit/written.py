@@ -6,7 +6,8 @@ import io
 from adsd_tools.shown import cell, json_of
 
 from .chains import Reach
-from .told import Names, Told, areas_of, command, line_of, record, steps_of
+from .findings import Finding
+from .told import Names, Told, areas_of, chain_command, command, line_of, record, steps_of
 
 HEADS = ("target", "level", "what", "who", "sid", "accounts", "objects", "first object", "entry", "at", "ask", "fix")
 # Of how many chains to a target the steps are told.
@@ -36,17 +37,23 @@ def reach(one: Reach, told: Told, names: Names) -> dict[str, object]:
             "accounts": one.accounts, "ask": command(["control", name], told.store), "chains": chains}
 
 
+def chain_of(one: Finding, told: Told, names: Names) -> list[str]:
+    """The chain of a finding on one line, and the command that tells it."""
+    links = one.chain or one.onward
+    return [line_of(links), chain_command(names.domain, told.store) if links else ""]
+
+
 def as_csv(told: Told, names: Names) -> str:
     """A row for each finding (RFC 4180). No value is a formula to a table program."""
     text = io.StringIO()
     writer = csv.writer(text)
     chains = told.has_control
-    writer.writerow([*HEADS, "chain"] if chains else HEADS)
+    writer.writerow([*HEADS, "chain", "ask chain"] if chains else HEADS)
     for one in told.findings:
         first = names.domain.names[one.objects[0]] if one.objects else ""
         fix = "; ".join(one.fix.lines) if one.fix.lines else one.fix.words
         writer.writerow([cell(value) for value in (
             one.area, "look" if one.look else "fault", "; ".join(one.what), names.who(one), one.who, len(one.members),
             len(one.objects), first, one.entry, names.at(one) or "", command(one.ask, told.store), fix,
-            *([line_of(one.chain or one.onward)] if chains else []))])
+            *(chain_of(one, told, names) if chains else []))])
     return text.getvalue()

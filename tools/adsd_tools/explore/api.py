@@ -33,7 +33,8 @@ class Api:
         self.explorer = explorer
         self.reads = {one.__name__: one for one in (
             self.start, self.children, self.find, self.object, self.askable, self.classes, self.whom, self.who,
-            self.principal, self.can, self.exposed, self.audited, self.moment, self.gains, self.gained, self.frames)}
+            self.principal, self.can, self.exposed, self.audited, self.moment, self.gains, self.gained, self.frames,
+            self.chains, self.reaches, self.cuts)}
         self.writes = {"try": self.attempt, "write": self.write}
 
     def answer(self, name, words, body=None):
@@ -114,9 +115,26 @@ class Api:
         return self.explorer.principals.exposed(self.at(words))
 
     def audited(self, words):
-        return self.explorer.auditing.told()
+        made = self.explorer.auditing.told()
+        self.explorer.chains.add_rights(made.get("targets", ()))
+        return made
+
+    def chains(self, words):
+        """Who comes to control an object."""
+        return self.explorer.chains.of_object(self.number(words))
+
+    def reaches(self, words):
+        """What a principal comes to control."""
+        return self.explorer.chains.of_principal(words["sid"])
 
     # ---- what-ifs
+
+    def cuts(self, words):
+        """Who comes to control an object before a what-if and at its end; without one, of which that is told."""
+        plan, chains = self.explorer.open_plan(words["plan"]), self.explorer.chains
+        if words["n"] is None:
+            return {"targets": chains.targets_of(plan)}
+        return chains.cuts(plan, self.number(words))
 
     def changes_of(self, given):
         """The changes of a request, looked through."""

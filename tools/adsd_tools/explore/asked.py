@@ -48,7 +48,8 @@ WORDS: dict[str, Mapping[str, Word]] = {
     "object": {"n": N, **AT}, "askable": {"n": (number, None), "class": (text, None)},
     "who": {"n": N, "kind": Q, "name": Q, "code": Q, "after": AFTER, **AT}, "principal": {"sid": SID, **AT},
     "can": {"sid": SID, "n": N, **AT}, "exposed": AT, "moment": AT, "gains": AT, "gained": {"sid": SID, **AT},
-    "frames": {"plan": Q, "form": Q}, "audited": {},
+    "frames": {"plan": Q, "form": Q}, "audited": {}, "chains": {"n": N}, "reaches": {"sid": SID},
+    "cuts": {"plan": Q, "n": (number, None)},
 }
 
 

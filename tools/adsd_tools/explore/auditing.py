@@ -5,14 +5,16 @@ import os
 import threading
 from typing import Callable, Optional, Sequence
 
+from adsd_tools.audit.chains import Link, Reach
 from adsd_tools.audit.command import audited
 from adsd_tools.audit.findings import Finding
 from adsd_tools.audit.targets import AREAS
 from adsd_tools.audit.told import Names, Told, command
+from adsd_tools.control import DOES
 
 from .private import Slots, unname
 
-MOST_NAMES, MOST_OBJECTS, MOST_LINES = 4, 3, 40
+MOST_NAMES, MOST_OBJECTS, MOST_LINES, MOST_REACHED = 4, 3, 40, 8
 
 
 class Auditing:
@@ -60,12 +62,31 @@ def page_of(told: Told, names: Names) -> dict[str, object]:
     whole = sum(not one.look for one in told.findings)
     for area, (title, means) in AREAS.items():
         found = [one for one in told.findings if one.area == area]
-        if found:
+        reaches = told.reaches(area)
+        if found or reaches:
             accounts = {number for one in found for number in whose(one, names)}
             targets.append({"key": area, "title": title, "means": means, "faults": sum(not one.look for one in found),
                             "looks": sum(one.look for one in found), "accounts": len(accounts),
-                            "findings": [finding(one, told, names) for one in found]})
+                            "findings": [finding(one, told, names) for one in found],
+                            "control": [reach(one, told, names) for one in reaches[:MOST_REACHED]]})
     return {"targets": targets, "faults": whole, "answers": told.answers}
+
+
+def reach(one: Reach, told: Told, names: Names) -> dict[str, object]:
+    """A target with how many come to control it, and the shortest chain."""
+    chain, number = one.chains[0], one.target.number
+    return {"object": {"n": number, "name": names.domain.label(number)}, "is": one.target.told,
+            "identities": one.identities, "accounts": one.accounts, "length": chain.length,
+            "who": {"n": chain.links[0].number, "sid": chain.sid, "name": chain.name},
+            "steps": [step(link) for link in chain.links],
+            "ask": command(["control", names.domain.names[number]], told.store)}
+
+
+def step(link: Link) -> dict[str, object]:
+    """A step of a chain."""
+    return {"kind": link.kind, "does": DOES.get(link.kind, link.kind),
+            "from": {"n": link.number, "sid": link.sid or None, "name": link.name},
+            "to": {"n": link.to or None, "sid": link.to_sid or None, "name": link.to_name}}
 
 
 def whose(one: Finding, names: Names) -> list[int]:

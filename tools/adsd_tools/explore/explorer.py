@@ -18,7 +18,9 @@ from adsd_tools.run import ADSD
 
 from . import private, tokens, walks
 from .answers import Answers
+from .asking import Asking
 from .auditing import Auditing
+from .chains import Chains
 from .principals import Principals
 from .texts import told
 from .trying import Plan, Wrong
@@ -100,6 +102,8 @@ class Explorer:
         self.views = Views(self.world, self.answers, self.protected)
         self.principals = Principals(self.views)
         self.auditing = Auditing(self.source, self.place, self.slots, self.tell)
+        asking = Asking(self.program, self.place, self.slots, self.tell)
+        self.chains = Chains(self.principals, asking, self.source, self.now)
         self.walks = walks.Stable(lambda: walks.Walk(self.program, self.slots, self.place, self.world, self.operator))
 
     def find_protected(self, walk):
@@ -178,7 +182,7 @@ class Explorer:
             raise Wrong("a change is refused, so nothing is written")
         if self.stamp() != self.stamped:
             raise Changed("another program has written the store since it was read: start the explorer again")
-        frames = plan.frames + ([requests.frame(walks.STEPS, 0, struct.pack(">I", walks.ALL_STEPS))] if settle else [])
+        frames = plan.settled if settle else plan.frames
         # (the launcher, which looks whose the files are)
         serving = program.Serving(ADSD, self.source)
         try:
@@ -196,6 +200,7 @@ class Explorer:
             plan.close()
         self.plans = {}
         self.walks.close()
+        self.chains.asking.close()
         self.slots.close()
         self.load()
         self.warm()
@@ -203,6 +208,7 @@ class Explorer:
     def close(self):
         """Ends the program's runs, and takes the copies away. What is being answered fails then, and nobody waits for it."""
         self.tell = lambda line: None
+        self.chains.asking.close()
         try:
             self.walks.close()
             for plan in list(self.plans.values()):

@@ -1,6 +1,8 @@
 """What somebody may do and where: ranked by harm, with the entry that decides and the chain of groups; and what stands
 out in the whole directory."""
 
+from functools import cached_property
+
 from adsd_tools.report.harms import HARMS
 
 from .answers import worst
@@ -18,13 +20,16 @@ class Principals:
 
     def __init__(self, views):
         self.views, self.world, self.answers = views, views.world, views.answers
-        self.kinds, self.heads = {}, None
+        self.kinds = {}
+
+    @cached_property
+    def titles(self):
+        """What rules the domain, the root and AdminSDHolder first, and what each of it is."""
+        return ruling(self.world, self.views.accounts)
 
     def ruled(self):
-        """What rules the domain, in the order in which it is looked at: the root and AdminSDHolder first."""
-        if self.heads is None:
-            self.heads = {number: place for place, number in enumerate(ruling(self.world, self.views.accounts))}
-        return self.heads
+        """What rules the domain, with its place in the order in which it is looked at."""
+        return {number: place for place, number in enumerate(self.titles)}
 
     def kinds_of(self, moment):
         """The objects by class, descriptor, whether they have an identifier and whether they are protected."""
@@ -126,7 +131,7 @@ class Principals:
         """Who besides those who are meant to rule has dangerous rights on what is protected or rules the domain, the
         worst first; and who has dangerous rights on many objects."""
         accounts, made = self.views.accounts, []
-        inside, heads = rulers(self.world, accounts), ruling(self.world, accounts)
+        inside, heads = rulers(self.world, accounts), self.titles
         for number in sorted(self.views.protected | heads.keys()):
             on = self.answers.object(number, moment)
             by_rank, names, itself = {}, {}, 1 << accounts.place[on.own] if on.own in accounts.place else 0

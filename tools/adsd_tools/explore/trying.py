@@ -140,6 +140,11 @@ class Plan:
             raise
         self.first, self.walk, self.moments = self.moment_of(walk), walk, {}
 
+    @property
+    def settled(self):
+        """The frames, and that all is passed down then."""
+        return [*self.frames, requests.frame(STEPS, 0, struct.pack(">I", ALL_STEPS))]
+
     @cached_property
     def last(self):
         """The moment when nothing is pending any more."""

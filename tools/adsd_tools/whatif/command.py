@@ -16,7 +16,7 @@ from adsd_tools.rows import store
 from adsd_tools.rows.accounts import Accounts
 from adsd_tools.shown import shown
 
-from . import answers, differing, questions, told
+from . import answers, controlling, differing, questions, told
 from .moments import Unanswered, frames, moments
 
 ABOUT = """Serves frames on a copy of a store and tells who gains and who loses a right by them: before the frames, right
@@ -26,6 +26,7 @@ after them, and once every list is passed down (`adsd settle`). The store stays 
     adsd-whatif corp grants.txt --grants --as ann
     adsd-whatif corp changes.ldif --changes --as ann --json
     adsd-whatif corp frames --diff
+    adsd-whatif corp grants.txt --grants --as ann --control
 
 FRAMES is a file of frames, or of lines as `adsd-ask frames` takes them; with --grants of lines of `adsd grants`, with
 --changes of change records; - is standard input. RIGHT and NAME are as of `adsd who`. Without them the dangerous rights
@@ -36,7 +37,11 @@ isn't granted), the identifier and the name: + gained, - lost, +- and -+ only un
 With --diff all that anyone gains or loses on any object is told instead, as the lines of `adsd diff` (docs/profile/diff.md):
 from before the frames to right after them, and to when all is passed down.
 
-Every line comes from `adsd who` or `adsd diff` on the three copies. The program is the launcher's, or the one that the environment's
+With --control it is told instead who comes to control some objects, or what rules the domain, by which chains of steps
+(docs/profile/control.md): how many at each moment, and for whom the least number of steps changes, with the chain that
+is cut and the one that is made.
+
+Every line comes from `adsd who`, `adsd diff` or `adsd control` on the three copies. The program is the launcher's, or the one that the environment's
 ADSD names. This script is not proved."""
 STATUSES = """status: 0 written; 1 the store, the frames or a question can't be taken; 2 usage; 4 a file can't be read;
 5 the output can't be written. Where it isn't 0, nothing is written."""
@@ -65,7 +70,7 @@ def parsed(arguments: List[str]) -> argparse.Namespace:
                  formatter_class=argparse.RawDescriptionHelpFormatter)
     form.add_argument("store", metavar="STORE", help="the store, as `adsd` is given it")
     form.add_argument("frames", metavar="FRAMES", help="the requests that are made on the copy; - is standard input")
-    form.add_argument("asked", nargs="*", metavar="RIGHT NAME", help="a right, and the object on which it is asked")
+    form.add_argument("asked", nargs="*", metavar="RIGHT NAME", help="a right, and the object on which it is asked; of --control names")
     kind = form.add_mutually_exclusive_group()
     kind.add_argument("--grants", action="store_true", help="FRAMES has lines of `adsd grants`, also with names, as of `adsd-ask grants`")
     kind.add_argument("--changes", action="store_true", help="FRAMES has change records, as of `adsd change`")
@@ -77,16 +82,20 @@ def parsed(arguments: List[str]) -> argparse.Namespace:
                       help="without questions: so many kinds of objects are asked about at most (%(default)s)")
     form.add_argument("--every", action="store_true", help="tell the questions in which nothing changes too")
     form.add_argument("--diff", action="store_true", help="tell everyone's gains and losses on all objects, as `adsd diff`")
+    form.add_argument("--control", action="store_true",
+                      help="tell who comes to control the objects named, or what rules the domain")
     form.add_argument("--json", action="store_true", help="write JSON")
     form.add_argument("--jobs", metavar="N", type=positive, default=min(4, os.cpu_count() or 1),
                       help="how many queries run at once (%(default)s)")
     form.add_argument("--progress", action="store_true",
                       help="show progress, also where standard error is no terminal")
     asked = form.parse_intermixed_args(arguments)
-    if len(asked.asked) % 2:
+    if len(asked.asked) % 2 and not asked.control:
         form.error("a RIGHT needs a NAME after it")
     if asked.diff and (asked.asked or asked.all or asked.each or asked.every):
         form.error("--diff tells of all rights and objects: it takes no RIGHT NAME, --all, --each or --every")
+    if asked.control and (asked.diff or asked.all or asked.each or asked.every):
+        form.error("--control takes names alone, no --diff, --all, --each or --every")
     if (asked.grants or asked.changes) and asked.as_name is None:
         form.error("--grants and --changes want --as NAME, whose token the changes are made with")
     return asked
@@ -111,8 +120,12 @@ def built(asked: argparse.Namespace, place: str) -> str:
     made = moments(path, copy, frames(asked, path, copy, data, Accounts(copy)))
     made.incomplete = (incomplete.warn if asked.json else incomplete.lines)(asked.store)
     if asked.diff:
-        said = differing.texts(path, made)
-        return differing.document(made, said) + "\n" if asked.json else "\n".join(differing.lines(made, said)) + "\n"
+        differs = differing.texts(path, made)
+        return differing.document(made, differs) + "\n" if asked.json else "\n".join(differing.lines(made, differs)) + "\n"
+    if asked.control:
+        reached = controlling.told(path, made, asked.asked, asked.jobs)
+        said = controlling.document(made, reached) if asked.json else "\n".join(controlling.lines(made, reached))
+        return said + "\n"
     if asked.asked:
         found, left_out, notes = questions.of_words(asked.asked), 0, []
     else:

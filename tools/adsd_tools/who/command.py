@@ -3,7 +3,7 @@
 import argparse
 import sys
 
-from adsd_tools import incomplete, lines
+from adsd_tools import control, incomplete, lines
 from adsd_tools.forms.known import WELL_KNOWN
 from adsd_tools.forms.sids import sid_of_text, text_of_sid
 from adsd_tools.rows import store
@@ -14,16 +14,17 @@ from adsd_tools.shown import Words, line_of, shown, text_of
 from . import differences, written
 from .entries import Changed, Entries
 
-ABOUT = """Asks `adsd token`, `adsd who`, `adsd can` or `adsd diff`, and writes what it answers with the names of accounts and with
-the entry that decides, as the text of it:
+ABOUT = """Asks `adsd token`, `adsd who`, `adsd can`, `adsd control`, `adsd reach` or `adsd diff`, and writes what it
+answers with the names of accounts and with the entry that decides, as the text of it, or with the chain of steps:
 
     adsd-who who corp CR:User-Force-Change-Password ann
     adsd-who can corp bob WP:member --csv >bob.csv
     adsd-who token corp bob S-1-5-2 --json
+    adsd-who control corp "Domain Admins"
     adsd-who diff before after --csv
 
-The words are those of the program (docs/profile/who.md, docs/profile/diff.md), and so is each right that is told; names and entries are those of
-the store behind it. This script is not proved."""
+The words are those of the program (docs/profile/who.md, control.md, diff.md), and so is each right and step that is
+told; names and entries are those of the store behind it. This script is not proved."""
 STATUSES = """status: as the program's: 0 answered, 3 no answer, with why; and 1 the store can't be read, 2 usage, 5 the output can't be
 written. Where it isn't 0, nothing is written."""
 PRIVILEGES = {1: "security", 2: "take-ownership", 4: "restore"}
@@ -48,10 +49,12 @@ def parsed(arguments):
     forms = shape.add_mutually_exclusive_group()
     forms.add_argument("--json", dest="form", action="store_const", const="json", help="write JSON")
     forms.add_argument("--csv", dest="form", action="store_const", const="csv", help="write CSV, with a line of headings")
-    words = form.add_subparsers(dest="word", required=True, metavar="token|who|can|diff")
+    words = form.add_subparsers(dest="word", required=True, metavar="token|who|can|control|reach|diff")
     for word, told, names in (("token", "the token of a principal", ["NAME", "SID.."]),
                               ("who", "who has a right on an object", ["RIGHT", "NAME"]),
                               ("can", "on which objects a principal has a right", ["NAME", "RIGHT", "BASE"]),
+                              ("control", "who comes to control an object", ["NAME"]),
+                              ("reach", "what somebody comes to control", ["NAME"]),
                               ("diff", "who gains and who loses a right from a store to another", ["STORE2"])):
         one = words.add_parser(word, parents=[shape], help=told, description=f"Tells {told}, as a table if nothing else is asked for.")
         for name in ("STORE", *names):
@@ -122,7 +125,7 @@ class Asked:
         return {"sid": text_of_sid(sid) if sid else None, "account": self.accounts.names_of(number)[0] if sid else None,
                 "name": self.names[number]}
 
-    # ---- the three commands
+    # ---- the commands
 
     def token(self, name, sids):
         told, groups = {}, []
@@ -151,6 +154,25 @@ class Asked:
                 "objects": [{"name": self.names[number], "decides": self.entries.decides(word, number)}
                             for word, number in numbers]}
 
+    def node(self, one):
+        """What is told of a node of chains."""
+        number = self.number(one.name) if one.name else None
+        if number is not None and one.sid and self.accounts.sids.get(number) != sid_of_text(one.sid):
+            raise Changed(f"{one.name} doesn't have the SID {one.sid}")
+        account = self.called(one.sid) if number is None else one.name if number == 1 else self.accounts.names_of(number)[0]
+        return {"sid": one.sid or None, "account": account, "name": one.name or None}
+
+    def chains(self, word, name):
+        """Who comes to control an object, or what somebody comes to control, the nearest first, each with its chain."""
+        back = word == control.WORD[True]
+        told = control.read(program(word, self.path, name), back)
+        places = sorted(told.steps, key=lambda place: (told.lengths[place], place)) if back else told.identities()
+        nodes = {place: self.node(one) for place, one in told.nodes.items()}
+        return {"command": word, "asked": nodes[told.asked],
+                "chains": [{"steps": told.lengths[place], **nodes[place],
+                            "chain": [{"from": nodes[step.begin], "kind": step.kind, "decides": step.decides,
+                                       "to": nodes[step.end]} for step in told.chain(place)]} for place in places]}
+
     def diff(self, before):
         """From another store to this one. The account is that of this one, as the identifier and the name are."""
         made = differences.read(text_of(program("diff", before, self.path)))
@@ -164,6 +186,8 @@ def answered(asked):
     if asked.word == "diff":
         return Asked(asked.store2).diff(asked.store)
     of = Asked(asked.store)
+    if asked.word in control.WORD.values():
+        return of.chains(asked.word, asked.name)
     if asked.word == "token":
         return of.token(asked.name, asked.sid)
     if asked.word == "who":

@@ -10,6 +10,7 @@ from . import differences
 HEADS = {"token": ("part", "sid", "account"),
          "who": ("decides", "place", "entry", "sid", "account", "name"),
          "can": ("decides", "place", "entry", "name"),
+         "control": ("steps", "sid", "account", "name", "chain"), "reach": ("steps", "sid", "account", "name", "chain"),
         "diff": ("change", "of", "of name", "code", "sid", "account", "name", "object")}
 
 
@@ -29,7 +30,17 @@ def rows(made):
         return [decides(one["decides"]) + [one["sid"], one["account"] or "", one["name"] or ""] for one in made["principals"]]
     if made["command"] == "diff":
         return diff_rows(made)
+    if "chains" in made:
+        return [[one["steps"], one["sid"] or "", one["account"] or "", one["name"] or "", chain(one["chain"])]
+                for one in made["chains"]]
     return [decides(one["decides"]) + [one["name"]] for one in made["objects"]]
+
+
+def chain(steps):
+    """A chain on one line: who begins it, and of each step the kind and where it leads."""
+    names = [step["from"] for step in steps[:1]] + [step["to"] for step in steps]
+    called = [one["account"] or one["name"] or one["sid"] for one in names]
+    return " ".join([*called[:1], *(f"-{step['kind']}-> {name}" for step, name in zip(steps, called[1:]))])
 
 
 def cause_row(one):

@@ -1,5 +1,5 @@
 """That the first page shows the planted faults of examples/faults that lead to what rules the domain, and none of their
-near misses; and that who stands there has the right by the program."""
+near misses; that who stands there has the right by the program; and that chains of control are those that it tells."""
 
 import csv
 import gzip
@@ -7,6 +7,8 @@ import json
 import os
 import subprocess
 import time
+
+from adsd_tools import control
 
 from . import corp
 from .rights import Opened
@@ -84,7 +86,85 @@ def targets(tries, opened, store):
     tries.check(told.get("faults") == whole == FOUND, f"{told.get('faults')} and {whole} findings, not {FOUND}")
     asks = [one["ask"] for area in told.get("targets", []) for one in area["findings"]]
     tries.check(asks == [one["ask"] for one in made["findings"]], f"the findings: {asks}")
+    come = {one["object"]["name"]: one["identities"] for area in told.get("targets", []) for one in area["control"]}
+    wanted = {one["identities"] for one in made["control"] if one["chains"]}
+    tries.check(come and set(come.values()) <= wanted, f"who comes to control the targets: {come}")
+    ways = [one for area in told.get("targets", []) for one in area["control"]]
+    lead = [one["steps"][-1]["to"]["n"] == one["object"]["n"] and len(one["steps"]) >= one["length"] for one in ways]
+    tries.check(all(lead), f"the shortest chains: {ways}")
     tries.check(not os.path.exists(opened.explorer.auditing.copy), "the copy that was audited has its name still")
+
+
+# Of which objects it is asked who comes to control them; and what somebody comes to, who is told which chain.
+CONTROLLED = (corp.ROOT, f"CN=AdminSDHolder,CN=System,{corp.ROOT}", f"CN=adm.anna,OU=Admins,OU=Tier0,{corp.ROOT}")
+REACHED = ("CN=hd.dora,OU=Helpdesk," + corp.ROOT, "AdminSDHolder", ["member", "descriptor"])
+
+
+def waited(opened, what, **words):
+    """An answer that comes when the program was asked."""
+    end = time.monotonic() + SECONDS
+    while not (told := opened.get(what, **words))["ready"] and time.monotonic() < end:
+        time.sleep(0.1)
+    return told
+
+
+def said(store, word, name):
+    """What the program tells of chains."""
+    words = [os.environ["ADSD"], word, store, name]
+    return control.read(subprocess.run(words, capture_output=True, check=True).stdout, word == "reach")
+
+
+def edges(told):
+    return {(told.nodes[step.begin].sid, step.kind, told.nodes[step.end].sid) for step in told.steps.values()}
+
+
+def steps(row):
+    return {(step["from"]["sid"] or "", step["kind"], step["to"]["sid"] or "") for step in row["steps"]}
+
+
+def chains(tries, opened, store):
+    """Who comes to control an object is whom the program tells, by steps of its own, each with a right that who begins
+    it has by `who`; and what somebody comes to control, the worst target first."""
+    for name in CONTROLLED:
+        told, made = waited(opened, "chains", n=opened.number(name)), said(store, "control", name)
+        lengths = {made.nodes[place].sid: made.lengths[place] for place in made.identities()}
+        whole = told["identities"] + told["inside"]
+        tries.check(whole == len(lengths), f"{name}: {whole} of {len(lengths)}")
+        for row in told["rows"]:
+            good = row["length"] == lengths.get(row["who"]["sid"], 0) and steps(row) <= edges(made)
+            tries.check(good, f"{name}: {row}")
+            asked_again(tries, store, row)
+        tries.check(told["rows"] and all(row["steps"] for row in told["rows"]), f"{name}: {told}")
+    who, target, kinds = REACHED
+    sid = opened.explorer.views.sid_of(opened.number(who))
+    told, made = waited(opened, "reaches", sid=sid), said(store, "reach", sid)
+    first = told["targets"][0]
+    tries.check(first["to"]["name"] == target and [step["kind"] for step in first["steps"]] == kinds, f"{who}: {first}")
+    for row in told["targets"] + told["others"]:
+        tries.check(steps(row) <= edges(made), f"{who}: {row}")
+
+
+def asked_again(tries, store, row):
+    """The line of each step tells who begins it."""
+    for step in row["steps"]:
+        line = step.get("ask", "").split(" ", 4)
+        if line[:2] == ["adsd", "who"]:
+            words = [os.environ["ADSD"], "who", store, line[3], line[4].strip("'")]
+            told = subprocess.run(words, capture_output=True).stdout.decode()
+            tries.check(f" {step['from']['sid']} " in told, f"{words} hasn't {step['from']}")
+
+
+def cut(tries, opened, store):
+    """A change that takes the helpdesk from AdminSDHolder cuts the chains over it."""
+    number = opened.number(CONTROLLED[1])
+    entry = next(one for one in opened.get("object", n=number)["entries"] if one["who"]["name"] == "Helpdesk")
+    told = opened.post("try", {"changes": [{"op": "remove", "n": number, "old": entry["text"]}]})
+    targets = opened.get("cuts", plan=told["plan"])["targets"]
+    tries.check({1, number} <= set(targets), f"the targets of a what-if: {targets}")
+    made = waited(opened, "cuts", plan=told["plan"], n=number)
+    gone = {row["who"]["name"] for row in made["rows"] if row["after"] is None}
+    tries.check({"Helpdesk", "hd.dora"} <= gone and made["after"] == made["before"] - len(gone), f"what is cut: {made}")
+    tries.check(all(row["cut"] for row in made["rows"]), f"chains that are cut: {made}")
 
 
 def run(tries):
@@ -95,5 +175,7 @@ def run(tries):
     try:
         targets(tries, opened, store)
         as_who(tries, opened, store, first_page(tries, opened))
+        chains(tries, opened, store)
+        cut(tries, opened, store)
     finally:
         opened.explorer.close()

@@ -1,4 +1,4 @@
-"""Eleven tasks of an auditor in the browser, by keyboard alone, at two widths, light and dark."""
+"""Twelve tasks of an auditor in the browser, by keyboard alone, at two widths, light and dark."""
 
 import http.client
 import os
@@ -19,6 +19,11 @@ return (one.getAttribute("aria-label") || label || one.textContent || "").trim()
 CHOSEN = "const one = document.activeElement; return one.options[one.selectedIndex].text"
 HAS = "return document.getElementById('main').innerText.replace(/\\s+/g, ' ').includes(arguments[0])"
 MOST_TABS = 400
+# Each chain that is drawn, as its nodes and edges.
+DRAWN = """
+return [...document.querySelectorAll(".drawn")].map(
+  (list) => [...list.querySelectorAll(".node, .edge > span:first-child")].map((one) => one.textContent));
+"""
 SETTLED = "return document.title.includes(arguments[0])"
 
 
@@ -156,6 +161,24 @@ def may(one):
     one.looks()
     one.push("all rights on pc1")
     one.reads("All that is granted, and what decides")
+    one.looks()
+
+
+def chains(one):
+    """Who comes to control the administrator, by which chain and which right; and what somebody comes to control."""
+    one.find("Administrator")
+    one.reads("that are no administrators come to control it")
+    ways = one.browser.script(DRAWN)
+    one.check(["old-support", "resets the password of", "Administrator"] in ways, f"the chains: {ways}")
+    one.looks()
+    one.push("User-Force-Change-Password", "link")
+    one.reads("4 accounts, by 2 ways")
+    one.find("frank")
+    one.push("What frank may do, and where")
+    one.reads("protected, the worst first")
+    ways = one.browser.script(DRAWN)
+    good = any(way[0] == "frank" and way[-1] == "Administrator" for way in ways)
+    one.check(good, f"what frank comes to control: {ways}")
     one.looks()
 
 
@@ -308,7 +331,7 @@ def reported(tries):
         tries.check(subprocess.run(words, stdout=opened).returncode == 0, "the page of rights")
 
 
-TASKS = [reset, tabs.tabs, unfold, may, members, take_away, add, by_text, protect, frames]
+TASKS = [reset, tabs.tabs, unfold, may, chains, members, take_away, add, by_text, protect, frames]
 
 
 def all_of(tries, served, odd_one, size):

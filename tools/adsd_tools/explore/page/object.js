@@ -1,6 +1,7 @@
-// An object: who is dangerous on it, and its descriptor in words.
+// An object: who comes to control it, who is dangerous on it, and its descriptor in words.
 
 import {ask, el, joined, name, number, plural} from "./dom.js";
+import {control} from "./chains.js";
 import {tryOut} from "./plan.js";
 import {at, entry, marks, objectLink, people, principalLink, rank} from "./words.js";
 import {whoForm} from "./who.js";
@@ -64,7 +65,7 @@ function state(one) {
 
 export async function objectView(n) {
   const one = await ask("object", { n });
-  const label = one.name.slice(one.n === 1 ? 0 : one.name.indexOf("=") + 1);
+  const label = one.name.slice(one.n === 1 ? 0 : one.name.indexOf("=") + 1), form = await whoForm(one);
   return {
     title: label,
     object: one,
@@ -78,9 +79,11 @@ export async function objectView(n) {
                             joined(one.members.first.slice(0, 12).map((member) => objectLink(member)), ", "),
                             one.members.count > 12 ? " .." : "")
                         : null,
-      el("section", { "aria-labelledby": "dangers" }, el("h2", { id: "dangers" }, "Who can take control of this object"),
+      el("section", { "aria-labelledby": "control" },
+        el("h2", { id: "control" }, "Who can take control of this object"), control(one.n, label)),
+      el("section", { "aria-labelledby": "dangers" }, el("h2", { id: "dangers" }, "Who has dangerous rights on it"),
         dangers(one)),
-      el("section", { "aria-labelledby": "ask" }, el("h2", { id: "ask" }, "Who can .."), await whoForm(one)),
+      el("section", { "aria-labelledby": "ask" }, el("h2", { id: "ask" }, "Who can .."), form),
       el("section", { "aria-labelledby": "list" }, el("h2", { id: "list" }, "Its list, in words"),
         el("p", {}, "Owner ", principalLink(one.owner), ", group ", principalLink(one.group), ". ",
           one.n === 1       ? "It is the root, and inherits nothing."

@@ -1,6 +1,8 @@
-// A principal: its groups, and what it may do, the worst first; and all its rights on one object.
+// A principal: what it comes to control and what it may do, the worst first; its groups; and all its rights on one
+// object.
 
 import {ask, el, joined, name, number, plural} from "./dom.js";
+import {reaching} from "./chains.js";
 import {objectPicker} from "./picker.js";
 import {at, chain, deciding, marks, objectLink, principalLink, rank, rights} from "./words.js";
 
@@ -43,11 +45,13 @@ export async function principalView(sid) {
         marks({ marks: one.protected ? [ "protected" ] : [] })),
       el("p", { class: "small soft" }, one.sid), el("p", { class: "lead" }, lead),
       one.n
-        ? el("p", {}, el("a", { class: "go", href: at.object(one.n) }, "Its object, and who is dangerous to it"))
+        ? el("p", {}, el("a", { class: "go", href: at.object(one.n) }, "Its object, and who can take control of it"))
         : "",
       one.account ? ""
                   : el("p", { class: "soft" },
                       "It isn't an account: told is what somebody may do who holds it, and no other group."),
+      el("section", { "aria-labelledby": "reaches" },
+        el("h2", { id: "reaches" }, "What it comes to control"), reaching(one.sid, one.name)),
       el("section", { "aria-labelledby": "may" }, el("h2", { id: "may" }, "What it may do, and where"),
         one.ranks.map((row, at) => ranked(one, row, at === 0)),
         one.none.length ? el("p", { class: "soft" }, "On no object: it " + one.none.join(", it ") + ".") : ""),

@@ -1,10 +1,10 @@
 // The targets of an audit, the worst first: how many findings each has, and each finding with what decides, the command
-// that asks it again, and what takes it away. They are asked beside the rest of the page, and come when they are there.
+// that asks it again, and what takes it away; below it how many come to control it, and the shortest chain. They are
+// asked beside the rest of the page, and come when they are there.
 
-import {ask, el, joined, name, number, plural, put, say} from "./dom.js";
+import {later, nearest} from "./chains.js";
+import {el, joined, name, number, plural} from "./dom.js";
 import {objectLink, principalLink} from "./words.js";
-
-const PAUSE = 700;
 
 function who(one) {
   const more = one.count - one.accounts.length;
@@ -30,43 +30,40 @@ function finding(one) {
         fact("mend", one.words, one.fix.map((line) => el("code", { class: "line" }, line))))));
 }
 
-function target(one, open) {
+function findings(one, open) {
   const count = [ one.faults ? plural(one.faults, "finding") : "", one.looks ? plural(one.looks, "thing") + " to look at" : "" ];
-  return el("details", { open, class: "target" },
+  return el("details", { open },
     el("summary", {}, el("b", { class: "count" }, number(one.faults + one.looks)), " ", el("strong", {}, one.title), " ",
       el("span", { class: "soft" }, count.filter(Boolean).join(", "), one.accounts ? ", " + plural(one.accounts, "account") : "")),
     el("p", { class: "soft" }, one.means[0].toUpperCase() + one.means.slice(1) + "."),
     el("ul", { class: "where" }, one.findings.map(finding)));
 }
 
+// A target: by what somebody comes there in one step; and how many come to control it.
+function target(one, open) {
+  const [first, ...others] = one.control;
+  return el("div", { class: "target" }, one.findings.length ? findings(one, open) : el("h3", {}, one.title),
+    first ? nearest(first) : "",
+    others.length ? el("details", {},
+                      el("summary", {}, plural(others.length, "other object"), " of this target, and who controls it",
+                        el("span", { class: "sr" }, " (" + one.title + ")")), others.map(nearest)) : "");
+}
+
 function shown(told) {
-  if (told.why) return el("p", { role: "alert" }, told.why);
-  const first = told.targets[0], worst = first && first.findings[0];
-  const lead = worst
+  const worst = told.targets.flatMap((one) => one.findings).find((one) => !one.look);
+  const root = told.targets.flatMap((one) => one.control).find((one) => one.object.n === 1);
+  const lead = [ root ? [ number(root.identities), " that are no administrators come to control the domain's root. " ] : "", worst
     ? [ plural(told.faults, "finding"), " by which somebody who is no administrator takes over what rules the domain, or others. ",
         "The worst: ", who(worst), " ", worst.what, ", ", where(worst), "." ]
-    : [ "Nobody but administrators takes over what rules the domain, in one step." ];
+    : "Nobody but administrators takes over what rules the domain, in one step." ];
   return [ el("p", { class: "lead" }, lead), told.targets.map((one, place) => target(one, place === 0)),
-    el("p", { class: "soft" }, "Each is one step: chains of control aren't told.") ];
+    el("p", { class: "soft" }, "A finding is one step. A chain is what ", el("code", {}, "adsd control"),
+      " tells: none is shorter. It knows no certificates, sessions, local groups and files.") ];
 }
 
 // What stands on the page until the audit is through, and then its targets.
 export function targets() {
-  const made = el("div", { class: "targets", "aria-busy": "true" }, el("p", { class: "soft" }, "The program is asked .."));
-  async function look() {
-    if (!made.isConnected && made.dataset.seen) return;
-    made.dataset.seen = "1";
-    const told = await ask("audited");
-    if (!told.ready) {
-      made.firstChild.textContent = "The program is asked .. " + (told.far || "");
-      setTimeout(look, PAUSE);
-      return;
-    }
-    made.replaceChildren();
-    put(made, [ shown(told) ].flat(Infinity));
-    made.removeAttribute("aria-busy");
-    say("the findings are there");
-  }
-  setTimeout(() => look().catch((why) => { made.firstChild.textContent = why.message; }), 0);
+  const made = later("audited", {}, shown, "the findings are there");
+  made.className = "targets";
   return made;
 }

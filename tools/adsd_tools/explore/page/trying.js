@@ -1,5 +1,6 @@
 // What if: changes of lists, made on a copy; who gains and who loses; the steps that pass them down; and the frames.
 
+import {cutPart} from "./chains.js";
 import {ask, el, file, fresh, joined, number, onLines, plural, say, tell} from "./dom.js";
 import {entryForm, listForm} from "./form.js";
 import {objectPicker, principalPicker} from "./picker.js";
@@ -297,7 +298,10 @@ async function tried() {
     const start = await ask("start"), last = await ask("moment", { plan: told.plan, step: -1 });
     const box = moments(told, last.total);
     await box.go(last.total > 0 && last.total <= 400 ? Math.min(last.total, 1) : last.total);
-    return [ list, makers(), box, gainedPart(told, box), whoThen(told, box), frames(told), writing(told, start) ];
+    return [
+      list, makers(), box, cutPart(told.plan), gainedPart(told, box), whoThen(told, box), frames(told),
+      writing(told, start)
+    ];
 }
 
 async function byWhom() {
