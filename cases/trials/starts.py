@@ -104,6 +104,10 @@ class Starts:
         slots = self.base()
         return Start(slots, ("audit", "S"), b"".join(program.frames_of([TOKEN, ASKS, CHANGE_ROOT, *FEW])), [slots], once=True)
 
+    def control(self):
+        slots = self.base()
+        return Start(slots, ("control", "S", BOB), b"", [slots], once=True)
+
     def diff(self):
         """Of a store and itself, so that each call comes for either."""
         slots = self.base()

@@ -72,13 +72,17 @@ def read(said: bytes, back: bool = False) -> Told:
     nodes: dict[int, Node] = {}
     lengths: dict[int, int] = {}
     steps: dict[int, Step] = {}
+    names: set[str] = set()
     for line in lines.lines(word, said):
         node, step = NODE.fullmatch(line), STEP.fullmatch(line)
         if node and int(node[1]) == len(nodes) + 1 and not steps:
-            if node[2] != "-" and lines.sid(node[2]) is None:
+            if (node[2] != "-" and lines.sid(node[2]) is None) or (node[2] == node[3] == "-"):
                 raise lines.Unread(word, line)
+            if node[3] in names:
+                raise lines.Unread(word, line, "has a name twice")
+            names.update({node[3]} - {"-"})
             nodes[int(node[1])] = Node("" if node[2] == "-" else node[2], "" if node[3] == "-" else shown(node[3]))
-        elif step and {int(step[2]), int(step[5])} <= nodes.keys():
+        elif step and {int(step[2]), int(step[5])} <= nodes.keys() and lines.is_reason(step[4]):
             begin, end = int(step[2]), int(step[5])
             own = end if back else begin
             if own in steps or begin == end:

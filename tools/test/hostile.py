@@ -38,7 +38,7 @@ answer = os.environ.get("STUB_" + words[0].upper())
 if answer is not None:
     sys.stdout.buffer.write(answer.encode("utf-8", "surrogateescape"))
     sys.exit(0)
-if words[0] not in ("list", "who", "can", "diff", "audit"):
+if words[0] not in ("list", "who", "can", "control", "reach", "diff", "audit"):
     os.execv(program, [program, *words])
 done = subprocess.run([program, *words], stdout=subprocess.PIPE)
 made = done.stdout

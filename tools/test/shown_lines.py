@@ -1,7 +1,7 @@
 """The readers of the program's lines on texts that are of its grammar and on others: test/shown tries them. What is
 expected stands beside each text: how many things are read, or the line that has to be named."""
 
-from adsd_tools import lines
+from adsd_tools import control, lines
 from adsd_tools.shown import text_of
 from adsd_tools.who import differences
 
@@ -15,6 +15,11 @@ DIFF = ("object + CN=new,DC=x\nobject - CN=old,DC=x\nentry + CN=ann,DC=x\t(A;;WD
         "- attribute cn WP\n")
 LISTED = (f"object CN=a,DC=x\nowner {BOB}\ngroup {ANN}\ndacl inherits\nallow {BOB} GA - - - explicit\n"
           f"deny {ANN} 0x1 A b user CIIO inherited\nsacl protected\naudit {BOB} WP - - SA explicit\n")
+# ann resets bob's password, who writes the list of the unit; and bob is in a group that puts members into another one.
+CHAINS = (f"object 1 - OU=x,DC=x\nobject 2 {BOB} CN=bob,DC=x\nobject 3 {ANN} -\n"
+          "step 1 2 descriptor 3 1\nstep 2 3 reset parent:owner 2\n")
+BACK = (f"object 1 {BOB} CN=bob,DC=x\nobject 2 - OU=x,DC=x\nobject 3 {ANN} CN=g,DC=x\n"
+        "step 1 3 join 1 2\nstep 0 1 member - 3\n")
 
 
 def diff(said):
@@ -27,9 +32,15 @@ def listed(said):
     return made.entries() + made.sacl[1:]
 
 
+def chains(said, back):
+    """The steps of all chains."""
+    told = control.read(said, back)
+    return [step for place in told.nodes for step in told.chain(place)]
+
+
 READERS = {"who": lines.who, "can": lines.can, "token": lines.token, "check": lines.check,
            "settle": lines.settle, "effective": lines.effective, "audit": lines.audit, "list": listed,
-           "diff": diff}
+           "diff": diff, "control": lambda said: chains(said, False), "reach": lambda said: chains(said, True)}
 TOKEN = f"user {BOB}\nowner {BOB}\nprimary {ANN}\n"
 # A command, what it prints, and how many things are read of it; or what the refusal has to name.
 CASES = [
@@ -88,6 +99,28 @@ CASES = [
     ("list", "", "too few lines"),
     ("list", LISTED.replace(f"owner {BOB}", "owner x"), "owner x"),
     ("list", LISTED.replace("object ", "Object "), "Object CN=a,DC=x"),
+    ("control", CHAINS, 3),
+    ("control", CHAINS.replace("reset parent:owner", "child -"), 3),
+    ("control", "", "has 0 nodes without a step"),
+    ("control", CHAINS[:-1], "ends within a line"),
+    ("control", CHAINS.replace("object 2 ", "object 4 "), "object 4 "),
+    ("control", CHAINS.replace("object 3 ", "object 03 "), "object 03 "),
+    ("control", CHAINS.replace(f"{ANN} -", "- -"), "object 3 - -"),
+    ("control", CHAINS.replace(ANN, "S-1-05"), "S-1-05"),
+    ("control", CHAINS.replace("CN=bob", "OU=x"), "has a name twice"),
+    ("control", CHAINS.replace("OU=x", "OU=x\nCNF:1"), "CNF:1,DC=x"),
+    ("control", CHAINS.replace("2 3 reset", "3 3 reset"), "step 3 3 reset"),
+    ("control", CHAINS.replace("step 2 3 reset", "step 2 3 member"), "step 2 3 member"),
+    ("control", CHAINS.replace("parent:owner", "nobody"), "nobody"),
+    ("control", CHAINS.replace("parent:owner 2", "parent:owner 9"), "parent:owner 9"),
+    ("control", CHAINS.replace("parent:owner 2", "parent:owner 3"), "parent:owner 3"),
+    ("control", CHAINS.replace("step 2 3 reset parent:owner 2\n", ""), "has 2 nodes without a step"),
+    ("control", CHAINS.replace("step 1 2 descriptor 3 1", "step 3 2 descriptor 3 3"), "is no chain"),
+    ("control", CHAINS + "step 1 2 key 3 1\n", "step 1 2 key"),
+    ("control", CHAINS + f"object 4 {BOB} CN=c\n", "object 4 "),
+    ("reach", BACK, 3),
+    ("reach", BACK.replace("step 1 3", "step 2 3"), "is no chain"),
+    ("reach", BACK.replace("step 0 1", "step 1 1"), "is no chain"),
     ("diff", "", 0),
     ("diff", DIFF, 7),
     ("diff", DIFF.replace("principals 1 o", "principals 2 o"), "principals 2 objects 1"),

@@ -11,7 +11,7 @@ HEADS = {"token": ("part", "sid", "account"),
          "who": ("decides", "place", "entry", "sid", "account", "name"),
          "can": ("decides", "place", "entry", "name"),
          "control": ("steps", "sid", "account", "name", "chain"), "reach": ("steps", "sid", "account", "name", "chain"),
-        "diff": ("change", "of", "of name", "code", "sid", "account", "name", "object")}
+         "diff": ("change", "of", "of name", "code", "sid", "account", "name", "object")}
 
 
 def decides(told):
