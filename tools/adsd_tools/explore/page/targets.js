@@ -1,6 +1,6 @@
-// The targets of an audit, the worst first: how many findings each has, and each finding with what decides, the command
-// that asks it again, and what takes it away; below it how many come to control it, and the shortest chain. They are
-// asked beside the rest of the page, and come when they are there.
+// The targets of an audit, the worst first: how many come to control each, and the shortest chain, drawn; below it the
+// findings, each with what decides, the command that asks it again, and what takes it away. They are asked beside the
+// rest of the page, and come when they are there.
 
 import {later, nearest} from "./chains.js";
 import {el, joined, name, number, plural} from "./dom.js";
@@ -30,23 +30,25 @@ function finding(one) {
         fact("mend", one.words, one.fix.map((line) => el("code", { class: "line" }, line))))));
 }
 
-function findings(one, open) {
+function findings(one) {
   const count = [ one.faults ? plural(one.faults, "finding") : "", one.looks ? plural(one.looks, "thing") + " to look at" : "" ];
-  return el("details", { open },
-    el("summary", {}, el("b", { class: "count" }, number(one.faults + one.looks)), " ", el("strong", {}, one.title), " ",
-      el("span", { class: "soft" }, count.filter(Boolean).join(", "), one.accounts ? ", " + plural(one.accounts, "account") : "")),
-    el("p", { class: "soft" }, one.means[0].toUpperCase() + one.means.slice(1) + "."),
+  return el("details", {},
+    el("summary", {}, "In one step: ", el("strong", {}, count.filter(Boolean).join(", ")),
+      one.accounts ? " by " + plural(one.accounts, "account") : "", el("span", { class: "sr" }, " (" + one.title + ")")),
     el("ul", { class: "where" }, one.findings.map(finding)));
 }
 
-// A target: by what somebody comes there in one step; and how many come to control it.
-function target(one, open) {
+// A target: how many come to control it, and the shortest chain; then by what somebody comes there in one step.
+function target(one) {
   const [first, ...others] = one.control;
-  return el("div", { class: "target" }, one.findings.length ? findings(one, open) : el("h3", {}, one.title),
+  return el("section", { class: "target", "aria-labelledby": "target-" + one.key },
+    el("h3", { id: "target-" + one.key }, one.title),
+    el("p", { class: "soft" }, one.means[0].toUpperCase() + one.means.slice(1) + "."),
     first ? nearest(first) : "",
     others.length ? el("details", {},
                       el("summary", {}, plural(others.length, "other object"), " of this target, and who controls it",
-                        el("span", { class: "sr" }, " (" + one.title + ")")), others.map(nearest)) : "");
+                        el("span", { class: "sr" }, " (" + one.title + ")")), others.map(nearest)) : "",
+    one.findings.length ? findings(one) : "");
 }
 
 function shown(told) {
@@ -56,7 +58,7 @@ function shown(told) {
     ? [ plural(told.faults, "finding"), " by which somebody who is no administrator takes over what rules the domain, or others. ",
         "The worst: ", who(worst), " ", worst.what, ", ", where(worst), "." ]
     : "Nobody but administrators takes over what rules the domain, in one step." ];
-  return [ el("p", { class: "lead" }, lead), told.targets.map((one, place) => target(one, place === 0)),
+  return [ el("p", { class: "lead" }, lead), told.targets.map(target),
     el("p", { class: "soft" }, "A finding is one step. A chain is what ", el("code", {}, "adsd control"),
       " tells: none is shorter. It knows no certificates, sessions, local groups and files.") ];
 }
