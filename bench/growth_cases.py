@@ -54,13 +54,16 @@ CASES = {}
 KNOWN = {}
 # Cases that are counted at one size: what they are held against, and how many times as much they may take.
 AGAINST = {}
+# How many times as much work four times as much may take, where that isn't what bench/growth says.
+LIMITS = {}
 
 
-def case(name, whole, short, known="", against=None):
+def case(name, whole, short, known="", against=None, most=None):
     def put(made):
         CASES[name] = made, whole, short
         KNOWN.update({name: known} if known else {})
         AGAINST.update({name: against} if against else {})
+        LIMITS.update({name: most} if most else {})
         return made
 
     return put
