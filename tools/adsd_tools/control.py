@@ -20,6 +20,13 @@ DOES = {
     "replicate": "replicates all secrets of", "all": "holds, as the root,", "child": "hands its DACL down to",
     "protect": "gives its DACL, with the next protection run, to", "link": "runs a policy on", MEMBER: "is in",
 }
+# The same of a member of what is no group: its token has the other's identifier, as by sIDHistory.
+HOLDS = "has the identifier of"
+
+
+def does(kind: str, to_group: bool = True) -> str:
+    """What a step does, in words; where it leads to a group or not."""
+    return HOLDS if kind == MEMBER and not to_group else DOES.get(kind, kind)
 
 
 class Node(NamedTuple):

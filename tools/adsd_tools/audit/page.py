@@ -3,7 +3,7 @@ asks it again, and what takes it away."""
 
 from typing import Iterator, Sequence
 
-from adsd_tools.control import DOES
+from adsd_tools.control import does
 from adsd_tools.report.html import code, plural, tag, text
 from adsd_tools.shown import shown
 
@@ -120,7 +120,8 @@ class Page:
         """The picture of a chain: a list of nodes with named edges, which the style draws."""
         items = [tag("li", tag("span", text(links[0].name), of="node"))] if links else []
         for one in links:
-            edge = tag("span", text(DOES.get(one.kind, one.kind)), of="edge", title=one.kind)
+            words = does(one.kind, not one.to or self.domain.is_a(one.to, "group"))
+            edge = tag("span", text(words), of="edge", title=one.kind)
             items.append(tag("li", edge + " " + tag("span", text(one.to_name), of="node", title=one.to_sid or None)))
         return tag("ol", "".join(items), of="drawn", role="list", aria_label=f"the shortest chain to {shown(target)}")
 

@@ -10,7 +10,7 @@ from adsd_tools.audit.command import audited
 from adsd_tools.audit.findings import Finding
 from adsd_tools.audit.targets import AREAS
 from adsd_tools.audit.told import Names, Told, command
-from adsd_tools.control import DOES
+from adsd_tools.control import does
 
 from .private import Slots, unname
 
@@ -78,13 +78,13 @@ def reach(one: Reach, told: Told, names: Names) -> dict[str, object]:
     return {"object": {"n": number, "name": names.domain.label(number)}, "is": one.target.told,
             "identities": one.identities, "accounts": one.accounts, "length": chain.length,
             "who": {"n": chain.links[0].number, "sid": chain.sid, "name": chain.name},
-            "steps": [step(link) for link in chain.links],
+            "steps": [step(link, not link.to or names.domain.is_a(link.to, "group")) for link in chain.links],
             "ask": command(["control", names.domain.names[number]], told.store)}
 
 
-def step(link: Link) -> dict[str, object]:
-    """A step of a chain."""
-    return {"kind": link.kind, "does": DOES.get(link.kind, link.kind),
+def step(link: Link, to_group: bool) -> dict[str, object]:
+    """A step of a chain, which leads to a group or not."""
+    return {"kind": link.kind, "does": does(link.kind, to_group),
             "from": {"n": link.number, "sid": link.sid or None, "name": link.name},
             "to": {"n": link.to or None, "sid": link.to_sid or None, "name": link.to_name}}
 

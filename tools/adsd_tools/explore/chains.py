@@ -5,7 +5,7 @@ from functools import cached_property
 
 from adsd_tools.audit.ruling import EVERYWHERE, OF_DOMAIN
 from adsd_tools.audit.told import command
-from adsd_tools.control import DOES, MEMBER, WORD
+from adsd_tools.control import MEMBER, WORD, does
 from adsd_tools.forms.rights import RIGHTS
 from adsd_tools.forms.sids import sid_of_text, text_of_sid
 from adsd_tools.ldap.accounts import below
@@ -75,6 +75,9 @@ class Chains:
             name = called(self.world, number)
         return {"n": number, "sid": sid or None, "name": name}
 
+    def is_group(self, number):
+        return number is not None and self.world.class_name(number).lower() == "group"
+
     def steps(self, told, links):
         return [self.step(told, one) for one in links]
 
@@ -85,7 +88,7 @@ class Chains:
     def step(self, told, one):
         """A step: what it does in words, the right by which, what decides, and the line that asks it again."""
         begin, end = self.node(told, one.begin), self.node(told, one.end)
-        made = {"kind": one.kind, "does": DOES.get(one.kind, one.kind), "from": begin, "to": end}
+        made = {"kind": one.kind, "does": does(one.kind, self.is_group(end["n"])), "from": begin, "to": end}
         found = self.right_of(one.kind, begin["sid"], end["n"]) if begin["sid"] and end["n"] else None
         if found:
             number, asks, right = found
@@ -132,7 +135,7 @@ class Chains:
         rows, inside, count = self.rows(told)
         accounts = sum(sid_of_text(told.nodes[place].sid) in self.views.accounts.place
                        for row in rows for place in (row[0], *row[2]) if place != told.asked)
-        return {"ready": True, "identities": count, "accounts": accounts, "inside": inside,
+        return {"ready": True, "identities": count, "accounts": accounts, "inside": inside, "group": self.is_group(number),
                 "rows": [self.row(told, *row) for row in rows[:MOST_CHAINS]], "more": len(rows[MOST_CHAINS:]),
                 "ask": self.line(WORD[False], shown(text_of(self.name_of(number))))}
 

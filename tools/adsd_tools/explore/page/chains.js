@@ -66,23 +66,23 @@ function steps(count) { return count ? plural(count, "step") : "no step"; }
 
 // ---- who comes to control an object
 
-function members(row) {
+function members(row, isGroup) {
   const more = row.count - row.members.length;
   return row.count
-    ? el("p", { class: "small" }, row.steps.length ? "By the same: " : "Who is in it: ",
+    ? el("p", { class: "small" }, row.steps.length ? "By the same: " : isGroup ? "Who is in it: " : "Who has its identifier: ",
         joined(row.members.map(principalLink), ", "), more > 0 ? " and " + number(more) + " more" : "")
     : "";
 }
 
-function begun(row, label) {
+function begun(row, label, isGroup) {
   return el("li", {}, row.steps.length ? drawn(row.who, row.steps, row.who.name + " comes to control " + label) : "",
-    members(row), row.steps.length ? inWords(row.steps, row.who.name) : "");
+    members(row, isGroup), row.steps.length ? inWords(row.steps, row.who.name) : "");
 }
 
-function byLength(rows, label) {
+function byLength(rows, label, isGroup) {
   return [...new Set(rows.map((row) => row.length)) ].map((length) => [
     el("h3", {}, length ? "In " + steps(length) : "Without a step"),
-    el("ul", { class: "where" }, rows.filter((row) => row.length === length).map((row) => begun(row, label)))
+    el("ul", { class: "where" }, rows.filter((row) => row.length === length).map((row) => begun(row, label, isGroup)))
   ]);
 }
 
@@ -92,7 +92,7 @@ function controlled(told, label) {
       told.identities ? [ el("strong", {}, number(told.identities)), " that are no administrators come to control it, ",
         plural(told.accounts, "account"), " of them." ]
                       : "Nobody but administrators comes to control it."),
-    byLength(told.rows, label),
+    byLength(told.rows, label, told.group),
     told.more ? el("p", { class: "soft" }, "and " + plural(told.more, "further chain")) : "",
     el("p", { class: "small soft" }, told.inside ? plural(told.inside, "identity", "identities") +
       " that are meant to rule come to it too. " : "", el("code", {}, told.ask))
