@@ -51,6 +51,8 @@ class Bridge:
         self.made_now = 0
         self.accounts, self.tls, self.servers = Accounts(self, options.reader), options.tls, []
         self.groups, self.levels = Groups(self), {}
+        # Whether the store had objects of other naming contexts, and after how many changes.
+        self.contexts = 0, None
         self.tickets, self.pinged = gss.Tickets(options.keytab) if options.keytab else None, None
 
     def made_turns(self):
@@ -162,6 +164,15 @@ class Bridge:
             self.root = await root_dse.find_root(self.turns, self.names) or (self.schema and self.schema.root)
         elif await root_dse.look_for(self.turns, self.root) is None:
             self.log.say("warning: the store has no object with the name of --base")
+
+    async def has_contexts(self):
+        """Whether the store has objects of other naming contexts, of which Configuration is above the others; it is
+        looked up once after each change."""
+        changes, known = self.contexts
+        if known is None or changes != self.turns.changes:
+            changes = self.turns.changes
+            self.contexts = changes, await root_dse.look_for(self.turns, root_dse.below(self.root)[0]) is not None
+        return self.contexts[1]
 
     async def read_schema(self):
         """Reads the schema of the store's files, which the program has open, and lets nobody write, by now."""

@@ -1,5 +1,5 @@
-"""LDAP pings over UDP: what looks for a domain controller asks for the root DSE's netlogon, without a bind. Nothing else
-is answered there, and of one peer so many in a second, since whoever sends a datagram may claim to be somebody else."""
+"""LDAP pings over UDP: what looks for a domain controller asks for the root DSE's netlogon, without a bind. Nothing
+else is answered there, and of one peer so many in a second, since a sender may claim to be somebody else."""
 
 import asyncio
 import time

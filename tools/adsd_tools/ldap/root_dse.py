@@ -40,6 +40,11 @@ def asked(search):
     return search.base == b"" and search.scope == searches.BASE and not search.has_critical()
 
 
+def below(root):
+    """The naming contexts below the root's."""
+    return [b"CN=Configuration," + root, schema_entries.SCHEMA + root]
+
+
 def contexts(root, has_schema):
     """What is told of the directory."""
     if not root:
@@ -47,7 +52,7 @@ def contexts(root, has_schema):
     found = [("defaultNamingContext", [root]), ("rootDomainNamingContext", [root])]
     if not has_schema:
         return [("namingContexts", [root]), *found]
-    place, configuration = schema_entries.SCHEMA + root, b"CN=Configuration," + root
+    configuration, place = below(root)
     return [("subschemaSubentry", [subschema.NAME + root]), ("namingContexts", [root, configuration, place]), *found,
             ("configurationNamingContext", [configuration]), ("schemaNamingContext", [place])]
 

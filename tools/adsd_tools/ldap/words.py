@@ -107,8 +107,8 @@ def store(text):
 def words_of_tickets(form):
     """Who may bind by tickets of Kerberos, and what is said to who looks for a domain controller."""
     form.add_argument("--keytab", metavar="FILE",
-                      help="let accounts of the store bind by tickets of Kerberos for ldap/.. of this keytab: SASL GSSAPI "
-                           "and GSS-SPNEGO (Debian: python3-gssapi)")
+                      help="let accounts of the store bind by tickets of Kerberos for ldap/.. of this keytab: SASL "
+                           "GSSAPI and GSS-SPNEGO (Debian: python3-gssapi)")
     form.add_argument("--realm", metavar="NAME", type=realm,
                       help="the realm whose principals are accounts of the store (the domain's name in capitals)")
     form.add_argument("--ping", action="store_true",
