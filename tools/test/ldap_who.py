@@ -2,6 +2,7 @@
 users of the system, passwords of the store and their change."""
 
 import asyncio
+import hashlib
 import os
 import random
 import socket
@@ -165,6 +166,33 @@ def passwords_of_the_store():
         same(changed(bridge.client(), ANN.encode(), None, b"x")[0], STRONGER)
 
 
+def plain_digests():
+    """A store by whose passwords binds are checked has no digest of a password alone, and one that came into it so lets
+    nobody bind: whoever has the store's files would guess it."""
+    with tempfile.TemporaryDirectory() as place:
+        store, bob = ldap_store.load(os.path.join(place, "corp")), f"CN=Bob,{UNIT}"
+        digests = [hashlib.sha256(one).digest() for one in (b"second", '"second"'.encode("utf-16-le"), b'"second"')]
+
+        def in_files():
+            held = b""
+            for name in os.listdir(place):
+                with open(os.path.join(place, name), "rb") as file:
+                    held += file.read()
+            return any(one in held for one in digests)
+
+        with Bridge("--delay", "0", "--store-passwords", names=NAMES, store=store) as bridge:
+            admin = bridge.client("admin", "adm1n")
+            same([changed(admin, name.encode(), None, b"second")[0] for name in (ANN, bob)], [0, 0])
+            same(bridge.client().bind("ann", "second"), BOUND)
+        same(in_files(), False)
+        with Bridge("--delay", "0", names=NAMES, store=store) as bridge:
+            same(changed(bridge.client("admin", "adm1n"), ANN.encode(), None, b"second")[0], 0)
+        same(in_files(), True)
+        with Bridge("--delay", "0", "--store-passwords", names=NAMES, store=store) as bridge:
+            one = bridge.client()
+            same([one.bind("ann", "second"), one.bind("ann", digests[1].hex())], [REFUSED, REFUSED])
+
+
 def changed(client, name, old, new):
     """The code of a change of a password, and what was made."""
     held = [ber.octets(one, tag) for tag, one in ((0x80, name), (0x81, old), (0x82, new)) if one is not None]
@@ -269,4 +297,5 @@ def injected(bridge):
         return
 
 
-CASES = (names_of_accounts, tokens, random_tokens, reader, passwords_of_the_store, trusted, by_socket, by_tls)
+CASES = (names_of_accounts, tokens, random_tokens, reader, passwords_of_the_store, plain_digests, trusted, by_socket,
+         by_tls)

@@ -38,10 +38,14 @@ def attribute(name: str, values: Iterable[bytes]) -> bytes:
     return sequence(octets(name.encode()), sequence(*map(octets, values), tag=SET))
 
 
-def parts(data: bytes) -> list[tuple[int, bytes]]:
-    """The elements that stand one after the other: pairs of tag and body."""
-    found, at = [], 0
+def parts(data: bytes, most: int = 0) -> list[tuple[int, bytes]]:
+    """The elements that stand one after the other: pairs of tag and body. Where there are more than `most`, if that is
+    given, they are Broken."""
+    found: list[tuple[int, bytes]] = []
+    at = 0
     while at < len(data):
+        if most and len(found) == most:
+            raise Broken(f"more than {most} elements")
         if at + 2 > len(data):
             raise Broken("an element is cut short")
         tag, size, start = data[at], data[at + 1], at + 2

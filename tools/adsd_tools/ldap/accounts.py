@@ -106,7 +106,7 @@ class Accounts:
 
     def __init__(self, bridge, reader):
         self.bridge, self.reader = bridge, reader
-        self.domain, self.short, self.highest = None, "", 0
+        self.domain, self.short, self.highest, self.guid = None, "", 0, bytes(16)
 
     async def start(self):
         """Gives connection 0 the reader's token, and looks up what the domain is called."""
@@ -114,8 +114,10 @@ class Accounts:
         root = self.bridge.root
         if root is None:
             return
-        found = await self.search(items.present(b"objectClass"), (b"objectSid",), root, searches.BASE)
+        found = await self.search(items.present(b"objectClass"), (b"objectSid", b"objectGUID"), root, searches.BASE)
         self.domain = sid_of(found[0]) if found else None
+        guid = next(iter(found[0].values("objectguid")), b"") if found else b""
+        self.guid = bytes(guid) if len(guid) == 16 else self.guid
         of_root = items.all_of(items.present(b"nETBIOSName"), items.equal(b"nCName", root))
         named = await self.search(of_root, (b"nETBIOSName",), PARTITIONS + root, searches.ONE)
         told = named[0].values("netbiosname") if named else ()

@@ -5,7 +5,7 @@ import time
 
 from adsd_tools.forms import ber
 
-from . import messages, names, stretching
+from . import by_tickets, messages, names, stretching
 from .accounts import Ambiguous, TooMany, Unidentified
 from .groups import NotKnown
 from .names import Who
@@ -66,9 +66,11 @@ class Binder:
     def __init__(self, session):
         self.session, self.bridge = session, session.bridge
         self.options, self.accounts = session.bridge.options, session.bridge.accounts
+        self.by_ticket = by_tickets.ByTickets(self)
 
     async def answer(self, message):
         """The code and the text for a bind, with what stands behind them."""
+        steps = self.by_ticket.taken()
         try:
             asked = messages.bind_of(message.body)
         except messages.NoForm:
@@ -77,7 +79,7 @@ class Binder:
             return messages.CRITICAL, ""
         name, password, mechanism = asked
         if mechanism is not None:
-            return await self.by_sasl(mechanism.upper(), password)
+            return await self.by_sasl(mechanism.upper(), password, steps)
         if not name and not password:
             return messages.SUCCESS, ""
         if not password:
@@ -86,10 +88,12 @@ class Binder:
             return messages.STRONGER, STRONGER
         return await self.bound(self.by_password(name.decode("utf-8", "backslashreplace"), password))
 
-    async def by_sasl(self, mechanism, given):
+    async def by_sasl(self, mechanism, given, steps):
+        if mechanism in self.by_ticket.mechanisms():
+            return await self.by_ticket.step(mechanism, given, steps)
         if mechanism != EXTERNAL or self.session.uid is None:
-            told = "simple binds" + (" and EXTERNAL" if self.session.uid is not None else "") + " only"
-            return messages.METHOD, told
+            more = b" and ".join(self.by_ticket.mechanisms() + ([EXTERNAL] if self.session.uid is not None else []))
+            return messages.METHOD, "simple binds" + (f" and {more.decode()}" if more else "") + " only"
         return await self.bound(self.by_uid(given))
 
     async def bound(self, work):
@@ -107,6 +111,10 @@ class Binder:
         await self.session.become(who)
         self.session.count(False)
         return messages.SUCCESS, ""
+
+    def refusal(self, why):
+        """A bind that is refused, with why, which only the log says."""
+        return NotBound(why)
 
     async def by_uid(self, given):
         who = self.bridge.names.of_uid.get(self.session.uid)

@@ -7,7 +7,7 @@ import socket
 from collections import deque
 from urllib.parse import quote
 
-from . import messages, names, root_dse, schema
+from . import gss, messages, names, ping, root_dse, schema
 from .accounts import Accounts
 from .checks import Checks
 from .groups import Groups, NotKnown, lines_of
@@ -51,6 +51,9 @@ class Bridge:
         self.made_now = 0
         self.accounts, self.tls, self.servers = Accounts(self, options.reader), options.tls, []
         self.groups, self.levels = Groups(self), {}
+        # Whether the store had objects of other naming contexts, and after how many changes.
+        self.contexts = 0, None
+        self.tickets, self.pinged = gss.Tickets(options.keytab) if options.keytab else None, None
 
     def made_turns(self):
         """Whose frame is next, with what the program is asked besides clients' requests."""
@@ -107,13 +110,15 @@ class Bridge:
             await self.accounts.start()
             await self.look_at_reader()
             await self.listen()
+            if self.options.ping:
+                await ping.listen(self)
             self.tell()
             await self.stop.wait()
         except OSError as fault:
             self.fault(ADDRESS, f"can't listen on {shown_address(*self.options.listen)}: {fault.strerror or fault}")
         except Stopped:
             pass
-        for server in self.servers:
+        for server in [*self.servers, *filter(None, [self.pinged])]:
             server.close()
         if self.options.socket and os.path.exists(self.options.socket):
             os.unlink(self.options.socket)
@@ -122,7 +127,7 @@ class Bridge:
     async def look_at_reader(self):
         """Where tokens are made of the directory, stops if the reader doesn't read who is in some group, and says of
         how many objects it doesn't read what else tokens are made of."""
-        open_to_all = self.options.trust_names or self.options.store_passwords
+        open_to_all = self.options.trust_names or self.options.store_passwords or self.tickets
         if not open_to_all and all(who.token is not None for who in self.names.everybody()):
             return
         await self.know_groups()
@@ -159,6 +164,15 @@ class Bridge:
             self.root = await root_dse.find_root(self.turns, self.names) or (self.schema and self.schema.root)
         elif await root_dse.look_for(self.turns, self.root) is None:
             self.log.say("warning: the store has no object with the name of --base")
+
+    async def has_contexts(self):
+        """Whether the store has objects of other naming contexts, of which Configuration is above the others; it is
+        looked up once after each change."""
+        changes, known = self.contexts
+        if known is None or changes != self.turns.changes:
+            changes = self.turns.changes
+            self.contexts = changes, await root_dse.look_for(self.turns, root_dse.below(self.root)[0]) is not None
+        return self.contexts[1]
 
     async def read_schema(self):
         """Reads the schema of the store's files, which the program has open, and lets nobody write, by now."""

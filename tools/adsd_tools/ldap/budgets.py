@@ -6,6 +6,8 @@ from adsd_tools.forms import filters
 from . import items, messages, peers, root_dse, searches
 from .searches import Refused
 
+# So many bytes a bind may have by which tickets of Kerberos come.
+MOST_OF_BIND = 65_536
 # So many items a filter may have, and so many attributes a search may name.
 MOST_ITEMS, MOST_NAMES = 2000, 2000
 # Where a line says what whoever hasn't bound is given, such a client's filters have so many items.
@@ -23,6 +25,8 @@ def most_items(session, search):
 
 def check(session, search):
     """Refused where a search asks for too much."""
+    if root_dse.is_ping(search):
+        return
     most = most_items(session, search)
     if items.has_more(search.filter, most) and search.filter.lower() != BY_LDB:
         before = "" if session.who is not None else " before a bind"
@@ -34,3 +38,8 @@ def check(session, search):
 def most_bytes(session):
     """How many bytes a message may have."""
     return messages.MOST if session.who is not None else peers.MOST_UNBOUND
+
+
+def most_of_bind(session):
+    """How many a bind may have, where that is more."""
+    return MOST_OF_BIND if session.bridge.tickets else 0

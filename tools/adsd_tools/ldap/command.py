@@ -15,7 +15,7 @@ from adsd_tools.rows.store import Broken
 from adsd_tools.run import ADSD
 from adsd_tools.shown import shown
 
-from . import names, passwords, stretching, tls
+from . import gss, names, passwords, stretching, tls
 from .bridge import Bridge
 from .log import Log
 from .words import USUAL, parsed
@@ -91,7 +91,7 @@ def serve(asked, kind=Bridge, called="adsd-ldap"):
     if told:
         log.say(told)
     known, warning = names.read(asked.names) if asked.names else (names.Names(), NO_NAMES)
-    if asked.trust_names or asked.store_passwords:
+    if asked.trust_names or asked.store_passwords or asked.keytab:
         warning = None if warning == NO_NAMES else warning
     if warning:
         log.say(f"warning: {warning}")
@@ -104,7 +104,11 @@ def serve(asked, kind=Bridge, called="adsd-ldap"):
 
     async def bridged():
         # Python 3.9 binds what the bridge waits for to the loop in which it is made.
-        return await kind(asked, known, log).run()
+        try:
+            made = kind(asked, known, log)
+        except gss.NoTickets as why:
+            raise Wrong(str(why)) from None
+        return await made.run()
 
     return asyncio.run(bridged())
 

@@ -19,7 +19,7 @@ LETTERS, LENGTH = "abcdefghjkmnpqrstuvwxyzABCDEFGHJKMNPQRSTUVWXYZ23456789-", 20
 def asked(message):
     """The name of what is asked for, and its value or None."""
     try:
-        (tag, name), *behind = ber.parts(message.body)
+        (tag, name), *behind = ber.parts(message.body, 2)
         value = behind[0][1] if behind else None
     except (ber.Broken, ValueError):
         return None, None
@@ -47,8 +47,9 @@ async def started(session, message):
     name = ber.octets(tls.START, 0x8A)
     if session.bridge.tls is None:
         return told(message, messages.UNAVAILABLE, "there is no certificate", name)
-    if session.has_tls():
-        return told(message, messages.OPERATIONS, "TLS is there already", name)
+    if session.has_tls() or session.layer is not None:
+        there = "TLS" if session.has_tls() else "a layer of SASL"
+        return told(message, messages.OPERATIONS, f"{there} is there already", name)
     await session.become(None)
     session.count(True)
     if not tls.is_quiet(session.reader):

@@ -3,7 +3,7 @@ client's own token, and so shows no more (docs/clients.md)."""
 
 from dataclasses import replace
 
-from . import (budgets, computed, extended_names, items, lists, messages, narrowing, paging, ranges, root_dse,
+from . import (budgets, computed, contexts, extended_names, items, lists, messages, narrowing, paging, ranges, root_dse,
                schema_entries, scoped, searches, sorting, subschema)
 from .heavy import HEAVY, beside
 from .program import MESSAGE
@@ -32,7 +32,7 @@ def own_controls(search):
             raise Refused(messages.CRITICAL, f"{searches.NOT_HERE[one.name]} isn't here")
     own = [one for one in known if one.name in OWN]
     others = tuple(one for one in search.controls if one.name not in OWN + searches.IDLE)
-    plain = replace(search, controls=others) if search.controls else search
+    plain = replace(search, controls=others, everywhere=contexts.asks_all(search)) if search.controls else search
     return {one.name: one for one in own}, plain
 
 
@@ -121,10 +121,15 @@ class Face:
             return None
         rewriter = Rewriter(self.view, plain)
         if not await beside(len(plain.filter), rewriter.known):
+            if await self.apart(plain):
+                return None
             reply = await self.ask(data if plain == search else searches.written(plain))
             return None if searches.is_cut(reply) else reply
+        apart = await self.apart(plain)
         found, _ = await narrowing.found(self.view, plain, rewriter)
-        return None if found is None else searches.reply_of(search.number, projected(found, plain))
+        if found is None or apart and found.code == searches.SIZE_LIMIT:
+            return None
+        return searches.reply_of(search.number, projected(contexts.kept(found, apart), plain))
 
     def mark(self, search):
         """What tells a search from another one, whatever its page."""
@@ -207,10 +212,24 @@ class Face:
             weight = HEAVY if len(search.filter) > MANY else 0
             return await beside(weight, root_dse.answer, search, bridge, self.session)
         if not self.is_own(search):
-            return await self.shown(search)
+            return await self.of_context(search)
         if subschema.asked(search, bridge.root):
             return await subschema.answer(self.shown, search, bridge.root, bridge.schema)
         return await schema_entries.answer(self.shown, search, bridge.root, bridge.schema)
+
+    async def apart(self, search):
+        """The naming contexts at whose heads a search ends, of those that the store has objects of."""
+        keys = contexts.apart(search, self.bridge)
+        return keys if keys and await self.bridge.has_contexts() else []
+
+    async def of_context(self, search):
+        """What the program shows for a search, without what is of other naming contexts."""
+        keys, found = await self.apart(search), await self.shown(search)
+        held = await beside(found.weight(), contexts.kept, found, keys) if keys else found
+        if held is not found and found.code == searches.SIZE_LIMIT:
+            found = await self.shown(replace(search, size=0))
+            held = (await beside(found.weight(), contexts.kept, found, keys)).limited(search.size)
+        return held
 
     def asks_member_of(self, search):
         """Whether entries are to have memberOf, which the bridge makes."""

@@ -14,6 +14,8 @@ RESPONSES = {0x63: 0x65, 0x66: 0x67, 0x68: 0x69, 0x4A: 0x6B, 0x6C: 0x6D, 0x6E: 0
 CONTROLS, SIMPLE, SASL = 0xA0, 0x80, 0xA3
 SUCCESS, OPERATIONS, PROTOCOL_ERROR, METHOD, STRONGER, CRITICAL = 0, 1, 2, 7, 8, 12
 INVALID, BUSY, UNAVAILABLE, UNWILLING = 49, 51, 52, 53
+# A bind of several steps goes on, and the tag of what its next one is told.
+PROGRESS, SERVER_CREDENTIALS = 14, 0x87
 DISCONNECTION, WHO_AM_I = b"1.3.6.1.4.1.1466.20036", b"1.3.6.1.4.1.4203.1.11.3"
 # As many bytes as a frame takes.
 MOST = 1_048_576
@@ -43,8 +45,8 @@ class Message:
     controls: tuple = ()
 
 
-async def one(reader, most=MOST):
-    """The bytes of the next message of a stream, of so many at most; empty at its end."""
+async def one(reader, most=MOST, most_of_bind=0):
+    """The bytes of the next message of a stream, of so many at most, or so many if it is a bind; empty at its end."""
     head = await reader.read(1)
     if not head:
         return b""
@@ -55,9 +57,17 @@ async def one(reader, most=MOST):
     if size & 0x80:
         length = await reader.readexactly(size & 0x7F)
         head, size = head + length, int.from_bytes(length, "big")
-    if len(head) + size > most:
+    if len(head) + size <= most:
+        return head + await reader.readexactly(size)
+    if len(head) + size > most_of_bind:
         raise TooLong
-    return head + await reader.readexactly(size)
+    begun = await reader.readexactly(2)
+    if begun[0] != ber.INTEGER or not 1 <= begun[1] <= 4:
+        raise NoMessage
+    begun += await reader.readexactly(begun[1] + 1)
+    if begun[-1] != BIND or len(begun) > size:
+        raise TooLong
+    return head + begun + await reader.readexactly(size - len(begun))
 
 
 def is_critical(control):

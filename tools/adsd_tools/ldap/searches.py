@@ -15,8 +15,8 @@ PRESENT = 0x87
 SIZE_LIMIT, ADMIN_LIMIT, INAPPROPRIATE, NO_OBJECT = 4, 11, 18, 32
 # How an answer ends that was more than the program gives at once.
 CUT = bytes.fromhex("65070a010b04000400")
-# Controls that change nothing here: there are no referrals, no deleted objects and one naming context, and what is
-# answered is on the disk, whether it may be later or not.
+# Controls that the program isn't asked with: there are no referrals and no deleted objects, what is answered is on the
+# disk, whether it may be later or not, and which naming contexts are searched is seen to by contexts.py.
 IDLE = (b"2.16.840.1.113730.3.4.2", *(b"1.2.840.113556.1.4." + one for one in
                                       (b"417", b"619", b"1339", b"1340", b"2064", b"2065")))
 # What a search asks for by a control and nobody here can do: what it is called. It is refused, critical or not, since
@@ -59,6 +59,8 @@ class Search:
     filter: bytes = TRUE
     attributes: Tuple[bytes, ...] = ()
     controls: Tuple[Control, ...] = ()
+    # Whether all naming contexts below the base are searched.
+    everywhere: bool = False
 
     def has_critical(self):
         return any(one.critical for one in self.controls)

@@ -8,10 +8,11 @@ import time
 from adsd_tools.ask.answers import CODES
 from adsd_tools.forms import ber
 
-from . import budgets, extended, messages, peers, root_dse, searches, tls
+from . import budgets, extended, layers, messages, peers, root_dse, searches, tls
 from .binding import Binder
 from .changes import Changes
 from .face import Face
+from .heavy import beside
 from .program import DROP, MESSAGE, TOKEN
 from .searches import Refused
 from .shares import PAYER
@@ -98,6 +99,8 @@ class Session:
         self.has_asked, self.counted, self.host = False, False, peers.peer_of(host)
         self.is_near, self.silent_since, self.why_let_go = peers.is_loopback(host), time.monotonic(), ""
         self.payer = bridge.turns.payer(("peer", self.host))
+        # What wraps all that is sent and comes, once a bind has put it in force; and when the ticket of a bind ends.
+        self.layer, self.ends = None, None
         self.token, self.face = b"", Face(self)
         self.changes, self.binder = Changes(self), Binder(self)
         writer.transport.set_write_buffer_limits(0)  # What is sent is sent, when it is waited for.
@@ -142,7 +145,7 @@ class Session:
 
     async def become(self, who):
         """Gives the connection the token of somebody, or of whoever hasn't bound."""
-        self.who = who
+        self.who, self.ends = who, None
         self.face.forget()
         holder = who or self.bridge.names.anonymous
         self.token = holder.token if holder else b""
@@ -160,7 +163,8 @@ class Session:
 
     async def next(self):
         seconds, self.silent_since = self.patience(), time.monotonic()
-        self.reading = asyncio.ensure_future(messages.one(self.reader, budgets.most_bytes(self)))
+        most = budgets.most_bytes(self), budgets.most_of_bind(self)
+        self.reading = asyncio.ensure_future(messages.one(self.layer or self.reader, *most))
         await asyncio.wait({self.reading}, timeout=seconds)
         if not self.reading.done():
             self.reading.cancel()
@@ -176,12 +180,16 @@ class Session:
             data = await self.next()
         except messages.NoMessage:
             return await self.leave(messages.PROTOCOL_ERROR, "a protocol error")
+        except layers.Broken as why:
+            return await self.leave(messages.STRONGER, str(why))
         except messages.TooLong:
             told = f"{budgets.most_bytes(self)} bytes" + ("" if self.who else " before a bind")
             return await self.leave(messages.PROTOCOL_ERROR, f"a message has at most {told}")
         message = messages.read(data)
         if not data or (message and message.operation == messages.UNBIND):
             return False
+        if self.who is not None and self.ends is not None and time.monotonic() > self.ends:
+            return await self.leave(messages.STRONGER, "the ticket of the bind has ended")
         try:
             reply = await self.answer(message, data)
         except Refused as why:
@@ -192,6 +200,7 @@ class Session:
         if messages.is_notice(reply):
             return await self.leave(messages.PROTOCOL_ERROR, reply=reply)
         await self.send(reply)
+        self.layer = self.binder.by_ticket.layer() or self.layer
         return await self.secured() if self.starts_tls else True
 
     async def secured(self):
@@ -209,8 +218,9 @@ class Session:
         return self.writer.get_extra_info("sslcontext") is not None
 
     def is_safe(self):
-        """Whether nobody between can read what is sent: by TLS, or on one machine."""
-        return self.has_tls() or self.uid is not None or self.is_near
+        """Whether nobody between can read what is sent: by TLS, a layer, or on one machine."""
+        is_sealed = self.layer is not None and self.layer.confidential
+        return self.has_tls() or is_sealed or self.uid is not None or self.is_near
 
     async def answer(self, message, data):
         """The reply: the bridge's own to a bind and to some extended requests; to a search and to a change what the
@@ -218,6 +228,7 @@ class Session:
         operation = message.operation if message else None
         if operation == messages.BIND:
             return await self.stale(message) or messages.refusal(message, *await self.bind(message))
+        self.binder.by_ticket.taken()
         reply = await extended.answer(self, message) if operation == messages.EXTENDED else None
         if reply is not None:
             return reply
@@ -269,7 +280,7 @@ class Session:
 
     async def send(self, data):
         """Sends an answer. Who takes nothing of it for a while is let go; who takes it slowly isn't."""
-        self.writer.write(data)
+        self.writer.write(await self.wrapped(data))
         left = None
         while True:
             try:
@@ -281,5 +292,10 @@ class Session:
 
     async def leave(self, code, why="", reply=None):
         """Sends the Notice of Disconnection. False, since nothing follows."""
-        await farewell(self.reader, self.writer, messages.notice(code, why) if reply is None else reply)
+        last = messages.notice(code, why) if reply is None else reply
+        await farewell(self.reader, self.writer, await self.wrapped(last))
         return False
+
+    async def wrapped(self, data):
+        """What is sent, as the layer has it."""
+        return data if self.layer is None else await beside(len(data), self.layer.wrapped, data)

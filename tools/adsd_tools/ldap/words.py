@@ -88,6 +88,13 @@ def host(text):
     return text
 
 
+def realm(text):
+    """A realm of Kerberos, whose case counts."""
+    if not re.fullmatch("[A-Za-z0-9._-]{1,255}", text):
+        raise argparse.ArgumentTypeError(f"{text!r} isn't a realm's name")
+    return text
+
+
 def store(text):
     """The name of a store, which is UTF-8, as the program wants it."""
     try:
@@ -95,6 +102,18 @@ def store(text):
     except UnicodeEncodeError:
         raise argparse.ArgumentTypeError(f"{text!r}: the name of a store is UTF-8") from None
     return text
+
+
+def words_of_tickets(form):
+    """Who may bind by tickets of Kerberos, and what is said to who looks for a domain controller."""
+    form.add_argument("--keytab", metavar="FILE",
+                      help="let accounts of the store bind by tickets of Kerberos for ldap/.. of this keytab: SASL "
+                           "GSSAPI and GSS-SPNEGO (Debian: python3-gssapi)")
+    form.add_argument("--realm", metavar="NAME", type=realm,
+                      help="the realm whose principals are accounts of the store (the domain's name in capitals)")
+    form.add_argument("--ping", action="store_true",
+                      help="answer LDAP pings, at the same address and port by UDP too: what looks for a domain "
+                           "controller sends one")
 
 
 def words_of_clients(form):
@@ -144,6 +163,7 @@ def words_of_serve(form):
                       help="the root's name, which the root DSE tells (found by the names that are DNs)")
     form.add_argument("--host", metavar="NAME", type=host,
                       help="what the root DSE calls this server (the machine's name, in the domain)")
+    words_of_tickets(form)
     words_of_clients(form)
     form.add_argument("--steps", metavar="N", type=count(0, MOST_STEPS), default=200,
                       help="propagate by so many steps at a time, while no client waits and at least five times a "
@@ -203,5 +223,7 @@ def check(form, asked):
     if away and not asked.any_address and not asked.certificate:
         form.error(f"{away[0]} isn't a loopback address, and there is no TLS: passwords would go in the clear; "
                    "--certificate makes TLS, and --any-address allows it without")
+    if asked.realm and not asked.keytab:
+        form.error("--realm needs --keytab")
     if (asked.ldaps or asked.key) and not asked.certificate:
         form.error("--ldaps and --key need --certificate")
