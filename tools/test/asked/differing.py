@@ -82,7 +82,8 @@ def parties_of_both(before: Later, after: Later, lone: bool) -> List[Both]:
             made.append(Both(Party(before.sids[number], number), Party(after.sids[there], there)))
     if lone:
         held = {before.sids[one] for one in own} | {after.sids[one] for one in other}
-        made += [Both(Party(sid, None), Party(sid, None)) for sid in sorted((before.identities() | after.identities()) - held)]
+        named = before.identities() | after.identities()
+        made += [Both(Party(sid, None), Party(sid, None)) for sid in sorted(named - held)]
     return made
 
 
