@@ -35,7 +35,7 @@ _adsd_companion() {
         adsd-ask) words="access frames replies effective list grants search" ;;
         adsd-ldap) words="serve name" ;;
         adsd-replica) words="begin copy serve status health forget upgrade compare skip key" ;;
-        adsd-who) words="token who can control reach diff" ;;
+        adsd-who) words="token who can rights control reach diff" ;;
     esac
     if [ "$COMP_CWORD" -eq "$at" ] && [ -n "$words" ] && [[ $word != -* ]]; then
         mapfile -t COMPREPLY < <(compgen -W "$words" -- "$word")

@@ -1,1 +1,1 @@
-"""The answers of `token`, `who`, `can` and `diff` with names and the entries that decide, as JSON, CSV or a table. Not proved."""
+"""The answers of `token`, `who`, `can`, `rights` and `diff` with names and the entries that decide, as JSON, CSV or a table. Not proved."""

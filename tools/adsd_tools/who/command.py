@@ -11,19 +11,20 @@ from adsd_tools.rows.accounts import Accounts
 from adsd_tools.run import ADSD, run
 from adsd_tools.shown import Words, line_of, shown, text_of
 
-from . import differences, written
+from . import differences, rights, written
 from .entries import Changed, Entries
 
-ABOUT = """Asks `adsd token`, `adsd who`, `adsd can`, `adsd control`, `adsd reach` or `adsd diff`, and writes what it
-answers with the names of accounts and with the entry that decides, as the text of it, or with the chain of steps:
+ABOUT = """Asks `adsd token`, `adsd who`, `adsd can`, `adsd rights`, `adsd control`, `adsd reach` or `adsd diff`, and writes
+what it answers with the names of accounts and with the entry that decides, as the text of it, or with the chain of steps:
 
     adsd-who who corp CR:User-Force-Change-Password ann
     adsd-who can corp bob WP:member --csv >bob.csv
     adsd-who token corp bob S-1-5-2 --json
+    adsd-who rights corp reset OU=staff,DC=corp,DC=example --csv
     adsd-who control corp "Domain Admins"
     adsd-who diff before after --csv
 
-The words are those of the program (docs/profile/who.md, control.md, diff.md), and so is each right and step that is
+The words are those of the program (docs/profile/who.md, rights.md, control.md, diff.md), and so is each right and step that is
 told; names and entries are those of the store behind it. This script is not proved."""
 STATUSES = """status: as the program's: 0 answered, 3 no answer, with why; and 1 the store can't be read, 2 usage, 5 the output can't be
 written. Where it isn't 0, nothing is written."""
@@ -49,10 +50,11 @@ def parsed(arguments):
     forms = shape.add_mutually_exclusive_group()
     forms.add_argument("--json", dest="form", action="store_const", const="json", help="write JSON")
     forms.add_argument("--csv", dest="form", action="store_const", const="csv", help="write CSV, with a line of headings")
-    words = form.add_subparsers(dest="word", required=True, metavar="token|who|can|control|reach|diff")
+    words = form.add_subparsers(dest="word", required=True, metavar="token|who|can|rights|control|reach|diff")
     for word, told, names in (("token", "the token of a principal", ["NAME", "SID.."]),
                               ("who", "who has a right on an object", ["RIGHT", "NAME"]),
                               ("can", "on which objects a principal has a right", ["NAME", "RIGHT", "BASE"]),
+                              ("rights", "who has a right on which objects", ["RIGHT", "BASE"]),
                               ("control", "who comes to control an object", ["NAME"]),
                               ("reach", "what somebody comes to control", ["NAME"]),
                               ("diff", "who gains and who loses a right from a store to another", ["STORE2"])):
@@ -154,6 +156,15 @@ class Asked:
                 "objects": [{"name": self.names[number], "decides": self.entries.decides(word, number)}
                             for word, number in numbers]}
 
+    def rights(self, right, base):
+        """Of all objects at once, or of those at and below one: sets of identities, and each object by its set."""
+        made = rights.read(program("rights", self.path, right, *([] if base is None else [base])))
+        return {"command": "rights", "right": right, "base": base,
+                "none": [self.one(one["sid"], one["name"]) for one in made["none"]],
+                "sets": [{"set": one["set"], "identities": [self.one(who["sid"], who["name"]) for who in one["identities"]]}
+                         for one in made["sets"]],
+                "objects": [{**one, "name": self.names[self.number(one["name"])]} for one in made["objects"]]}
+
     def node(self, one):
         """What is told of a node of chains."""
         number = self.number(one.name) if one.name else None
@@ -192,6 +203,8 @@ def answered(asked):
         return of.token(asked.name, asked.sid)
     if asked.word == "who":
         return of.who(asked.right, asked.name)
+    if asked.word == "rights":
+        return of.rights(asked.right, asked.base)
     return of.can(asked.name, asked.right, asked.base)
 
 

@@ -10,6 +10,7 @@ from . import differences
 HEADS = {"token": ("part", "sid", "account"),
          "who": ("decides", "place", "entry", "sid", "account", "name"),
          "can": ("decides", "place", "entry", "name"),
+         "rights": ("line", "set", "itself", "sid", "account", "name"),
          "control": ("steps", "sid", "account", "name", "chain"), "reach": ("steps", "sid", "account", "name", "chain"),
          "diff": ("change", "of", "of name", "code", "sid", "account", "name", "object")}
 
@@ -30,6 +31,8 @@ def rows(made):
         return [decides(one["decides"]) + [one["sid"], one["account"] or "", one["name"] or ""] for one in made["principals"]]
     if made["command"] == "diff":
         return diff_rows(made)
+    if made["command"] == "rights":
+        return rights_rows(made)
     if "chains" in made:
         return [[one["steps"], one["sid"] or "", one["account"] or "", one["name"] or "", chain(one["chain"])]
                 for one in made["chains"]]
@@ -41,6 +44,19 @@ def chain(steps):
     names = [step["from"] for step in steps[:1]] + [step["to"] for step in steps]
     called = [one["account"] or one["name"] or one["sid"] for one in names]
     return " ".join([*called[:1], *(f"-{step['kind']}-> {name}" for step, name in zip(steps, called[1:]))])
+
+
+def rights_rows(made):
+    """A row for each line of the answer, so that there are as many: who has no token, who is in which set, and by which set
+    each object is told. A set stands before the first object that it tells."""
+    told = [["none", "", "", one["sid"], one["account"] or "", one["name"] or ""] for one in made["none"]]
+    seen = 0
+    for one in made["objects"]:
+        for new in made["sets"][seen:max(seen, one["set"])]:
+            told += [["in", new["set"], "", who["sid"], who["account"] or "", who["name"] or ""] for who in new["identities"]]
+        seen = max(seen, one["set"])
+        told.append(["on", one["set"], {None: "", True: "+", False: "-"}[one["itself"]], "", "", one["name"]])
+    return told
 
 
 def cause_row(one):
