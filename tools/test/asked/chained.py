@@ -174,7 +174,8 @@ class Chained(Later):
                 found = self.by_name(name)
                 if found is not None and marks not in DISABLED and (marks in ENFORCED or not blocked):
                     yield found
-            blocked = blocked or (self.first(container, "gPOptions") or b"0").endswith((b"1", b"3", b"5", b"7", b"9"))
+            options = int(self.first(container, "gPOptions") or b"0")
+            blocked = blocked or (options > 0 and options % 2 == 1)
 
     def links(self, text: bytes) -> Iterator[Tuple[bytes, bytes]]:
         """The pairs of a gPLink's brackets, up to the first that are of another form."""
