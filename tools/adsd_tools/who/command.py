@@ -20,7 +20,7 @@ answers with the names of accounts and with the entry that decides, as the text 
     adsd-who who corp CR:User-Force-Change-Password ann
     adsd-who can corp bob WP:member --csv >bob.csv
     adsd-who token corp bob S-1-5-2 --json
-    adsd-who control corp "Domain Admins"
+    adsd-who control corp ann
     adsd-who diff before after --csv
 
 The words are those of the program (docs/profile/who.md, control.md, diff.md), and so is each right and step that is
