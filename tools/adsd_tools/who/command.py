@@ -21,11 +21,11 @@ what it answers with the names of accounts and with the entry that decides, as t
     adsd-who can corp bob WP:member --csv >bob.csv
     adsd-who token corp bob S-1-5-2 --json
     adsd-who rights corp reset OU=staff,DC=corp,DC=example --csv
-    adsd-who control corp "Domain Admins"
+    adsd-who control corp ann
     adsd-who diff before after --csv
 
-The words are those of the program (docs/profile/who.md, rights.md, control.md, diff.md), and so is each right and step that is
-told; names and entries are those of the store behind it. This script is not proved."""
+The words are those of the program (docs/profile/who.md, rights.md, control.md, diff.md), and so is each right and step
+that is told; names and entries are those of the store behind it. This script is not proved."""
 STATUSES = """status: as the program's: 0 answered, 3 no answer, with why; and 1 the store can't be read, 2 usage, 5 the output can't be
 written. Where it isn't 0, nothing is written."""
 PRIVILEGES = {1: "security", 2: "take-ownership", 4: "restore"}

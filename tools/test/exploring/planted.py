@@ -95,9 +95,10 @@ def targets(tries, opened, store):
     tries.check(not os.path.exists(opened.explorer.auditing.copy), "the copy that was audited has its name still")
 
 
-# Of which objects it is asked who comes to control them; and what somebody comes to, who is told which chain.
+# Of which objects it is asked who comes to control them; and what somebody comes to first, each with its chain.
 CONTROLLED = (corp.ROOT, f"CN=AdminSDHolder,CN=System,{corp.ROOT}", f"CN=adm.anna,OU=Admins,OU=Tier0,{corp.ROOT}")
-REACHED = ("CN=hd.dora,OU=Helpdesk," + corp.ROOT, "AdminSDHolder", ["member", "descriptor"])
+REACHED = ("CN=hd.dora,OU=Helpdesk," + corp.ROOT, [(corp.ROOT, ["descriptor", "protect", "descriptor"]),
+                                                  ("AdminSDHolder", ["descriptor"])])
 
 
 def waited(opened, what, **words):
@@ -135,11 +136,11 @@ def chains(tries, opened, store):
             tries.check(good, f"{name}: {row}")
             asked_again(tries, store, row)
         tries.check(told["rows"] and all(row["steps"] for row in told["rows"]), f"{name}: {told}")
-    who, target, kinds = REACHED
+    who, wanted = REACHED
     sid = opened.explorer.views.sid_of(opened.number(who))
     told, made = waited(opened, "reaches", sid=sid), said(store, "reach", sid)
-    first = told["targets"][0]
-    tries.check(first["to"]["name"] == target and [step["kind"] for step in first["steps"]] == kinds, f"{who}: {first}")
+    first = [(row["to"]["name"], [step["kind"] for step in row["steps"]]) for row in told["targets"][:len(wanted)]]
+    tries.check(first == wanted, f"{who}: {first}")
     for row in told["targets"] + told["others"]:
         tries.check(steps(row) <= edges(made), f"{who}: {row}")
 
