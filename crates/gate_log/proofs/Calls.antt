@@ -1,6 +1,6 @@
 -- Whole calls on a log.
 use Rattle.std.proofs.Common.{◌≡◌, true, false, ◌⊎◌, inl, inr, ⊎_elim, ℕ, ◌+◌, ◌≤◌, List, [], ◌∷◌, Option, Some, None}
-use Rattle.std.proofs.Common.{◌++◌, ◌↔◌, length, refl, sym, ap, subst, Result, Ok, Err}
+use Rattle.std.proofs.Common.{◌++◌, ◌↔◌, length, map, refl, sym, ap, subst, Result, Ok, Err}
 use Rattle.std.specs.Option.{IfSome}
 use Rattle.std.specs.Result.{IsErrOf}
 use Rattle.site_io.specs.Told.{BothTold, StaysTold}
@@ -8,13 +8,13 @@ use Rattle.site_io.specs.Disk.{Images, GoesOn, LeavesSame}
 use Rattle.site_io.specs.Counts.{HasRisen}
 use Rattle.site_io.specs.Outside.{TouchesSlots}
 use Rattle.site_io.specs.declared.site.Site.{Ghosts}
-use Rattle.gate_log.specs.Changed.{IsAppended, IsRewritten}
-use Rattle.gate_log.specs.Counts.{first_with, behind_with}
+use Rattle.gate_log.specs.Changed.{AreAppended, IsRewritten}
+use Rattle.gate_log.specs.Counts.{first_after, behind_after}
 use Rattle.gate_log.specs.Faults.{OnlySpent}
 use Rattle.gate_log.specs.Layout.{snapshot_end}
 use Rattle.gate_log.specs.Moments.{Leaves, LastsWhole, Began}
 use Rattle.gate_log.specs.Rewriting.{is_two, Prepared}
-use Rattle.gate_log.specs.Store.{other, HasBodies, OldOrNew, OldOrWhole, Rests}
+use Rattle.gate_log.specs.Store.{other, HasBodies, OldOrAll, OldOrWhole, Rests}
 use Rattle.gate_log.specs.StoreOfLog.{RestsIn, StandsIn}
 use Rattle.gate_log.specs.declared.fault.LogFault.{LogFault}
 use Rattle.gate_log.specs.declared.fault.LogFault.TheVariants.{Spent, Site, Memory}
@@ -138,16 +138,16 @@ not_others e log (inl is) = (λ never. cc (never, is.0), λ never. cc (never, is
 not_others e log (inr is) = (λ never. cc (never, is.0), λ never. cc (never, is.0), λ never. cc (never, is.0))
 
 module _ {S : Type 0} (s : Ghosts S) where
-  pub not_appended : {T : Type 0} (x : S) (log : Log) (body : List ℕ) (e : LogFault) (result : Result T LogFault)
+  pub not_appended : {T : Type 0} (x : S) (log : Log) (more : List (List ℕ)) (e : LogFault) (result : Result T LogFault)
       → result ≡ Err e → NotDone e log → StandsIn log (s.reads x) (s.now x) (s.left x)
       → ((t : ℕ) (images : Images) (out : List ℕ) → s.left x t images out → t ≤ s.now x)
-      → IsAppended s x x log log body result
-  not_appended {T = T} x log body e result is may stands until =
-      subst (λ (r : Result T LogFault). IsAppended s x x log log body r) (sym is) (record {
+      → AreAppended s x x log log more result
+  not_appended {T = T} x log more e result is may stands until =
+      subst (λ (r : Result T LogFault). AreAppended s x x log log more r) (sym is) (record {
         stands = stands;
         added = tt;
         every_crash = tt;
-        any_moment = nothing_done log (λ bodies. OldOrNew bodies body) (s.reads x) (s.now x) (s.left x) until;
+        any_moment = nothing_done log (λ bodies. OldOrAll bodies more) (s.reads x) (s.now x) (s.left x) until;
         counts = tt;
         kept = λ _. (refl, refl);
         generation = refl;
@@ -209,23 +209,48 @@ module _ {S : Type 0} (s : Ghosts S) where
     cause = λ _. risen;
   }
 
-  -- the body was added
-  pub done_append : {T : Type 0} (x y : S) (log after : Log) (body : List ℕ) (t : T) → log.spent ≡ false
-      → StandsIn log (s.reads x) (s.now x) (s.left x)
-      → BothTold (s.reads x) (s.reads y) (λ before held. (bodies : List (List ℕ)) → RestsIn log before bodies
-      → RestsIn after held (bodies ++ body ∷ [])) → LastsWhole (s.reads y) (s.now y) (s.left y)
+  -- the site failed
+  pub failed_append : {T : Type 0} {after : Log} (x y : S) (log : Log) (more : List (List ℕ)) → log.spent ≡ false
+      → after.spent ≡ true
       → IfSome (s.reads x) (λ held. (bodies : List (List ℕ)) → RestsIn log held bodies
       → Leaves (s.now x) (s.now y) (s.left x) (s.left y) (λ images. Began (s.now x) (s.left x) images
-      ⊎ OldOrNew bodies body images))
-      → (after.first ≡ first_with log.first (length body))
-      × (after.behind ≡ behind_with log.first log.behind (length body))
+      ⊎ OldOrAll bodies more images)) → (after.first ≡ log.first) × (after.behind ≡ log.behind)
+      → after.generation ≡ log.generation → after.version ≡ log.version → TouchesSlots s x y
+      → HasRisen (s.slot_faults x) (s.slot_faults y) → AreAppended {T = T} s x y log after more (Err Site)
+  failed_append x y log more unspent spent moments kept generation version outside risen = record {
+    stands = λ never. absurd (cc (never, spent));
+    added = tt;
+    every_crash = tt;
+    any_moment = moments;
+    counts = tt;
+    kept = λ _. kept;
+    generation = generation;
+    version = version;
+    spent = (λ never. absurd (cc never), λ never. absurd (cc (never, unspent)));
+    marks = (λ _. inr refl, λ _. spent);
+    nothing = ⊎_elim (λ never. absurd (cc never)) (λ never. absurd (cc never));
+    faults = (λ never. cc never, λ never. cc never, λ never. cc never);
+    outside = outside;
+    cause = λ _. risen;
+  }
+
+  -- the bodies were added
+  pub done_append : {T : Type 0} (x y : S) (log after : Log) (more : List (List ℕ)) (t : T) → log.spent ≡ false
+      → StandsIn log (s.reads x) (s.now x) (s.left x)
+      → BothTold (s.reads x) (s.reads y) (λ before held. (bodies : List (List ℕ)) → RestsIn log before bodies
+      → RestsIn after held (bodies ++ more)) → LastsWhole (s.reads y) (s.now y) (s.left y)
+      → IfSome (s.reads x) (λ held. (bodies : List (List ℕ)) → RestsIn log held bodies
+      → Leaves (s.now x) (s.now y) (s.left x) (s.left y) (λ images. Began (s.now x) (s.left x) images
+      ⊎ OldOrAll bodies more images))
+      → (after.first ≡ first_after log.first (map length more))
+      × (after.behind ≡ behind_after log.first log.behind (map length more))
       → after.generation ≡ log.generation → after.version ≡ log.version → after.spent ≡ log.spent
-      → TouchesSlots s x y → IsAppended s x y log after body (Ok t)
-  done_append x y log after body t unspent stands added lasts moments counts generation version spent outside = record {
-    stands = stands_after log after (λ bodies. bodies ++ body ∷ []) (s.reads x) (s.reads y) (s.now x) (s.now y)
+      → TouchesSlots s x y → AreAppended s x y log after more (Ok t)
+  done_append x y log after more t unspent stands added lasts moments counts generation version spent outside = record {
+    stands = stands_after log after (λ bodies. bodies ++ more) (s.reads x) (s.reads y) (s.now x) (s.now y)
         (s.left x) (s.left y) unspent stands added lasts;
     added = added;
-    every_crash = every_crash log after (λ bodies. bodies ++ body ∷ []) (s.reads x) (s.reads y) (s.now y) (s.left y)
+    every_crash = every_crash log after (λ bodies. bodies ++ more) (s.reads x) (s.reads y) (s.now y) (s.left y)
         added lasts;
     any_moment = moments;
     counts = counts;

@@ -7,6 +7,7 @@ pub mod Lengths
 pub mod Records
 pub mod Runs
 pub mod Stepping
+pub mod Waiting
 pub mod Slots
 pub mod Rewriting
 pub mod Switching

@@ -1,15 +1,15 @@
 -- What the calls on a log give.
-use Rattle.std.specs.Prelude.{◌≡◌, ◌⊎◌, ◌+◌, ◌↔◌, ℕ, List, [], ◌∷◌, ◌++◌, length, true, Some, Result, OnOk, IsErr}
+use Rattle.std.specs.Prelude.{◌≡◌, ◌⊎◌, ◌+◌, ◌↔◌, ℕ, List, [], ◌∷◌, ◌++◌, length, map, true, Some, Result, OnOk, IsErr}
 use Rattle.std.specs.Prelude.{IsErrOf, IfSome}
 use Rattle.site_io.specs.Counts.{HasRisen}
 use Rattle.site_io.specs.Disk.{Images}
 use Rattle.site_io.specs.Outside.{OnlyLooks, TouchesSlots}
 use Rattle.site_io.specs.Told.{BothTold}
 use Rattle.site_io.specs.declared.site.Site.{Ghosts}
-use Rattle.gate_log.specs.Counts.{first_with, behind_with}
+use Rattle.gate_log.specs.Counts.{first_after, behind_after}
 use Rattle.gate_log.specs.Faults.{OnlySite, OnlySpent}
 use Rattle.gate_log.specs.Moments.{Leaves, LastsWhole, Began}
-use Rattle.gate_log.specs.Store.{HasBodies, OldOrNew, OldOrWhole}
+use Rattle.gate_log.specs.Store.{HasBodies, OldOrAll, OldOrWhole}
 use Rattle.gate_log.specs.StoreOfLog.{RestsIn, StandsIn}
 use Rattle.gate_log.specs.declared.fault.LogFault.{LogFault}
 use Rattle.gate_log.specs.declared.fault.LogFault.TheVariants.{Spent, Site, Memory}
@@ -40,25 +40,26 @@ pub record IsSynced {S T : Type 0} (site : Ghosts S) (old new : S) (log after : 
   -- Site only where the count of the slots' faults tells it
   pub cause : IsErrOf result Site → HasRisen (site.slot_faults old) (site.slot_faults new)
 
--- A body was added after the others.
-pub record IsAppended {S T : Type 0} (site : Ghosts S) (old new : S) (log after : Log) (body : List ℕ)
+-- Bodies were added after the others, all of them at once.
+pub record AreAppended {S T : Type 0} (site : Ghosts S) (old new : S) (log after : Log) (more : List (List ℕ))
     (result : Result T LogFault) : Type 0 where
   -- the log may be called again
   pub stands : StandsIn after (site.reads new) (site.now new) (site.left new)
-  -- at Ok the slots hold the bodies with this one
+  -- at Ok the slots hold the bodies with these
   pub added : OnOk result (BothTold (site.reads old) (site.reads new) (λ before held. (bodies : List (List ℕ))
-      → RestsIn log before bodies → RestsIn after held (bodies ++ body ∷ [])))
+      → RestsIn log before bodies → RestsIn after held (bodies ++ more)))
   -- and each crash from then on leaves a store that has them
   pub every_crash : OnOk result (IfSome (site.reads old) (λ held. (bodies : List (List ℕ)) → RestsIn log held bodies
       → (images : Images) (out : List ℕ) → site.left new (site.now new) images out
-      → HasBodies images (bodies ++ body ∷ [])))
-  -- at each moment a crash leaves what it could as the call began, or the bodies from before, with this one or without
+      → HasBodies images (bodies ++ more)))
+  -- at each moment a crash leaves what it could as the call began, or the bodies from before, with all of these or
+  -- without any
   pub any_moment : IfSome (site.reads old) (λ held. (bodies : List (List ℕ)) → RestsIn log held bodies
       → Leaves (site.now old) (site.now new) (site.left old) (site.left new)
-      (λ images. Began (site.now old) (site.left old) images ⊎ OldOrNew bodies body images))
+      (λ images. Began (site.now old) (site.left old) images ⊎ OldOrAll bodies more images))
   -- the lengths of the first body and of those after it
-  pub counts : OnOk result ((after.first ≡ first_with log.first (length body))
-      × (after.behind ≡ behind_with log.first log.behind (length body)))
+  pub counts : OnOk result ((after.first ≡ first_after log.first (map length more))
+      × (after.behind ≡ behind_after log.first log.behind (map length more)))
   pub kept : IsErr result → (after.first ≡ log.first) × (after.behind ≡ log.behind)
   pub generation : after.generation ≡ log.generation
   pub version : after.version ≡ log.version
@@ -73,6 +74,10 @@ pub record IsAppended {S T : Type 0} (site : Ghosts S) (old new : S) (log after 
   pub outside : TouchesSlots site old new
   -- Site only where the count of the slots' faults tells it
   pub cause : IsErrOf result Site → HasRisen (site.slot_faults old) (site.slot_faults new)
+
+-- One body was added.
+abbrev pub IsAppended : {S T : Type 0} → Ghosts S → S → S → Log → Log → List ℕ → Result T LogFault → Type 0
+IsAppended site old new log after body result = AreAppended site old new log after (body ∷ []) result
 
 -- One body took the place of all.
 pub record IsRewritten {S T : Type 0} (site : Ghosts S) (old new : S) (log after : Log) (body : List ℕ)

@@ -18,3 +18,12 @@ first_with (Some first) more = Some first
 abbrev pub behind_with : Option ℕ → ℕ → ℕ → ℕ
 behind_with None behind more = behind
 behind_with (Some first) behind more = behind + more
+
+-- these, once bodies of these lengths were added one after the other
+abbrev pub first_after : Option ℕ → List ℕ → Option ℕ
+first_after first [] = first
+first_after first (long ∷ more) = first_after (first_with first long) more
+
+abbrev pub behind_after : Option ℕ → ℕ → List ℕ → ℕ
+behind_after first behind [] = behind
+behind_after first behind (long ∷ more) = behind_after (first_with first long) (behind_with first behind long) more

@@ -21,6 +21,11 @@ AreRecords [] bytes = bytes ≡ []
 AreRecords (body ∷ bodies) bytes = (size rest : List ℕ) × (length size ≡ 8) × (from_be_bytes w64 size ≡ length body)
     × (bytes ≡ 1 ∷ size ++ body ++ rest) × AreRecords bodies rest
 
+-- how many bytes records of these bodies take: each has its gate, eight bytes of length, and its body
+abbrev pub records_size : List (List ℕ) → ℕ
+records_size [] = 0
+records_size (body ∷ bodies) = 9 + length body + records_size bodies
+
 -- An open slot of a version and a generation whose records have these bodies. The first closed gate ends them, at
 -- this place; what follows it is anything.
 pub record HasRecords (bytes : List ℕ) (version generation end : ℕ) (bodies : List (List ℕ)) : Type 0 where

@@ -11,3 +11,4 @@ pub mod StoreOfLog
 pub mod Reading
 pub mod Rewriting
 pub mod Steps
+pub mod Waiting

@@ -54,9 +54,13 @@ pub record IsBrokenStore (images : Images) : Type 0 where
   pub full : ¬ IsEmptyStore images
   pub none : (bodies : List (List ℕ)) → ¬ HasBodies images bodies
 
--- the bodies from before, with a new one or without
+-- the bodies from before, with all new ones or without any
+abbrev pub OldOrAll : List (List ℕ) → List (List ℕ) → Images → Type 0
+OldOrAll bodies more images = HasBodies images bodies ⊎ HasBodies images (bodies ++ more)
+
+-- the same of one new body
 abbrev pub OldOrNew : List (List ℕ) → List ℕ → Images → Type 0
-OldOrNew bodies body images = HasBodies images bodies ⊎ HasBodies images (bodies ++ body ∷ [])
+OldOrNew bodies body = OldOrAll bodies (body ∷ [])
 
 -- the bodies from before, or the one new body
 abbrev pub OldOrWhole : List (List ℕ) → List ℕ → Images → Type 0

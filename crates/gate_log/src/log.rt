@@ -1,14 +1,16 @@
 //! A log of bodies in two slots.
 
 ghost use Rattle.std.specs.Prelude.{◌≡◌, ◌⊎◌, ◌^◌, ◌++◌, ◌∷◌, [], List, ℕ, ◌+◌, ◌<◌, length, true, false, ◌≤◌};
-ghost use Rattle.std.specs.Prelude.{drop};
-ghost use Rattle.std.specs.Prelude.{IfSome, OnOk, IsErr, unwrap_or};
-ghost use Rattle.gate_log.specs.Counts.{Counts, first_with, behind_with};
+ghost use Rattle.std.specs.Prelude.{drop, map};
+ghost use Rattle.std.specs.Prelude.{IfSome, IsOk, OnOk, IsErr, unwrap_or};
+ghost use Rattle.gate_log.specs.Counts.{first_after, behind_after};
 ghost use Rattle.gate_log.specs.declared.version.Version.TheVariants.{One, Two};
 
 use crate::LogFault;
-use crate::append::{put_record, record_of};
-use crate::layout::{RECORD, snapshot_end};
+use crate::append::put_records;
+use crate::bodies::Bodies;
+use crate::counting::counts_with_all;
+use crate::layout::snapshot_end;
 use crate::rewrite::{body_in, headed, is_second, other_of, prepare, snapshot_of, switch};
 use crate::step::settle;
 use crate::version::Version;
@@ -40,12 +42,12 @@ pub struct Log {
 impl Log {
     ghost use Rattle.site_io.specs.Counts.{HasRisen};
     ghost use Rattle.site_io.specs.Told.{BothTold};
-    ghost use Rattle.gate_log.specs.Changed.{IsAppended, IsRewritten, IsSynced};
+    ghost use Rattle.gate_log.specs.Changed.{AreAppended, IsAppended, IsRewritten, IsSynced};
     ghost use Rattle.gate_log.specs.Moments.{Leaves, LastsWhole, Began};
     ghost use Rattle.site_io.specs.Outside.{TouchesSlots};
-    ghost use Rattle.gate_log.specs.Store.{number_of, OldOrNew, OldOrWhole};
+    ghost use Rattle.gate_log.specs.Store.{number_of, OldOrAll, OldOrWhole};
     ghost use Rattle.gate_log.specs.StoreOfLog.{RestsIn, StandsIn};
-    ghost use Rattle.gate_log.specs.Layout.{recorded, snapshot};
+    ghost use Rattle.gate_log.specs.Layout.{snapshot};
 
     /// The length of the first body in bytes, or 0 where there is none.
     pub fn first(&self) -> u64
@@ -59,6 +61,22 @@ impl Log {
         ensures { result ≡ self.now.behind }
     {
         self.behind
+    }
+
+    /// What [`first`](Log::first) tells once these bodies are appended.
+    pub fn first_after(&self, more: &Bodies) -> u64
+        ensures { result ≡ unwrap_or (first_after self.now.first (map length more.now)) 0 }
+    {
+        let (first, _) = counts_with_all(self.first, self.behind, more);
+        first.unwrap_or(0)
+    }
+
+    /// What [`behind`](Log::behind) tells once these bodies are appended.
+    pub fn behind_after(&self, more: &Bodies) -> u64
+        ensures { result ≡ behind_after self.now.first self.now.behind (map length more.now) }
+    {
+        let (_, behind) = counts_with_all(self.first, self.behind, more);
+        behind
     }
 
     /// The version of the store, 1 or 2.
@@ -120,31 +138,57 @@ impl Log {
         if self.spent {
             return Err(LogFault::Spent);
         }
-        let bytes = record_of(self.alloc, body)?;
-        if self.add(site, body, &bytes).is_err() {
+        let mut one = Bodies::new(self.alloc);
+        one.push(body)?;
+        self.append_all(site, &one)
+    }
+
+    /// Adds bodies after the others, a record each, by the two writes and syncs of one. At Ok each crash from then on
+    /// leaves a store that has them all. Where there are none nothing is touched.
+    ///
+    /// # Errors
+    ///
+    /// `Site` where the site failed, which its count tells; from then on this log answers `Spent` alone, and the
+    /// store is to be opened again: it has the bodies from before, with all new ones or without any.
+    pub fn append_all<S: Site>(&mut self, site: &mut S, more: &Bodies) -> Result<(), LogFault>
+        requires { StandsIn self.old (S.reads site.old) (S.now site.old) (S.left site.old) }
+        ensures appended { (more.now ≡ [] → ⊥)
+            → AreAppended S.Site site.old site.new self.old self.new more.now result }
+        ensures untouched { more.now ≡ [] → IsOk result × (self.new ≡ self.old)
+            × (site.new ≡ site.old) }
+    {
+        if more.is_empty() {
+            return Ok(());
+        }
+        if self.spent {
+            return Err(LogFault::Spent);
+        }
+        if self.add(site, more).is_err() {
             self.spent = true;
             return Err(LogFault::Site);
         }
         Ok(())
     }
 
-    // Adds a record. The log is then settled.
-    fn add<S: Site>(&mut self, site: &mut S, body: &[u8], bytes: &[u8]) -> Result<(), Failed>
+    // Adds records. The log is then settled.
+    fn add<S: Site>(&mut self, site: &mut S, more: &Bodies) -> Result<(), Failed>
         requires stands { StandsIn self.old (S.reads site.old) (S.now site.old) (S.left site.old) }
         requires unspent { self.old.spent ≡ false }
-        requires spelled { bytes.now ≡ recorded body.now ++ 0 ∷ [] }
+        requires some { more.now ≡ [] → ⊥ }
         ensures added { OnOk result (BothTold (S.reads site.old) (S.reads site.new) (λ before after.
             (bodies : List (List ℕ)) → RestsIn self.old before bodies
-            → RestsIn self.new after (bodies ++ body.now ∷ []))) }
+            → RestsIn self.new after (bodies ++ more.now))) }
         ensures any_moment { IfSome (S.reads site.old)
             (λ held. (bodies : List (List ℕ)) → RestsIn self.old held bodies
             → Leaves (S.now site.old) (S.now site.new) (S.left site.old) (S.left site.new)
-            (λ images. Began (S.now site.old) (S.left site.old) images ⊎ OldOrNew bodies body.now
+            (λ images. Began (S.now site.old) (S.left site.old) images ⊎ OldOrAll bodies more.now
             images)) }
         ensures lasts { OnOk result
             (LastsWhole (S.reads site.new) (S.now site.new) (S.left site.new)) }
-        ensures counts { OnOk result ((self.new.first ≡ first_with self.old.first (length body.now))
-            × (self.new.behind ≡ behind_with self.old.first self.old.behind (length body.now))) }
+        ensures counts { OnOk result
+            ((self.new.first ≡ first_after self.old.first (map length more.now))
+            × (self.new.behind ≡ behind_after self.old.first self.old.behind
+            (map length more.now))) }
         ensures kept { IsErr result → (self.new.first ≡ self.old.first)
             × (self.new.behind ≡ self.old.behind) }
         ensures generation { self.new.generation ≡ self.old.generation }
@@ -154,11 +198,10 @@ impl Log {
         ensures cause { IsErr result → HasRisen (S.slot_faults site.old) (S.slot_faults site.new) }
     {
         settle(site, self.settled)?;
-        put_record(site, self.live, self.end, body, bytes)?;
-        let length = body.len() as u64;
+        put_records(site, self.live, self.end, more)?;
+        let (first, behind) = counts_with_all(self.first, self.behind, more);
         self.settled = true;
-        self.end += RECORD as u64 + length;
-        let (first, behind) = counts_with(self.first, self.behind, length);
+        self.end += more.long();
         self.first = first;
         self.behind = behind;
         Ok(())
@@ -259,21 +302,5 @@ impl Log {
         self.behind = 0;
         self.settled = true;
         Ok(())
-    }
-}
-
-// One body more: the length of the first, and that of those after it.
-pub(crate) fn counts_with(first: Option<u64>, behind: u64, more: u64) -> (Option<u64>, u64)
-    requires { behind + more < 2 ^ 64 }
-    ensures counts { (bodies : List (List ℕ)) (body : List ℕ) → more ≡ length body
-        → Counts first behind bodies
-        → Counts result.0 result.1 (bodies ++ body ∷ []) }
-    ensures exact { (result.0 ≡ first_with first more)
-        × (result.1 ≡ behind_with first behind more) }
-    ensures within { result.1 ≤ behind + more }
-{
-    match first {
-        None => (Some(more), behind),
-        Some(_) => (first, behind + more),
     }
 }

@@ -12,8 +12,8 @@ ghost use Rattle.site_io.specs.Outside.{OnlyLooks};
 ghost use Rattle.gate_log.specs.Reading.{BeginRecords, BeginsRecord, EndsRecords};
 
 use crate::LogFault;
+use crate::counting::counts_with;
 use crate::layout::{RECORD, RECORDS};
-use crate::log::counts_with;
 use crate::part::Part;
 use site_io::{Site, Slot, read_full};
 use std::alloc::Global;

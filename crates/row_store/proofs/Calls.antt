@@ -4,28 +4,29 @@ use Rattle.std.proofs.Common.{Some, Result, Ok, Err, refl, sym, ap, subst}
 use Rattle.std.specs.Option.{IfSome}
 use Rattle.std.specs.Result.{IsErrOf}
 use Rattle.site_io.specs.Disk.{Images}
+use Rattle.site_io.specs.Told.{BothTold}
 use Rattle.site_io.specs.declared.site.Site.{Ghosts}
-use Rattle.gate_log.specs.Changed.{IsAppended, IsRewritten}
-use Rattle.gate_log.specs.Counts.{first_with, behind_with}
+use Rattle.gate_log.specs.Changed.{AreAppended, IsRewritten}
+use Rattle.gate_log.specs.Counts.{first_after, behind_after}
 use Rattle.gate_log.specs.Faults.{OnlySpent as LogOnlySpent}
 use Rattle.gate_log.specs.Moments.{Leaves, Began}
-use Rattle.gate_log.specs.Store.{HasBodies, OldOrNew as LogOldOrNew, OldOrWhole as LogOldOrWhole}
+use Rattle.gate_log.specs.Store.{HasBodies, OldOrAll as LogOldOrAll, OldOrWhole as LogOldOrWhole}
 use Rattle.gate_log.specs.StoreOfLog.{RestsIn}
 use Rattle.gate_log.specs.declared.fault.LogFault.{LogFault}
 use Rattle.gate_log.specs.declared.fault.LogFault.TheVariants as log
 use Rattle.gate_log.specs.declared.log.Log.{Log}
 use Rattle.gate_log.proofs.Outside.{touches_not}
-use Rattle.row_store.specs.Changed.{IsCommitted, IsReplaced, IsSnapshot}
+use Rattle.row_store.specs.Changed.{AreCommitted, IsReplaced, IsSnapshot}
 use Rattle.row_store.specs.Faults.{of_log, OnlySpent}
-use Rattle.row_store.specs.Row.{SpellsBatch, batch_size}
-use Rattle.row_store.specs.Rows.{HasTable, HoldsTable, StandsIn, OldOrNew, OldOrWhole, EndsWith}
-use Rattle.row_store.specs.Table.{Table, SameTable, table_of, with_rows}
+use Rattle.row_store.specs.Row.{SpellsBatch, SpellBatches, last_size}
+use Rattle.row_store.specs.Rows.{HasTable, HoldsTable, StandsIn, OldOrAll, OldOrWhole, EndsWith}
+use Rattle.row_store.specs.Table.{Table, SameTable, table_of, with_batches}
 use Rattle.row_store.specs.declared.fault.StoreFault.{StoreFault}
 use Rattle.row_store.specs.declared.fault.StoreFault.TheVariants.{Spent, Site, Memory}
 use Rattle.row_store.specs.declared.row.Row.{Row}
 use Rattle.row_store.specs.declared.store.Store.{Store}
 use Rattle.row_store.proofs.Opening.{log_back}
-use Rattle.row_store.proofs.Sizes.{batch_long}
+use Rattle.row_store.proofs.Sizes.{batch_long, lengths_are}
 use Rattle.row_store.proofs.Stores.{map_told, map_both, map_two, added, any_moment, has_more, no_call, last_is}
 use Rattle.row_store.proofs.Stores.{rewritten, any_moment_whole, has_same, no_snapshot}
 use Rattle.row_store.proofs.Stores.{replaced, any_moment_replaced, has_first, not_replaced}
@@ -85,16 +86,16 @@ not_others e store (inl is) = (λ never. cc (never, is.0), λ never. cc (never, 
 not_others e store (inr is) = (λ never. cc (never, is.0), λ never. cc (never, is.0), λ never. cc (never, is.0))
 
 module _ {S T : Type 0} (s : Ghosts S) where
-  pub not_committed : (x : S) (store : Store) (rows : List Row) (e : StoreFault) (result : Result T StoreFault)
-      → result ≡ Err e → NotDone e store → StandsIn store (s.reads x) (s.now x) (s.left x)
+  pub not_committed : (x : S) (store : Store) (batches : List (List Row)) (e : StoreFault)
+      (result : Result T StoreFault) → result ≡ Err e → NotDone e store → StandsIn store (s.reads x) (s.now x) (s.left x)
       → ((t : ℕ) (images : Images) (out : List ℕ) → s.left x t images out → t ≤ s.now x)
-      → IsCommitted s x x store store rows result
-  not_committed x store rows e result is may stands until =
-      subst (λ (r : Result T StoreFault). IsCommitted s x x store store rows r) (sym is) (record {
+      → AreCommitted s x x store store batches result
+  not_committed x store batches e result is may stands until =
+      subst (λ (r : Result T StoreFault). AreCommitted s x x store store batches r) (sym is) (record {
         stands = stands;
         added = tt;
         every_crash = tt;
-        any_moment = no_call store rows (s.reads x) (s.now x) (s.left x) until;
+        any_moment = no_call store batches (s.reads x) (s.now x) (s.left x) until;
         last = tt;
         counts = tt;
         counts_kept = λ _. (refl, refl);
@@ -157,26 +158,27 @@ module _ {S T : Type 0} (s : Ghosts S) where
 abbrev pub with_log : Store → Log → Store
 with_log store after = record store { log = after }
 
-module _ {S : Type 0} (s : Ghosts S) (x y : S) (store : Store) (after : Log) (rows : List Row) (body : List ℕ) where
-  commit_moments : {R : Type 0} (r : Result R LogFault) → SpellsBatch rows body
-      → IsAppended s x y store.log after body r
+module _ {S : Type 0} (s : Ghosts S) (x y : S) (store : Store) (after : Log) (batches : List (List Row))
+    (more : List (List ℕ)) where
+  commit_moments : {R : Type 0} (r : Result R LogFault) → SpellBatches batches more
+      → AreAppended s x y store.log after more r
       → IfSome (s.reads x) (λ held. (table : Table) → HoldsTable store held table
       → Leaves (s.now x) (s.now y) (s.left x) (s.left y) (λ images. Began (s.now x) (s.left x) images
-      ⊎ OldOrNew table rows images))
+      ⊎ OldOrAll table batches images))
   commit_moments r spelled made =
       map_told (λ held. (bodies : List (List ℕ)) → RestsIn store.log held bodies
       → Leaves (s.now x) (s.now y) (s.left x) (s.left y) (λ images. Began (s.now x) (s.left x) images
-      ⊎ LogOldOrNew bodies body images))
+      ⊎ LogOldOrAll bodies more images))
       (λ held. (table : Table) → HoldsTable store held table → Leaves (s.now x) (s.now y) (s.left x) (s.left y)
-      (λ images. Began (s.now x) (s.left x) images ⊎ OldOrNew table rows images)) (s.reads x)
-      (λ held each. any_moment store rows body held (s.now x) (s.now y) (s.left x) (s.left y) spelled each)
+      (λ images. Began (s.now x) (s.left x) images ⊎ OldOrAll table batches images)) (s.reads x)
+      (λ held each. any_moment store batches more held (s.now x) (s.now y) (s.left x) (s.left y) spelled each)
       made.any_moment
 
   pub refused_commit : {T U : Type 0} (fault : LogFault) (result : Result U StoreFault) → result ≡ Err (of_log fault)
-      → SpellsBatch rows body → IsAppended {T = T} s x y store.log after body (Err fault)
-      → IsCommitted s x y store (with_log store after) rows result
+      → SpellBatches batches more → AreAppended {T = T} s x y store.log after more (Err fault)
+      → AreCommitted s x y store (with_log store after) batches result
   refused_commit {U = U} fault result is spelled made =
-      subst (λ (r : Result U StoreFault). IsCommitted s x y store (with_log store after) rows r) (sym is) (record {
+      subst (λ (r : Result U StoreFault). AreCommitted s x y store (with_log store after) batches r) (sym is) (record {
         stands = made.stands;
         added = tt;
         every_crash = tt;
@@ -194,33 +196,44 @@ module _ {S : Type 0} (s : Ghosts S) (x y : S) (store : Store) (after : Log) (ro
         cause = λ e. made.cause (log_back fault log.Site e);
       })
 
-  pub done_commit : {T U : Type 0} (t : T) (u : U) → SpellsBatch rows body
-      → IsAppended s x y store.log after body (Ok t)
-      → IsCommitted s x y store (with_log store after) rows (Ok u)
-  done_commit t u spelled made =
-      let long = batch_long rows body spelled in
+-- where all was added, at least one body
+module _ {S : Type 0} (s : Ghosts S) (x y : S) (store : Store) (after : Log) where
+  last_of : (batches : List (List Row)) (more : List (List ℕ)) → SpellBatches batches more → (batches ≡ [] → ⊥)
+      → BothTold (s.reads x) (s.reads y) (λ before held. (bodies : List (List ℕ)) → RestsIn store.log before bodies
+      → RestsIn after held (bodies ++ more))
+      → BothTold (s.reads x) (s.reads y) (λ before held. (table : Table) → HoldsTable store before table
+      → EndsWith (with_log store after) held (last_size batches))
+  last_of [] more spelled some adds = absurd (some refl)
+  last_of (rows ∷ batches) [] spelled some adds = absurd spelled
+  last_of (rows ∷ batches) (body ∷ more) spelled some adds =
+      map_both (λ before held. (bodies : List (List ℕ)) → RestsIn store.log before bodies
+      → RestsIn after held (bodies ++ body ∷ more)) (λ before held. (table : Table) → HoldsTable store before table
+      → EndsWith (with_log store after) held (last_size (rows ∷ batches))) (s.reads x) (s.reads y)
+      (λ before held adds. last_is store (with_log store after) rows batches body more before held spelled adds) adds
+
+  pub done_commit : {T U : Type 0} (batches : List (List Row)) (more : List (List ℕ)) (t : T) (u : U)
+      → SpellBatches batches more → (batches ≡ [] → ⊥) → AreAppended s x y store.log after more (Ok t)
+      → AreCommitted s x y store (with_log store after) batches (Ok u)
+  done_commit batches more t u spelled some made =
+      let long = lengths_are batches more spelled in
       record {
         stands = made.stands;
         added = map_both (λ before held. (bodies : List (List ℕ)) → RestsIn store.log before bodies
-            → RestsIn after held (bodies ++ body ∷ [])) (λ before held. (table : Table)
-            → HoldsTable store before table → HoldsTable (with_log store after) held (with_rows table rows))
+            → RestsIn after held (bodies ++ more)) (λ before held. (table : Table)
+            → HoldsTable store before table → HoldsTable (with_log store after) held (with_batches table batches))
             (s.reads x) (s.reads y)
-            (λ before held adds. added store (with_log store after) rows body before held spelled adds) made.added;
+            (λ before held adds. added store (with_log store after) batches more before held spelled adds) made.added;
         every_crash = map_told (λ held. (bodies : List (List ℕ)) → RestsIn store.log held bodies → (images : Images)
-            (out : List ℕ) → s.left y (s.now y) images out → HasBodies images (bodies ++ body ∷ []))
+            (out : List ℕ) → s.left y (s.now y) images out → HasBodies images (bodies ++ more))
             (λ held. (table : Table) → HoldsTable store held table → (images : Images) (out : List ℕ)
-            → s.left y (s.now y) images out → HasTable images (with_rows table rows)) (s.reads x)
-            (λ held every table holds images out left. has_more rows body holds.bodies table images spelled holds.left
-            (every holds.bodies holds.rests images out left)) made.every_crash;
-        any_moment = commit_moments (Ok t) spelled made;
-        last = map_both (λ before held. (bodies : List (List ℕ)) → RestsIn store.log before bodies
-            → RestsIn after held (bodies ++ body ∷ [])) (λ before held. (table : Table)
-            → HoldsTable store before table → EndsWith (with_log store after) held (batch_size rows)) (s.reads x)
-            (s.reads y) (λ before held adds. last_is store (with_log store after) body before held (batch_size rows)
-            long adds) made.added;
+            → s.left y (s.now y) images out → HasTable images (with_batches table batches)) (s.reads x)
+            (λ held every table holds images out left. has_more batches more holds.bodies table images spelled
+            holds.left (every holds.bodies holds.rests images out left)) made.every_crash;
+        any_moment = commit_moments s x y store after batches more (Ok t) spelled made;
+        last = last_of batches more spelled some made.added;
         counts = (
-          made.counts.0 ∙ ap (λ (n : ℕ). first_with store.log.first n) long,
-          made.counts.1 ∙ ap (λ (n : ℕ). behind_with store.log.first store.log.behind n) long,
+          made.counts.0 ∙ ap (λ (l : List ℕ). first_after store.log.first l) long,
+          made.counts.1 ∙ ap (λ (l : List ℕ). behind_after store.log.first store.log.behind l) long,
         );
         counts_kept = λ never. absurd (cc never);
         generation = made.generation;
@@ -236,6 +249,9 @@ module _ {S : Type 0} (s : Ghosts S) (x y : S) (store : Store) (after : Log) (ro
         cause = λ never. absurd (cc never);
       }
 
+-- ---- a snapshot
+
+module _ {S : Type 0} (s : Ghosts S) (x y : S) (store : Store) (after : Log) (rows : List Row) (body : List ℕ) where
   snapshot_moments : {R : Type 0} (r : Result R LogFault) → SpellsBatch rows body
       → IfSome (s.reads x) (λ held. (table : Table) → HoldsTable store held table → SameTable (table_of rows) table)
       → IsRewritten s x y store.log after body r

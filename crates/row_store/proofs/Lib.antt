@@ -7,5 +7,6 @@ pub mod Opening
 pub mod Sizes
 pub mod Syncing
 pub mod AsMade
+pub mod Waiting
 pub mod Calls
 pub mod Creating

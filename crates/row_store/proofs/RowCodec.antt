@@ -163,7 +163,7 @@ with_nothing rows text s =
       (many_reader SpellsRow row_at row_reader (length rows)).again rows s.behind [] (refl, s.follows),
     ) refl
 
-batch_again : (rows : List Row) (text : List ℕ) → SpellsBatch rows text → batch_at text ≡ Ok (rows, [])
+pub batch_again : (rows : List Row) (text : List ℕ) → SpellsBatch rows text → batch_at text ≡ Ok (rows, [])
 batch_again rows text s = ap batch_at (sym (append-nil text)) ∙ with_nothing rows text s
 
 -- a body is a batch in one way

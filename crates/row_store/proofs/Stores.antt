@@ -1,20 +1,21 @@
 -- Calls on a store, from those on its log.
-use Rattle.std.proofs.Common.{◌⊎◌, inl, inr, ⊎_elim, ◌≡◌, ℕ, ◌≤◌, List, [], ◌∷◌, ◌++◌, length, Option, Some, None}
-use Rattle.std.proofs.Common.{refl, sym, ap, subst, ◌∙◌}
+use Rattle.std.proofs.Common.{◌⊎◌, inl, inr, ⊎_elim, ℕ, ◌≤◌, List, [], ◌∷◌, ◌++◌, Option, Some, None}
+use Rattle.std.proofs.Common.{refl, sym, ap, subst, ◌∙◌, append_assoc}
 use Rattle.std.proofs.lemmas.List.{append-nil}
 use Rattle.std.specs.Option.{IfSome}
 use Rattle.site_io.specs.Told.{BothTold, StaysTold}
 use Rattle.site_io.specs.Disk.{Images}
 use Rattle.gate_log.specs.Moments.{Leaves, LastsWhole, Began}
-use Rattle.gate_log.specs.Store.{HasBodies, OldOrNew as LogOldOrNew, OldOrWhole}
+use Rattle.gate_log.specs.Store.{HasBodies, OldOrAll as LogOldOrAll, OldOrWhole}
 use Rattle.gate_log.specs.StoreOfLog.{RestsIn}
 use Rattle.gate_log.proofs.Images.{held_whole, rests_has}
 use Rattle.gate_log.proofs.Runs.{no_step, leaves_weaker}
 use Rattle.row_store.specs.declared.row.Row.{Row}
 use Rattle.row_store.specs.declared.store.Store.{Store}
-use Rattle.row_store.specs.Row.{SpellsBatch}
-use Rattle.row_store.specs.Rows.{LeaveTable, HasTable, HoldsTable, OldOrNew, OldOrWhole as TableOrWhole, EndsWith}
-use Rattle.row_store.specs.Table.{Table, SameTable, table_of, with_rows, after_rows}
+use Rattle.row_store.specs.Row.{SpellsBatch, SpellBatches, last_size}
+use Rattle.row_store.specs.Rows.{LeaveTable, HasTable, HoldsTable, OldOrAll, OldOrWhole as TableOrWhole, EndsWith}
+use Rattle.row_store.specs.Table.{Table, SameTable, table_of, with_rows, with_batches, after_rows}
+use Rattle.row_store.proofs.Sizes.{ends_in}
 use Rattle.row_store.proofs.Tables.{table_push, spell_push}
 
 pub map_told : {A : Type 0} (P Q : A → Type 0) (r : Option A) → ((held : A) → P held → Q held) → IfSome r P → IfSome r Q
@@ -44,6 +45,18 @@ leave_more bodies table rows body left s = record {
   same = table_push left.batches rows table (with_rows table rows) left.same (λ kind number. refl);
 }
 
+leave_all : (bodies more : List (List ℕ)) (batches : List (List Row)) (table : Table) → LeaveTable bodies table
+    → SpellBatches batches more → LeaveTable (bodies ++ more) (with_batches table batches)
+leave_all bodies more [] table left all =
+    subst (λ (l : List (List ℕ)). LeaveTable l table)
+    (sym (ap (λ (l : List (List ℕ)). bodies ++ l) all ∙ append-nil bodies)) left
+leave_all bodies [] (rows ∷ batches) table left all = absurd all
+leave_all bodies (body ∷ more) (rows ∷ batches) table left all =
+    subst (λ (l : List (List ℕ)). LeaveTable l (with_batches (with_rows table rows) batches))
+    (append_assoc bodies (body ∷ []) more)
+    (leave_all (bodies ++ body ∷ []) more batches (with_rows table rows) (leave_more bodies table rows body left all.0)
+    all.1)
+
 pub created : (store : Store) (rows : List Row) (body : List ℕ) (held : Images) → SpellsBatch rows body
     → RestsIn store.log held (body ∷ []) → HoldsTable store held (table_of rows)
 created store rows body held s rests = record { bodies = body ∷ []; rests = rests; left = leave_first rows body s }
@@ -52,44 +65,44 @@ pub has_first : (rows : List Row) (body : List ℕ) (images : Images) → Spells
     → HasBodies images (body ∷ []) → HasTable images (table_of rows)
 has_first rows body images s has = record { bodies = body ∷ []; has = has; left = leave_first rows body s }
 
-pub has_more : (rows : List Row) (body : List ℕ) (bodies : List (List ℕ)) (table : Table) (images : Images)
-    → SpellsBatch rows body → LeaveTable bodies table → HasBodies images (bodies ++ body ∷ [])
-    → HasTable images (with_rows table rows)
-has_more rows body bodies table images s left has
-    = record { bodies = bodies ++ body ∷ []; has = has; left = leave_more bodies table rows body left s }
+pub has_more : (batches : List (List Row)) (more bodies : List (List ℕ)) (table : Table) (images : Images)
+    → SpellBatches batches more → LeaveTable bodies table → HasBodies images (bodies ++ more)
+    → HasTable images (with_batches table batches)
+has_more batches more bodies table images s left has
+    = record { bodies = bodies ++ more; has = has; left = leave_all bodies more batches table left s }
 
-pub added : (store new : Store) (rows : List Row) (body : List ℕ) (before after : Images) → SpellsBatch rows body
-    → ((bodies : List (List ℕ)) → RestsIn store.log before bodies → RestsIn new.log after (bodies ++ body ∷ []))
-    → (table : Table) → HoldsTable store before table → HoldsTable new after (with_rows table rows)
-added store new rows body before after s adds table holds =
+pub added : (store new : Store) (batches : List (List Row)) (more : List (List ℕ)) (before after : Images)
+    → SpellBatches batches more
+    → ((bodies : List (List ℕ)) → RestsIn store.log before bodies → RestsIn new.log after (bodies ++ more))
+    → (table : Table) → HoldsTable store before table → HoldsTable new after (with_batches table batches)
+added store new batches more before after s adds table holds =
     record {
-      bodies = holds.bodies ++ body ∷ [];
+      bodies = holds.bodies ++ more;
       rests = adds holds.bodies holds.rests;
-      left = leave_more holds.bodies
-          table rows body holds.left s;
+      left = leave_all holds.bodies more batches table holds.left s;
     }
 
-pub any_moment : (store : Store) (rows : List Row) (body : List ℕ) (held : Images) (n0 n1 : ℕ)
-    (l0 l1 : ℕ → Images → List ℕ → Type 0) → SpellsBatch rows body
+pub any_moment : (store : Store) (batches : List (List Row)) (more : List (List ℕ)) (held : Images) (n0 n1 : ℕ)
+    (l0 l1 : ℕ → Images → List ℕ → Type 0) → SpellBatches batches more
     → ((bodies : List (List ℕ)) → RestsIn store.log held bodies
-    → Leaves n0 n1 l0 l1 (λ images. Began n0 l0 images ⊎ LogOldOrNew bodies body images))
+    → Leaves n0 n1 l0 l1 (λ images. Began n0 l0 images ⊎ LogOldOrAll bodies more images))
     → (table : Table) → HoldsTable store held table
-    → Leaves n0 n1 l0 l1 (λ images. Began n0 l0 images ⊎ OldOrNew table rows images)
-any_moment store rows body held n0 n1 l0 l1 s each table holds =
-    leaves_weaker n0 n1 l0 l1 (λ images. Began n0 l0 images ⊎ LogOldOrNew holds.bodies body images)
-    (λ images. Began n0 l0 images ⊎ OldOrNew table rows images)
+    → Leaves n0 n1 l0 l1 (λ images. Began n0 l0 images ⊎ OldOrAll table batches images)
+any_moment store batches more held n0 n1 l0 l1 s each table holds =
+    leaves_weaker n0 n1 l0 l1 (λ images. Began n0 l0 images ⊎ LogOldOrAll holds.bodies more images)
+    (λ images. Began n0 l0 images ⊎ OldOrAll table batches images)
     (λ images may. ⊎_elim (λ began. inl began) (λ has. inr (⊎_elim
     (λ old. inl (record { bodies = holds.bodies; has = old; left = holds.left }))
-    (λ new. inr (has_more rows body holds.bodies table images s holds.left new)) has)) may)
+    (λ new. inr (has_more batches more holds.bodies table images s holds.left new)) has)) may)
     (each holds.bodies holds.rests)
 
 -- nothing was done
-pub no_call : (store : Store) (rows : List Row) (r : Option Images) (n : ℕ) (l : ℕ → Images → List ℕ → Type 0)
-    → ((t : ℕ) (images : Images) (out : List ℕ) → l t images out → t ≤ n)
+pub no_call : (store : Store) (batches : List (List Row)) (r : Option Images) (n : ℕ)
+    (l : ℕ → Images → List ℕ → Type 0) → ((t : ℕ) (images : Images) (out : List ℕ) → l t images out → t ≤ n)
     → IfSome r (λ held. (table : Table) → HoldsTable store held table
-    → Leaves n n l l (λ images. Began n l images ⊎ OldOrNew table rows images))
-no_call store rows None n l until = tt
-no_call store rows (Some held) n l until = λ table holds. no_step n l (OldOrNew table rows) until
+    → Leaves n n l l (λ images. Began n l images ⊎ OldOrAll table batches images))
+no_call store batches None n l until = tt
+no_call store batches (Some held) n l until = λ table holds. no_step n l (OldOrAll table batches) until
 
 -- one batch of all rows in the place of all
 leave_same : (rows : List Row) (body : List ℕ) (table : Table) → SpellsBatch rows body → SameTable (table_of rows)
@@ -157,12 +170,22 @@ pub not_replaced : (store : Store) (rows : List Row) (r : Option Images) (n : �
 not_replaced store rows None n l until = tt
 not_replaced store rows (Some held) n l until = λ table holds. no_step n l (TableOrWhole table rows) until
 
--- the last body is the one that was added
-pub last_is : (store new : Store) (body : List ℕ) (before after : Images) (long : ℕ) → length body ≡ long
-    → ((bodies : List (List ℕ)) → RestsIn store.log before bodies → RestsIn new.log after (bodies ++ body ∷ []))
-    → (table : Table) → HoldsTable store before table → EndsWith new after long
-last_is store new body before after long is adds table holds =
-    record { bodies = holds.bodies; body = body; rests = adds holds.bodies holds.rests; is = is }
+-- the last body is the last one that was added
+pub last_is : (store new : Store) (rows : List Row) (batches : List (List Row)) (body : List ℕ)
+    (more : List (List ℕ)) (before after : Images) → SpellBatches (rows ∷ batches) (body ∷ more)
+    → ((bodies : List (List ℕ)) → RestsIn store.log before bodies → RestsIn new.log after (bodies ++ body ∷ more))
+    → (table : Table) → HoldsTable store before table → EndsWith new after (last_size (rows ∷ batches))
+last_is store new rows batches body more before after s adds table holds =
+    let ends = ends_in rows batches body more s in
+    record {
+      bodies = holds.bodies ++ ends.earlier;
+      body = ends.last;
+      rests = subst (λ (l : List (List ℕ)). RestsIn new.log after l)
+          (ap (λ (l : List (List ℕ)). holds.bodies ++ l) ends.parts
+          ∙ sym (append_assoc holds.bodies ends.earlier (ends.last ∷ [])))
+          (adds holds.bodies holds.rests);
+      is = ends.is;
+    }
 
 -- nothing was done
 pub no_snapshot : (store : Store) (r : Option Images) (n : ℕ) (l : ℕ → Images → List ℕ → Type 0)

@@ -5,8 +5,8 @@ use Rattle.std.proofs.lemmas.List.{append-nil}
 use Rattle.std.proofs.lemmas.Bool.{and_parts, eqb-true}
 use Rattle.row_store.specs.declared.row.Row.{Row}
 use Rattle.row_store.specs.Row.{SpellsBatch, SpellBatches}
-use Rattle.row_store.specs.Table.{Table, SameTable, is_of, after_rows, with_rows, table_of, all_rows, IsBefore}
-use Rattle.row_store.specs.Table.{ComesBefore}
+use Rattle.row_store.specs.Table.{Table, SameTable, is_of, after_rows, with_rows, with_batches, table_of, all_rows}
+use Rattle.row_store.specs.Table.{IsBefore, ComesBefore}
 
 pub after_append : (xs ys : List Row) (kind number : ℕ) (before : Option (List ℕ)) → after_rows (xs ++ ys) kind number
     before ≡ after_rows ys kind number (after_rows xs kind number before)
@@ -29,6 +29,12 @@ table_push batches rows before after so_far more kind number =
     ∙ sym (after_append (all_rows batches) rows kind number None)
     ∙ ap (λ (l : List Row). after_rows l kind number None) (sym (all_push batches rows))
 
+-- the same from another table on
+pub with_batches_push : (table : Table) (batches : List (List Row)) (rows : List Row)
+    → with_batches table (batches ++ rows ∷ []) ≡ with_rows (with_batches table batches) rows
+with_batches_push table [] rows = refl
+with_batches_push table (first ∷ batches) rows = with_batches_push (with_rows table first) batches rows
+
 -- one row more
 pub rows_push : (rows : List Row) (row : Row) (first before after : Table) → SameTable (with_rows first rows) before
     → ((kind number : ℕ) → after kind number ≡ (if is_of kind number row then row.body else before kind number))
@@ -43,6 +49,18 @@ spell_push [] rows [] body all one = (one, refl)
 spell_push [] rows (b ∷ bodies) body all one = absurd cc
 spell_push (first ∷ batches) rows [] body all one = absurd all
 spell_push (first ∷ batches) rows (b ∷ bodies) body all one = (all.0, spell_push batches rows bodies body all.1 one)
+
+-- so many batches as bodies
+pub none_spells : (batches : List (List Row)) (bodies : List (List ℕ)) → SpellBatches batches bodies → batches ≡ []
+    → bodies ≡ []
+none_spells [] bodies all is = all
+none_spells (rows ∷ batches) bodies all is = absurd cc
+
+pub some_spells : (batches : List (List Row)) (bodies : List (List ℕ)) → SpellBatches batches bodies
+    → (batches ≡ [] → ⊥) → bodies ≡ [] → ⊥
+some_spells [] bodies all some is = some refl
+some_spells (rows ∷ batches) [] all some is = all
+some_spells (rows ∷ batches) (body ∷ bodies) all some is = cc
 
 -- a body among others that is no batch
 pub none_spelled : (bodies : List (List ℕ)) (body : List ℕ) (more : List (List ℕ))

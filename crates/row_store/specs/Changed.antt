@@ -1,17 +1,18 @@
 -- What the calls on a store give.
-use Rattle.std.specs.Prelude.{◌≡◌, ◌⊎◌, ◌+◌, ◌↔◌, ℕ, List, true, Some, Result, OnOk, IsErr, IsErrOf, IfSome}
+use Rattle.std.specs.Prelude.{◌≡◌, ◌⊎◌, ◌+◌, ◌↔◌, ℕ, List, [], ◌∷◌, map, true, Some, Result, OnOk, IsErr, IsErrOf}
+use Rattle.std.specs.Prelude.{IfSome}
 use Rattle.site_io.specs.Counts.{HasRisen}
 use Rattle.site_io.specs.Disk.{Images}
 use Rattle.site_io.specs.Outside.{OnlyLooks, TouchesSlots}
 use Rattle.site_io.specs.Told.{BothTold}
 use Rattle.site_io.specs.declared.site.Site.{Ghosts}
-use Rattle.gate_log.specs.Counts.{first_with, behind_with}
+use Rattle.gate_log.specs.Counts.{first_after, behind_after}
 use Rattle.gate_log.specs.Moments.{Leaves, LastsWhole, Began}
 use Rattle.gate_log.specs.declared.version.Version.TheVariants.{Two}
 use Rattle.row_store.specs.Faults.{OnlySite, OnlySpent}
-use Rattle.row_store.specs.Row.{batch_size}
-use Rattle.row_store.specs.Rows.{HasTable, HoldsTable, StandsIn, OldOrNew, OldOrWhole, EndsWith}
-use Rattle.row_store.specs.Table.{Table, SameTable, table_of, with_rows}
+use Rattle.row_store.specs.Row.{batch_size, last_size}
+use Rattle.row_store.specs.Rows.{HasTable, HoldsTable, StandsIn, OldOrAll, OldOrWhole, EndsWith}
+use Rattle.row_store.specs.Table.{Table, SameTable, table_of, with_batches}
 use Rattle.row_store.specs.declared.fault.StoreFault.{StoreFault}
 use Rattle.row_store.specs.declared.fault.StoreFault.TheVariants.{Spent, Site, Memory}
 use Rattle.row_store.specs.declared.row.Row.{Row}
@@ -44,28 +45,29 @@ pub record IsSynced {S T : Type 0} (site : Ghosts S) (old new : S) (store after 
   -- Site only where the count of the slots' faults tells it
   pub cause : IsErrOf result Site → HasRisen (site.slot_faults old) (site.slot_faults new)
 
--- A batch of rows was added.
-pub record IsCommitted {S T : Type 0} (site : Ghosts S) (old new : S) (store after : Store) (batch : List Row)
+-- Batches of rows were added, all of them at once.
+pub record AreCommitted {S T : Type 0} (site : Ghosts S) (old new : S) (store after : Store) (batches : List (List Row))
     (result : Result T StoreFault) : Type 0 where
   -- the store may be called again
   pub stands : StandsIn after (site.reads new) (site.now new) (site.left new)
-  -- at Ok the slots hold the table after the batch
+  -- at Ok the slots hold the table after the batches
   pub added : OnOk result (BothTold (site.reads old) (site.reads new) (λ before held. (table : Table)
-      → HoldsTable store before table → HoldsTable after held (with_rows table batch)))
+      → HoldsTable store before table → HoldsTable after held (with_batches table batches)))
   -- and each crash from then on leaves it
   pub every_crash : OnOk result (IfSome (site.reads old) (λ held. (table : Table) → HoldsTable store held table
       → (images : Images) (out : List ℕ) → site.left new (site.now new) images out
-      → HasTable images (with_rows table batch)))
-  -- at each moment a crash leaves what it could as the call began, or the table from before, or that after the batch
+      → HasTable images (with_batches table batches)))
+  -- at each moment a crash leaves what it could as the call began, or the table from before, or that after all of the
+  -- batches
   pub any_moment : IfSome (site.reads old) (λ held. (table : Table) → HoldsTable store held table
       → Leaves (site.now old) (site.now new) (site.left old) (site.left new)
-      (λ images. Began (site.now old) (site.left old) images ⊎ OldOrNew table batch images))
-  -- the last body is the batch
+      (λ images. Began (site.now old) (site.left old) images ⊎ OldOrAll table batches images))
+  -- the last body is the last batch
   pub last : OnOk result (BothTold (site.reads old) (site.reads new) (λ before held. (table : Table)
-      → HoldsTable store before table → EndsWith after held (batch_size batch)))
+      → HoldsTable store before table → EndsWith after held (last_size batches)))
   -- the lengths of the first body and of those after it
-  pub counts : OnOk result ((after.log.first ≡ first_with store.log.first (batch_size batch))
-      × (after.log.behind ≡ behind_with store.log.first store.log.behind (batch_size batch)))
+  pub counts : OnOk result ((after.log.first ≡ first_after store.log.first (map batch_size batches))
+      × (after.log.behind ≡ behind_after store.log.first store.log.behind (map batch_size batches)))
   pub counts_kept : IsErr result → (after.log.first ≡ store.log.first) × (after.log.behind ≡ store.log.behind)
   pub generation : after.log.generation ≡ store.log.generation
   pub version : after.log.version ≡ store.log.version
@@ -80,6 +82,10 @@ pub record IsCommitted {S T : Type 0} (site : Ghosts S) (old new : S) (store aft
   pub outside : TouchesSlots site old new
   -- Site only where the count of the slots' faults tells it
   pub cause : IsErrOf result Site → HasRisen (site.slot_faults old) (site.slot_faults new)
+
+-- One batch was added.
+abbrev pub IsCommitted : {S T : Type 0} → Ghosts S → S → S → Store → Store → List Row → Result T StoreFault → Type 0
+IsCommitted site old new store after batch result = AreCommitted site old new store after (batch ∷ []) result
 
 -- One batch of the store's rows took the place of all.
 pub record IsSnapshot {S T : Type 0} (site : Ghosts S) (old new : S) (store after : Store) (rows : List Row)

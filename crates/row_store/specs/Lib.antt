@@ -9,4 +9,5 @@ pub mod Table
 pub mod Left
 pub mod RowReading
 pub mod RowWriting
+pub mod Waiting
 pub mod Written

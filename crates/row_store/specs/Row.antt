@@ -42,3 +42,9 @@ rows_size (row ∷ rows) = 10 + body_size row.body + rows_size rows
 -- how many bytes a batch takes: eight of count, and the rows
 abbrev pub batch_size : List Row → ℕ
 batch_size rows = 8 + rows_size rows
+
+-- how many bytes the last of some batches takes
+abbrev pub last_size : List (List Row) → ℕ
+last_size [] = 0
+last_size (rows ∷ []) = batch_size rows
+last_size (rows ∷ next ∷ more) = last_size (next ∷ more)

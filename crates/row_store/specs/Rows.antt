@@ -6,7 +6,7 @@ use Rattle.gate_log.specs.StoreOfLog.{RestsIn, StandsIn as log_stands}
 use Rattle.row_store.specs.declared.row.Row.{Row}
 use Rattle.row_store.specs.declared.store.Store.{Store}
 use Rattle.row_store.specs.Row.{SpellBatches}
-use Rattle.row_store.specs.Table.{Table, SameTable, table_of, all_rows, with_rows}
+use Rattle.row_store.specs.Table.{Table, SameTable, table_of, all_rows, with_rows, with_batches}
 
 -- The bodies are batches, whose rows leave this table.
 pub record LeaveTable (bodies : List (List ℕ)) (table : Table) : Type 0 where
@@ -34,6 +34,10 @@ StandsIn store reads now left = log_stands store.log reads now left
 pub record IsBrokenTable (images : Images) : Type 0 where
   pub full : ¬ IsEmptyStore images
   pub none : (table : Table) → ¬ HasTable images table
+
+-- the table from before, or that after all of some batches
+abbrev pub OldOrAll : Table → List (List Row) → Images → Type 0
+OldOrAll table batches images = HasTable images table ⊎ HasTable images (with_batches table batches)
 
 -- the table from before, or that after rows more
 abbrev pub OldOrNew : Table → List Row → Images → Type 0

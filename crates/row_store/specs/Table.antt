@@ -24,6 +24,11 @@ after_rows (row ∷ rows) kind number before = after_rows rows kind number
 abbrev pub with_rows : Table → List Row → Table
 with_rows table rows kind number = after_rows rows kind number (table kind number)
 
+-- the table after batches, one after the other, from another one on
+abbrev pub with_batches : Table → List (List Row) → Table
+with_batches table [] = table
+with_batches table (rows ∷ more) = with_batches (with_rows table rows) more
+
 abbrev pub table_of : List Row → Table
 table_of = with_rows empty_table
 

@@ -13,13 +13,17 @@
 //! let mut room = Vec::new(alloc);
 //! let (mut store, rows) = Store::resume_in(alloc, &mut site, &mut room)?;
 //! store.commit(&mut site, &batch)?;
+//! let mut batches = Batches::new(alloc);
+//! batches.push(&second)?;
+//! batches.push(&third)?;
+//! store.commit_all(&mut site, &batches)?;
 //! ```
 //!
 //! # Proved
 //!
-//! At each moment of a commit a crash leaves the table from before or the one after the batch; of a snapshot always
-//! the same table. What is opened is the store's table, by rising kind and number, each row with its body. `Broken`
-//! comes only where the slots have no table.
+//! At each moment of a commit a crash leaves the table from before or the one after the batch, or after all of
+//! several batches; of a snapshot always the same table. What is opened is the store's table, by rising kind and
+//! number, each row with its body. `Broken` comes only where the slots have no table.
 //!
 //! # The caller owes
 //!
@@ -28,11 +32,13 @@
 //!
 //! # Cost
 //!
-//! A commit is linear in its batch, and a snapshot in the table. Opening is linear in the bytes of the live slot,
-//! with a look-up in a sorted map for each row. A snapshot is wanted where the batches after the first take more
-//! room than the first and more than 1 MiB, so that all snapshots write less than twice what all commits do.
+//! A commit is linear in its batches, with two syncs however many they are, and a snapshot in the table. Opening is
+//! linear in the bytes of the live slot, with a look-up in a sorted map for each row. A snapshot is wanted where the
+//! batches after the first take more room than the first and more than 1 MiB, so that all snapshots write less than
+//! twice what all commits do.
 #![tactic(auto)]
 
+mod batches;
 mod fault;
 mod reading;
 mod row;
@@ -41,6 +47,7 @@ mod table;
 mod writing;
 mod written;
 
+pub use batches::Batches;
 pub use fault::StoreFault;
 pub use row::{Row, RowIn};
 pub use store::Store;

@@ -1,8 +1,12 @@
 //! A table of rows in a journal.
 
-ghost use Rattle.std.specs.Prelude.{◌≡◌, ◌↔◌, ◌+◌, ◌^◌, ◌<◌, IsTrue, IfSome};
+ghost use Rattle.std.specs.Prelude.{◌≡◌, ◌↔◌, ◌+◌, ◌-◌, ◌^◌, ◌<◌, [], IsTrue, IsOk, IfSome, map};
+ghost use Rattle.gate_log.specs.Counts.{first_after, behind_after};
+ghost use Rattle.row_store.specs.Row.{batch_size};
+ghost use Rattle.row_store.specs.Rows.{WantsSnapshot};
 ghost use Rattle.row_store.specs.Table.{Table, SameTable, table_of};
 
+use crate::batches::Batches;
 use crate::fault::StoreFault;
 use crate::row::{Row, RowIn};
 use crate::table::{left_by, owned, rows_in_order};
@@ -26,10 +30,10 @@ pub struct Store {
 }
 
 impl Store {
-    ghost use Rattle.row_store.specs.Changed.{IsCommitted, IsReplaced, IsSnapshot, IsSynced};
+    ghost use Rattle.row_store.specs.Changed.{AreCommitted, IsCommitted, IsReplaced, IsSnapshot, IsSynced};
     ghost use Rattle.row_store.specs.Created.{IsCreated};
     ghost use Rattle.row_store.specs.Resumed.{IsResumed};
-    ghost use Rattle.row_store.specs.Rows.{HoldsTable, StandsIn, WantsSnapshot};
+    ghost use Rattle.row_store.specs.Rows.{HoldsTable, StandsIn};
 
     /// The journal, which tells its version, its generation, and how long its bodies are.
     pub fn log(&self) -> &Log
@@ -137,14 +141,53 @@ impl Store {
         Ok(self.log.append(site, &body)?)
     }
 
+    /// Adds batches of rows, a body each, by the two syncs of one. At Ok each crash from then on leaves the table after
+    /// them all. Where there are none nothing is touched.
+    ///
+    /// # Errors
+    ///
+    /// `Site` where the site failed, which its count tells; from then on this store answers `Spent` alone, and is to
+    /// be opened again: it has the rows from before or those after all batches.
+    pub fn commit_all<S: Site>(
+        &mut self,
+        site: &mut S,
+        batches: &Batches,
+    ) -> Result<(), StoreFault>
+        requires { StandsIn self.old (S.reads site.old) (S.now site.old) (S.left site.old) }
+        ensures committed { (batches.now ≡ [] → ⊥)
+            → AreCommitted S.Site site.old site.new self.old self.new batches.now result }
+        ensures untouched { batches.now ≡ [] → IsOk result × (self.new ≡ self.old)
+            × (site.new ≡ site.old) }
+    {
+        Ok(self.log.append_all(site, batches.bodies())?)
+    }
+
     /// Whether a snapshot would make opening cheaper: the bodies after the first are more than 1,048,576 bytes and
     /// more than the first, and the generation can still rise.
     pub fn wants_snapshot(&self) -> bool
         ensures { IsTrue result ↔ WantsSnapshot self.now.log.first self.now.log.behind
             self.now.log.generation }
     {
-        let behind = self.log.behind();
-        behind > MOST_BEHIND && behind > self.log.first() && self.log.generation() < u64::MAX
+        is_wanted(
+            self.log.first(),
+            self.log.behind(),
+            self.log.generation(),
+        )
+    }
+
+    /// Whether one would once these batches are committed.
+    pub fn wants_snapshot_after(&self, batches: &Batches) -> bool
+        ensures { IsTrue result ↔ WantsSnapshot
+            (first_after self.now.log.first (map batch_size batches.now))
+            (behind_after self.now.log.first self.now.log.behind (map batch_size batches.now))
+            self.now.log.generation }
+    {
+        let waiting = batches.bodies();
+        is_wanted(
+            self.log.first_after(waiting),
+            self.log.behind_after(waiting),
+            self.log.generation(),
+        )
     }
 
     /// Puts one batch of the store's rows in the place of all, in the slot that isn't live. A store of version 1
@@ -190,4 +233,12 @@ impl Store {
         }
         Ok(self.log.rewrite_in(site, rows.into_body())?)
     }
+}
+
+// Whether a snapshot is wanted of a store whose first body and those after it are so long.
+fn is_wanted(first: u64, behind: u64, generation: u64) -> bool
+    ensures { IsTrue result
+        ↔ ((1048576 < behind) × (first < behind) × (generation < 2 ^ 64 - 1)) }
+{
+    behind > MOST_BEHIND && behind > first && generation < u64::MAX
 }

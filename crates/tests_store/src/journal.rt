@@ -1,7 +1,7 @@
 //! `gate_log`: that its calls succeed where there is memory, and the bytes it writes.
 
 use crate::old_or_new;
-use gate_log::{Log, LogFault};
+use gate_log::{Bodies, Log, LogFault};
 use site_io::{MemSite, Site, Slot};
 use std::alloc::{AllocGlobal, Global};
 use std::process::Abort;
@@ -16,6 +16,12 @@ const ONE: [u8; 27] = [
 const TWO: [u8; 36] = [
     1, b'A', b'D', b'S', b'D', 2, 0, 0, 0, 0, 0, 0, 0, 1, 1, 0, 0, 0, 0, 0, 0, 0, 1, b'a', 1, 0, 0,
     0, 0, 0, 0, 0, 2, b'b', b'c', 0,
+];
+
+// A store of version 2 with the bodies "a", "bc", "" and "d".
+const FOUR: [u8; 55] = [
+    1, b'A', b'D', b'S', b'D', 2, 0, 0, 0, 0, 0, 0, 0, 1, 1, 0, 0, 0, 0, 0, 0, 0, 1, b'a', 1, 0, 0,
+    0, 0, 0, 0, 0, 2, b'b', b'c', 1, 0, 0, 0, 0, 0, 0, 0, 0, 1, 0, 0, 0, 0, 0, 0, 0, 1, b'd', 0,
 ];
 
 // A site in memory whose slot A has these bytes, and of whose calls these fail.
@@ -38,6 +44,45 @@ fn a_store_is_made_and_added_to(rt: HostRuntime) {
     let crash = site.crash(rt.alloc(), calls, 0).expect(&rt, "memory");
     assert!(rt; crash.a.as_slice() == TWO.as_slice());
     assert!(rt; crash.b.as_slice() == [0].as_slice());
+}
+
+// Makes a store of one body, and adds three at once.
+fn make_at_once(rt: &(impl Abort + AllocGlobal), site: &mut MemSite) {
+    let mut log = Log::create(rt.alloc(), site, b"a").expect(rt, "a store");
+    let mut more = Bodies::new(rt.alloc());
+    more.push(b"bc").expect(rt, "memory");
+    more.push(b"").expect(rt, "memory");
+    more.push(b"d").expect(rt, "memory");
+    assert!(rt; log.behind_after(&more) == 3);
+    log.append_all(site, &more).expect(rt, "three bodies more");
+    assert!(rt; log.behind() == 3);
+}
+
+#[test]
+fn several_bodies_are_added_by_the_calls_of_one(rt: HostRuntime) {
+    let mut site = over(&rt, &[], &[]);
+    make_at_once(&rt, &mut site);
+    let calls = site.calls();
+    assert!(rt; calls == 14);
+    let crash = site.crash(rt.alloc(), calls, 0).expect(&rt, "memory");
+    assert!(rt; crash.a.as_slice() == FOUR.as_slice());
+}
+
+// Adds no bodies.
+fn add_none(rt: &(impl Abort + AllocGlobal), site: &mut MemSite) {
+    let (mut log, _) = Log::resume(rt.alloc(), site).expect(rt, "a store");
+    let mut empty = Bodies::new(rt.alloc());
+    empty.push(b"b").expect(rt, "memory");
+    empty.clear();
+    assert!(rt; log.append_all(site, &empty) == Ok(()));
+}
+
+#[test]
+fn no_bodies_are_added_without_a_call(rt: HostRuntime) {
+    let mut site = over(&rt, &ONE, &[]);
+    add_none(&rt, &mut site);
+    let crash = site.crash(rt.alloc(), site.calls(), 0).expect(&rt, "memory");
+    assert!(rt; crash.a.as_slice() == ONE.as_slice());
 }
 
 // Opens a store of version 1 with one body, and writes it anew.

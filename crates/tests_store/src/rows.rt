@@ -2,7 +2,7 @@
 
 use ad_bytes::Bytes;
 use gate_log::Log;
-use row_store::{Row, Store, StoreFault};
+use row_store::{Batches, Row, Store, StoreFault};
 use site_io::MemSite;
 use std::alloc::{AllocGlobal, Global};
 use std::process::Abort;
@@ -77,6 +77,24 @@ fn are_shown(rt: &impl Abort, rows: &[Row]) {
 fn later_rows_win(rt: HostRuntime) {
     let mut site = nothing(&rt);
     make(&rt, &mut site);
+    let (_, rows) = Store::resume(rt.alloc(), &mut site).expect(&rt, "a store");
+    are_shown(&rt, rows.as_slice());
+}
+
+// Makes a store, and adds two batches at once.
+fn make_at_once(rt: &(impl Abort + AllocGlobal), site: &mut MemSite) {
+    let mut store = Store::create(rt.alloc(), site, &first(rt)).expect(rt, "a store");
+    let mut batches = Batches::new(rt.alloc());
+    batches.push(&first(rt)).expect(rt, "memory");
+    batches.push(&later(rt)).expect(rt, "memory");
+    assert!(rt; !store.wants_snapshot_after(&batches));
+    store.commit_all(site, &batches).expect(rt, "two batches");
+}
+
+#[test]
+fn later_rows_win_where_they_come_at_once(rt: HostRuntime) {
+    let mut site = nothing(&rt);
+    make_at_once(&rt, &mut site);
     let (_, rows) = Store::resume(rt.alloc(), &mut site).expect(&rt, "a store");
     are_shown(&rt, rows.as_slice());
 }
