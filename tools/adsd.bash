@@ -9,13 +9,13 @@ _adsd_stores() {
 
 _adsd() {
     local word=${COMP_WORDS[COMP_CWORD]} command=${COMP_WORDS[1]-}
-    local commands="access sddl change load serve settle check audit grants list effective token who can rights control reach diff sample"
+    local commands="access sddl change load serve host settle check audit grants list effective token who can rights control reach diff sample"
     COMPREPLY=()
     if [ "$COMP_CWORD" -eq 1 ]; then
         mapfile -t COMPREPLY < <(compgen -W "$commands help --help --version" -- "$word")
     elif [ "$command" = help ]; then
         [ "$COMP_CWORD" -eq 2 ] && mapfile -t COMPREPLY < <(compgen -W "$commands" -- "$word")
-    elif [ "$COMP_CWORD" -eq 2 ] && [[ " load serve settle check audit grants list effective token who can rights control reach diff sample " == *" $command "* ]]; then
+    elif [ "$COMP_CWORD" -eq 2 ] && [[ " load serve host settle check audit grants list effective token who can rights control reach diff sample " == *" $command "* ]]; then
         _adsd_stores "$word"
     elif [ "$COMP_CWORD" -eq 3 ] && [ "$command" = diff ]; then
         _adsd_stores "$word"

@@ -53,7 +53,7 @@ answer_without_program() {
 check_files() {
     local fault=
     case ${1-} in
-        load | sample | serve | settle) umask 077 && look_at_files write "${2-}" ;;
+        load | sample | serve | host | settle) umask 077 && look_at_files write "${2-}" ;;
         check | audit | grants | list | effective | token | who | can | rights | control | reach) look_at_files read "${2-}" ;;
         diff) look_at_files read "${2-}" "${3-}" ;;
     esac
@@ -112,7 +112,7 @@ fault_to_read() {
 # Long work tells how far it is, where somebody looks or asks: from beside, by a child that the program doesn't know.
 tell_progress() {
     case ${1-} in
-        load | serve | settle | check | audit | grants | list | effective | token | who | can | rights | control | reach | sample)
+        load | serve | host | settle | check | audit | grants | list | effective | token | who | can | rights | control | reach | sample)
             if [ "${ADSD_PROGRESS-}" = 1 ] || { [ -t 2 ] && [ "${ADSD_PROGRESS-}" != 0 ]; }; then
                 "$tools/progress" $$ "$@" </dev/null >/dev/null &
             fi

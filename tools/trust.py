@@ -11,7 +11,7 @@ SEEN = [("site_io", "Source"), ("site_io", "Site")]
 # The commands that share what a file is for: it stands in the first of these lists, else with each command by itself.
 PLAIN = ("access", "sddl", "change")
 MAKING = ("load", "sample")
-SERVING = ("audit", "sample", "serve")
+SERVING = ("audit", "host", "sample", "serve")
 
 
 def wrapped(line):
@@ -86,7 +86,7 @@ def faults(writes):
         ("Every command", list(reached)),
         ("Every command over a store", [word for word in reached if word not in PLAIN]),
         ("Every command over a store that is there", [word for word in reached if word not in PLAIN + MAKING]),
-        ("`audit`, `sample` and `serve`, which answer frames,", list(SERVING)),
+        ("`audit`, `host`, `sample` and `serve`, which answer frames,", list(SERVING)),
     ]
     lines, shared = [], {word: set() for word in reached}
 

@@ -95,7 +95,7 @@ class Faults:
             return
         allowed = [0, 5] if error == "EINTR" else [4 if event.what == "take" else 5]
         self.judge(f"{what} {error}", status, said, events, allowed)
-        if status == 4 and trial.start.words[0] == "serve" and said != self.answers_to_taken(events):
+        if status == 4 and trial.start.words[0] in ("serve", "host") and said != self.answers_to_taken(events):
             self.wrong.append(f"{what}: {len(said)} bytes were said, not the answers to the frames that were whole")
 
     def answers_to_taken(self, events):

@@ -42,12 +42,14 @@ class Start:
     """The slots, the words and the input of a call; the slots behind n of its frames (or steps), n rising; whether a
     store that stands for no directory counts as the state behind none; whether one answer stands for all.
 
+    Whether frames that came together are committed together, as by `host`: then a crash may leave all of them.
+
     What the slots held at their last sync, and the writes since then, which a crash may take back until the next one;
     and how many states lie before that of the slots."""
 
     def __init__(self, slots, words, given=b"", states=(), none=False, once=False):
         self.slots, self.words, self.given, self.states = slots, words, given, list(states)
-        self.none, self.once = none, once
+        self.none, self.once, self.together = none, once, False
         self.synced, self.unsynced, self.before = slots, (), 0
 
     def with_gate_unsynced(self, old, at):
@@ -91,6 +93,14 @@ class Starts:
     def serve(self):
         stream = FEW if self.short else os.path.join(program.TOP, "cases/crash.txt")
         return self.served(self.base(), stream)
+
+    def host(self):
+        return self.hosted(self.serve())
+
+    def hosted(self, start):
+        """The same by `host`."""
+        start.words, start.together = ("host", "S"), True
+        return start
 
     def check(self):
         slots = self.base()
@@ -148,6 +158,12 @@ class Starts:
     def snapshot(self):
         lines = [TOKEN, f"modify 1 dn='{BOB}' replace:description='behind it'", SEARCH]
         return self.served(self.grown(), lines)
+
+    def host_snapshot(self):
+        return self.hosted(self.snapshot())
+
+    def host_unsynced(self):
+        return self.hosted(self.unsynced())
 
     def snapshot_settle(self):
         slots = self.grown([CHANGE_ROOT])

@@ -5,8 +5,8 @@ from . import images, journal, program, record
 from .starts import Starts
 
 KINDS = ("load", "serve", "settle", "unsynced", "unsynced-settle", "migrate", "snapshot", "snapshot-settle", "torn",
-         "version-1", "version-1-over", "large")
-SHORT = KINDS[:8]
+         "version-1", "version-1-over", "large", "host", "host-snapshot", "host-unsynced")
+SHORT = (*KINDS[:8], "host", "host-snapshot")
 COLUMNS = ("disks", "empty", "broken", "behind m", "further", "wrong")
 
 
@@ -73,10 +73,9 @@ class Trial:
         last = len(self.states) - 1
         if self.start.once:
             return (last if emitted else 0), last
-        if emitted == 0:
-            return 0, min(self.start.before + 1, last)
         count, at = program.whole_answers(self.said[:emitted])
-        return self.start.before + count + (at < emitted), min(self.start.before + count + 1, last)
+        least = 0 if emitted == 0 else self.start.before + count + (at < emitted)
+        return least, last if self.start.together else min(self.start.before + count + 1, last)
 
     def column(self, slots, emitted):
         """Where a disk is counted, and what is wrong with it."""

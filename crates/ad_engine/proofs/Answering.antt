@@ -248,3 +248,13 @@ pub served_as : {S T : Type 0} (site : Ghosts S) (a b : Answered) (engine change
     → Serves site a engine changed x y outcome → Serves site b engine changed x y outcome
 served_as site a b engine changed x y outcome same served
     = subst (λ (z : Answered). Serves site z engine changed x y outcome) same served
+
+-- ---- want of memory
+
+-- is no fault of the site
+pub never_site : {T : Type 0} (outcome : Result T EngineFault) (e : EngineFault) → outcome ≡ Err e → e ≡ Memory
+    → IsErrOf outcome Site → ⊥
+never_site {T} outcome e is memory site = differ (sym memory ∙ err_same {T = T} e Site (sym is ∙ site))
+  where
+    differ : Memory ≡ Site → ⊥
+    differ same = absurd cc

@@ -1,10 +1,11 @@
 //! An engine: a store that is open, over which frames are served.
 
-ghost use Rattle.std.specs.Prelude.{◌≡◌, ◌↔◌, ◌<◌, [], true, false, IfSome, IfOk, OnOk, IsErr, IsErrOf};
+ghost use Rattle.std.specs.Prelude.{◌≡◌, ◌↔◌, ◌<◌, [], None, true, false, IfSome, IfOk, OnOk, IsErr, IsErrOf};
 ghost use Rattle.site_io.specs.Counts.{HasRisen};
 ghost use Rattle.site_io.specs.Outside.{OnlyLooks, TouchesSlots};
 ghost use Rattle.gate_log.specs.Store.{IsOne};
 ghost use Rattle.gate_log.specs.declared.version.Version.TheVariants.{Two};
+ghost use Rattle.ad_dir_model.specs.Directory.{Directory};
 ghost use Rattle.ad_dir_model.specs.Soundness.{IsSound};
 ghost use Rattle.ad_dir_model.specs.Steps.{EmptiesAfter, steps};
 ghost use Rattle.ad_engine_store.specs.Bound.{IsBounded};
@@ -12,16 +13,19 @@ ghost use Rattle.ad_engine_store.specs.Created.{IsCreated};
 ghost use Rattle.ad_engine_store.specs.Opening.{IsOpenedAs, AnswersFor};
 ghost use Rattle.ad_engine_store.specs.Serving.{LeavesDir, LeavesOldOrNew, LastsOn};
 ghost use Rattle.ad_engine_store.specs.Settling.{LastsAs, LeavesSteps};
+ghost use Rattle.ad_engine_store.specs.Staging.{IsAhead};
 ghost use Rattle.ad_engine_store.specs.Standing.{StandsIn};
 ghost use Rattle.ad_engine_store.specs.Tokens.{token_of};
 ghost use Rattle.ad_engine.specs.Answer.{answer};
+ghost use Rattle.ad_engine.specs.Waiting.{AnswersAhead, IsLeft};
 
 use crate::serving::serve;
+use crate::waiting::{answer_ahead, commit_all};
 use ad_dir::Dir;
 use ad_engine_store::{DirStore, EngineFault, OpenFault};
 use ad_frames::Frame;
 use ad_ids::Token;
-use row_store::Store;
+use row_store::{Batches, Store};
 use site_io::Site;
 use std::alloc::Global;
 use std::marker::Model;
@@ -235,6 +239,73 @@ impl Engine {
             (S.slot_faults site.new) }
     {
         serve(&mut self.opened, site, frame)
+    }
+
+    /// Answers a frame in memory, and gives the whole frame that answers it; what it changes waits to be committed. The
+    /// answer is to be emitted after that ([`commit`](Engine::commit)). None comes where the frame can't wait: for
+    /// steps and a run, and for a message where the store wants a snapshot. Then nothing is done.
+    ///
+    /// # Errors
+    ///
+    /// `Spent` exactly where an earlier call on this engine answered a fault. `Memory` where there is no memory. After
+    /// a fault nothing is said of the engine's directory and of its tokens; the store is to be opened again, and
+    /// represents the directory that was committed last.
+    pub fn answer_frame(
+        &mut self,
+        waiting: &mut Batches,
+        frame: &Frame,
+    ) -> Result<Option<Vec<u8>>, EngineFault>
+        requires { self.old.spent ≡ false → IsSound self.old.dir }
+        // The output, the directory and the tokens are those that the rules give.
+        ensures output { IfOk result (λ answered. IfSome answered
+            (λ output. output.items ≡ (answer self.old.dir self.old.tokens frame.now).output)) }
+        ensures ahead { IfOk result (λ answered. IfSome answered (λ output. AnswersAhead
+            (answer self.old.dir self.old.tokens frame.now) self.old.dir self.new.dir self.new.tokens
+            waiting.old waiting.new)) }
+        ensures left { IfOk result (λ answered. answered ≡ None
+            → IsLeft self.old.dir self.new.dir self.old.tokens self.new.tokens waiting.old waiting.new) }
+        ensures store { self.new.store ≡ self.old.store }
+        ensures spent { IsErrOf result EngineFault.Spent ↔ self.old.spent ≡ true }
+        ensures marks { self.new.spent ≡ true ↔ IsErr result }
+        ensures faults { ¬ IsErrOf result EngineFault.Site }
+    {
+        answer_ahead(&mut self.opened, waiting, frame)
+    }
+
+    /// Commits all that waits behind one pair of syncs, a record each in the journal. Nothing is emitted. At each
+    /// moment a crash leaves what it could leave as the call began, or a store of the directory that was committed
+    /// last or of the one in memory. Where nothing waits the site isn't touched.
+    ///
+    /// # Errors
+    ///
+    /// `Spent` exactly where an earlier call on this engine answered a fault. `Site` where the site failed, which its
+    /// count tells. `Memory` where there is no memory. After a fault the store is to be opened again.
+    pub fn commit<S: Site>(&mut self, site: &mut S, waiting: &Batches) -> Result<(), EngineFault>
+        requires { self.old.spent ≡ false → (base : Directory)
+            × IsAhead self.old.store self.old.dir waiting.now base
+            (S.reads site.old) (S.now site.old) (S.left site.old) }
+        // The store holds the directory in memory, and each crash from then on leaves it, if each crash left the one
+        // that was committed last before.
+        ensures stands { StandsIn self.new (S.reads site.new) (S.now site.new) (S.left site.new) }
+        ensures every_crash { OnOk result ((base : Directory)
+            → IsAhead self.old.store self.old.dir waiting.now base
+            (S.reads site.old) (S.now site.old) (S.left site.old)
+            → LastsOn S.Site base self.old.dir site.old site.new) }
+        ensures any_moment { (base : Directory)
+            → IsAhead self.old.store self.old.dir waiting.now base (S.reads site.old)
+            (S.now site.old) (S.left site.old) → LeavesOldOrNew base self.old.dir
+            (S.reads site.old) (S.now site.old) (S.now site.new) (S.left site.old)
+            (S.left site.new) }
+        ensures untouched { waiting.now ≡ [] → site.new ≡ site.old }
+        ensures dir { self.new.dir ≡ self.old.dir }
+        ensures tokens { self.new.tokens ≡ self.old.tokens }
+        ensures spent { IsErrOf result EngineFault.Spent ↔ self.old.spent ≡ true }
+        ensures marks { self.new.spent ≡ true ↔ IsErr result }
+        ensures outside { TouchesSlots S.Site site.old site.new }
+        ensures cause { IsErrOf result EngineFault.Site → HasRisen (S.slot_faults site.old)
+            (S.slot_faults site.new) }
+    {
+        commit_all(&mut self.opened, site, waiting)
     }
 
     /// The directory. After a call that answered a fault nothing is said of it.

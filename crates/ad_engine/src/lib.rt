@@ -30,6 +30,7 @@
 
 mod engine;
 mod serving;
+mod waiting;
 
 pub use ad_engine_store::{EngineFault, OpenFault};
 pub use engine::Engine;

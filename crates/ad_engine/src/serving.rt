@@ -25,14 +25,14 @@ use std::alloc::AllocError;
 
 const TOKEN_OUTPUT: u8 = 0x81;
 
-const REPLY_OUTPUT: u8 = 0x82;
+pub(crate) const REPLY_OUTPUT: u8 = 0x82;
 
 const STEPS_OUTPUT: u8 = 0x83;
 
 const RUN_OUTPUT: u8 = 0x84;
 
 // Takes the connection's token away, where that is to be done.
-fn clear_if(drops: bool, tokens: &mut Tokens, connection: u16)
+pub(crate) fn clear_if(drops: bool, tokens: &mut Tokens, connection: u16)
     ensures { tokens.new ≡ (if drops then without_token connection tokens.old else tokens.old) }
 {
     if drops {
@@ -41,14 +41,18 @@ fn clear_if(drops: bool, tokens: &mut Tokens, connection: u16)
 }
 
 // The edits alone.
-fn edits_of(decided: Decided) -> List<Edit>
+pub(crate) fn edits_of(decided: Decided) -> List<Edit>
     ensures { result ≡ decided.edits }
 {
     decided.edits
 }
 
 // A token of a connection.
-fn serve_token(engine: &mut DirStore, connection: u16, token: &Token) -> Result<Vec<u8>, AllocError>
+pub(crate) fn serve_token(
+    engine: &mut DirStore,
+    connection: u16,
+    token: &Token,
+) -> Result<Vec<u8>, AllocError>
     ensures output { IfOk result (λ output. output.items ≡ token_output connection) }
     ensures tokens { OnOk result
         (engine.new.tokens ≡ with_token connection token.now engine.old.tokens) }

@@ -5,4 +5,5 @@ pub mod Made
 pub mod Commits
 pub mod CommitLaws
 pub mod Rewriting
+pub mod Staging
 pub mod TokenLaws

@@ -7,3 +7,4 @@ pub mod Serving
 pub mod Bound
 pub mod Tokens
 pub mod Stepping
+pub mod Staging

@@ -38,6 +38,7 @@ mod laws;
 mod parts;
 mod settling;
 mod snapshots;
+mod staging;
 mod stepping;
 mod tokens;
 

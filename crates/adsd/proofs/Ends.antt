@@ -13,7 +13,7 @@ use Rattle.cmd_call.specs.Store.{HasFailed}
 use Rattle.cmd_store_serve.specs.Outcome.{IsOfSample}
 use Rattle.cmd_words.specs.declared.command.Command.{Command}
 use Rattle.cmd_words.specs.Command.{CommandValue, value_of}
-use Rattle.cmd_words.specs.Command.CommandValue.{Access, Sddl, Change, Load, Serve, Settle, Check, Audit, Grants}
+use Rattle.cmd_words.specs.Command.CommandValue.{Access, Sddl, Change, Load, Serve, Host, Settle, Check, Audit, Grants}
 use Rattle.cmd_words.specs.Command.CommandValue.{Listing, Effective, Token, Who, Can, Rights, Control, Reach, Diff, Sample}
 use Rattle.cmd_words.specs.Table.{has_store, may_end, is_among, other_store_of}
 use Rattle.adsd.specs.Commands.{Rules, CommandDoes, Does}
@@ -51,6 +51,7 @@ not_two Sddl = refl
 not_two Change = refl
 not_two (Load store) = refl
 not_two (Serve store) = refl
+not_two (Host store) = refl
 not_two (Settle store) = refl
 not_two (Check store) = refl
 not_two (Audit store) = refl
@@ -258,6 +259,7 @@ module _ {I S T : Type 0} (source : SourceGhosts I) (site : SiteGhosts S) (other
   alone Change from to old new before after outcome one r = ((r.0, refl), r.1)
   alone (Load store) from to old new before after outcome one r = ((r.0, refl), r.1)
   alone (Serve store) from to old new before after outcome one r = ((r.0, refl), r.1)
+  alone (Host store) from to old new before after outcome one r = ((r.0, refl), r.1)
   alone (Settle store) from to old new before after outcome one r = ((r.0, r.1, refl), r.2)
   alone (Check store) from to old new before after outcome one r = ((r.0, r.1, refl), r.2)
   alone (Audit store) from to old new before after outcome one r = ((r.0, refl), r.1)

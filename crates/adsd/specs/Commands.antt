@@ -13,6 +13,7 @@ use Rattle.cmd_change.specs.Change.{ChangeDoes}
 use Rattle.cmd_control.specs.Controls.{ControlDoes, ReachDoes}
 use Rattle.cmd_diff.specs.Compares.{DiffDoes}
 use Rattle.cmd_grants.specs.Grants.{GrantsDoes}
+use Rattle.cmd_host.specs.Does.{HostDoes}
 use Rattle.cmd_who.specs.Asks.{TokenDoes, WhoDoes, CanDoes}
 use Rattle.cmd_rights.specs.Rights.{RightsDoes}
 use Rattle.cmd_plain.specs.Access.{AccessDoes}
@@ -25,7 +26,7 @@ use Rattle.cmd_store_serve.specs.Sample.{SampleDoes}
 use Rattle.cmd_store.specs.Settle.{SettleDoes}
 use Rattle.cmd_store_serve.specs.serving.Does.{ServeDoes}
 use Rattle.cmd_words.specs.Command.{CommandValue}
-use Rattle.cmd_words.specs.Command.CommandValue.{Access, Sddl, Change, Load, Serve, Settle, Check, Audit, Grants}
+use Rattle.cmd_words.specs.Command.CommandValue.{Access, Sddl, Change, Load, Serve, Host, Settle, Check, Audit, Grants}
 use Rattle.cmd_words.specs.Command.CommandValue.{Listing, Effective, Token, Who, Can, Rights, Control, Reach, Diff, Sample}
 use Rattle.cmd_words.specs.Table.{has_store, may_end}
 
@@ -51,6 +52,8 @@ module _ {I S T : Type 0} (source : SourceGhosts I) (site : SiteGhosts S) (other
   Rules (Load store) from to old new before after outcome = LoadDoes source site from to old new outcome
       × (after ≡ before)
   Rules (Serve store) from to old new before after outcome = ServeDoes source site from to old new outcome
+      × (after ≡ before)
+  Rules (Host store) from to old new before after outcome = HostDoes source site from to old new outcome
       × (after ≡ before)
   Rules (Settle store) from to old new before after outcome = SettleDoes site old new outcome × (to ≡ from)
       × (after ≡ before)

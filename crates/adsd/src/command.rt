@@ -9,6 +9,7 @@ use cmd_change::change;
 use cmd_control::{control, reach};
 use cmd_diff::diff;
 use cmd_grants::grants;
+use cmd_host::host;
 use cmd_plain::{access, sddl};
 use cmd_rights::rights;
 use cmd_store::{check, effective, list, load, settle};
@@ -32,6 +33,8 @@ use std::alloc::Global;
 ///   it changes and before the next one is read. The slots are synced first: until then nothing is emitted, and from
 ///   then on a crash at any moment leaves a store that represents the directory after a prefix of the frames, among
 ///   which is each of whose answer a byte was emitted.
+/// - `host STORE`: as `serve`, but all frames that stand whole in what one take of the input brought are answered
+///   behind one pair of syncs, and their answers are emitted by one call, before more is taken.
 /// - `settle STORE`: steps of propagation are made until nothing is pending, and what is emitted is how many there
 ///   were. The input isn't read. The slots are synced first: until then nothing is emitted, and from then on a crash
 ///   at any moment leaves a store that represents the directory after some number of steps. Slots that represent no
@@ -88,6 +91,7 @@ pub fn run_command<I: Source, S: Site, T: Site>(
         Command::Change => change(alloc, source, site),
         Command::Load { .. } => load(alloc, source, site),
         Command::Serve { .. } => serve(alloc, source, site),
+        Command::Host { .. } => host(alloc, source, site),
         Command::Settle { .. } => settle(alloc, site),
         Command::Check { .. } => check(alloc, site),
         Command::Audit { .. } => audit(alloc, source, site),

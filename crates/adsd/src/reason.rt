@@ -53,7 +53,7 @@ fn is_near(alloc: Global, word: &str, name: &str) -> bool {
 
 // The number of the form whose command's name is nearest to a word, where one is near.
 fn nearest(alloc: Global, word: &str) -> Option<usize>
-    ensures { IfSome result (λ i. i < 17) }
+    ensures { IfSome result (λ i. i < 20) }
 {
     for i in 0..FORMS.len() {
         if is_near(alloc, word, FORMS[i].0) {

@@ -13,6 +13,7 @@ pub data CommandValue : Type 0 where
   Change : CommandValue
   Load : (store : List ℕ) → CommandValue
   Serve : (store : List ℕ) → CommandValue
+  Host : (store : List ℕ) → CommandValue
   Settle : (store : List ℕ) → CommandValue
   Check : (store : List ℕ) → CommandValue
   Audit : (store : List ℕ) → CommandValue
@@ -34,6 +35,7 @@ value_of code.Sddl = Sddl
 value_of code.Change = Change
 value_of (code.Load store) = Load store.now
 value_of (code.Serve store) = Serve store.now
+value_of (code.Host store) = Host store.now
 value_of (code.Settle store) = Settle store.now
 value_of (code.Check store) = Check store.now
 value_of (code.Audit store) = Audit store.now
@@ -56,6 +58,7 @@ HasSize code.Sddl = Unit {0}
 HasSize code.Change = Unit {0}
 HasSize (code.Load store) = Unit {0}
 HasSize (code.Serve store) = Unit {0}
+HasSize (code.Host store) = Unit {0}
 HasSize (code.Settle store) = Unit {0}
 HasSize (code.Check store) = Unit {0}
 HasSize (code.Audit store) = Unit {0}

@@ -3,7 +3,7 @@ use Rattle.std.specs.Prelude.{ℕ, List, [], ◌∷◌, codes, Option, Some, Non
 use Rattle.std.specs.Str.{bytes_eq}
 use Rattle.cmd_words.specs.Size.{size_of}
 use Rattle.cmd_words.specs.Command.{CommandValue}
-use Rattle.cmd_words.specs.Command.CommandValue.{Access, Sddl, Change, Load, Serve, Settle, Check, Audit, Grants}
+use Rattle.cmd_words.specs.Command.CommandValue.{Access, Sddl, Change, Load, Serve, Host, Settle, Check, Audit, Grants}
 use Rattle.cmd_words.specs.Command.CommandValue.{Listing, Effective, Token, Who, Can, Rights, Control, Reach, Diff, Sample}
 
 -- one word alone
@@ -19,11 +19,12 @@ abbrev pub with_store : List ℕ → List ℕ → Option CommandValue
 with_store word store =
     if bytes_eq word (codes "load") then Some (Load store)
     else (if bytes_eq word (codes "serve") then Some (Serve store)
+    else (if bytes_eq word (codes "host") then Some (Host store)
     else (if bytes_eq word (codes "settle") then Some (Settle store)
     else (if bytes_eq word (codes "check") then Some (Check store)
     else (if bytes_eq word (codes "audit") then Some (Audit store)
     else (if bytes_eq word (codes "grants") then Some (Grants store)
-    else None)))))
+    else None))))))
 
 -- two stores, of which the second one isn't empty either
 abbrev pub with_other : List ℕ → List ℕ → Option CommandValue

@@ -1,7 +1,7 @@
 -- What stands of each command: how it opens its stores, which these are, and with which statuses it may end.
 use Rattle.std.specs.Prelude.{ℕ, ◌==◌, Bool, false, ◌||◌, List, [], ◌∷◌, Option, Some, None, is_some}
 use Rattle.cmd_words.specs.Command.{CommandValue}
-use Rattle.cmd_words.specs.Command.CommandValue.{Access, Sddl, Change, Load, Serve, Settle, Check, Audit, Grants}
+use Rattle.cmd_words.specs.Command.CommandValue.{Access, Sddl, Change, Load, Serve, Host, Settle, Check, Audit, Grants}
 use Rattle.cmd_words.specs.Command.CommandValue.{Listing, Effective, Token, Who, Can, Rights, Control, Reach, Diff, Sample}
 use Rattle.cmd_words.specs.declared.command.Opening.{Opening}
 use Rattle.cmd_words.specs.declared.command.Opening.TheVariants.{NoStore, Makes, Writes, Reads}
@@ -12,6 +12,7 @@ opening_of Sddl = NoStore
 opening_of Change = NoStore
 opening_of (Load store) = Makes
 opening_of (Serve store) = Writes
+opening_of (Host store) = Writes
 opening_of (Settle store) = Writes
 opening_of (Check store) = Reads
 opening_of (Audit store) = Reads
@@ -34,6 +35,7 @@ store_of Sddl = None
 store_of Change = None
 store_of (Load store) = Some store
 store_of (Serve store) = Some store
+store_of (Host store) = Some store
 store_of (Settle store) = Some store
 store_of (Check store) = Some store
 store_of (Audit store) = Some store
@@ -56,6 +58,7 @@ other_store_of Sddl = None
 other_store_of Change = None
 other_store_of (Load store) = None
 other_store_of (Serve store) = None
+other_store_of (Host store) = None
 other_store_of (Settle store) = None
 other_store_of (Check store) = None
 other_store_of (Audit store) = None
@@ -83,6 +86,7 @@ statuses_of Sddl = 0 ∷ 1 ∷ 4 ∷ 5 ∷ 6 ∷ []
 statuses_of Change = 0 ∷ 1 ∷ 4 ∷ 5 ∷ 6 ∷ []
 statuses_of (Load store) = 0 ∷ 1 ∷ 3 ∷ 4 ∷ 5 ∷ 6 ∷ []
 statuses_of (Serve store) = 0 ∷ 1 ∷ 3 ∷ 4 ∷ 5 ∷ 6 ∷ 7 ∷ []
+statuses_of (Host store) = 0 ∷ 1 ∷ 3 ∷ 4 ∷ 5 ∷ 6 ∷ 7 ∷ []
 statuses_of (Settle store) = 0 ∷ 3 ∷ 5 ∷ 6 ∷ []
 statuses_of (Check store) = 0 ∷ 3 ∷ 5 ∷ 6 ∷ []
 statuses_of (Audit store) = 0 ∷ 1 ∷ 3 ∷ 4 ∷ 5 ∷ 6 ∷ 7 ∷ []

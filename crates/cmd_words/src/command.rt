@@ -22,6 +22,10 @@ pub enum Command<'a> {
     Serve {
         store: &'a str,
     },
+    /// Frames are answered, those that come together behind one pair of syncs.
+    Host {
+        store: &'a str,
+    },
     /// Steps of propagation are made until nothing is pending.
     Settle {
         store: &'a str,
@@ -116,7 +120,9 @@ impl<'a> Command<'a> {
         match self {
             Command::Access | Command::Sddl | Command::Change => Opening::NoStore,
             Command::Load { .. } | Command::Sample { .. } => Opening::Makes,
-            Command::Serve { .. } | Command::Settle { .. } => Opening::Writes,
+            Command::Serve { .. } | Command::Host { .. } | Command::Settle { .. } => {
+                Opening::Writes
+            }
             _ => Opening::Reads,
         }
     }
@@ -129,6 +135,7 @@ impl<'a> Command<'a> {
             Command::Access | Command::Sddl | Command::Change => None,
             Command::Load { store }
             | Command::Serve { store }
+            | Command::Host { store }
             | Command::Settle { store }
             | Command::Check { store }
             | Command::Audit { store }

@@ -1,12 +1,13 @@
 //! The forms of the words as they are told: what help, completion and the documents say is made of them or compared.
 
 /// Each command's name, and the words after it.
-pub static FORMS: [(&str, &str); 19] = [
+pub static FORMS: [(&str, &str); 20] = [
     ("access", ""),
     ("sddl", ""),
     ("change", ""),
     ("load", " STORE"),
     ("serve", " STORE"),
+    ("host", " STORE"),
     ("settle", " STORE"),
     ("check", " STORE"),
     ("audit", " STORE"),

@@ -36,6 +36,8 @@ fn with_store<'a>(word: &str, store: &'a str) -> Option<Command<'a>>
         Some(Command::Load { store })
     } else if word == "serve" {
         Some(Command::Serve { store })
+    } else if word == "host" {
+        Some(Command::Host { store })
     } else if word == "settle" {
         Some(Command::Settle { store })
     } else if word == "check" {

@@ -36,6 +36,12 @@ returns-in-Serve g c =
     c.serve.new.site c.args.other.now c.serve.result c.in-Serve.is (c.serve.ensures.does, refl) refl (of_serve
     c.serve.result c.serve.ensures.does.only) c.serve.ensures.source_failed c.serve.ensures.site_failed
 
+pub returns-in-Host : goal.returns-in-Host
+returns-in-Host g c =
+    reading g.I.Source g.S.Site g.T.Site c.args.command.now _ c.args.source.now c.host.new.source c.args.site.now
+    c.host.new.site c.args.other.now c.host.result c.in-Host.is (c.host.ensures.does, refl) refl (of_serve
+    c.host.result c.host.ensures.does.only) c.host.ensures.source_failed c.host.ensures.site_failed
+
 pub returns-in-Settle : goal.returns-in-Settle
 returns-in-Settle g c =
     deaf g.I.Source g.S.Site g.T.Site c.args.command.now _ c.args.source.now c.args.site.now c.settle.new.site

@@ -1,0 +1,11 @@
+pub mod Known
+pub mod Moments
+pub mod Puts
+pub mod Hosting
+pub mod Steps
+pub mod Ending
+pub mod Loop
+pub mod Told
+pub mod Ended
+pub mod Taking
+pub mod Unopened
