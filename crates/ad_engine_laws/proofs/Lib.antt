@@ -7,3 +7,4 @@ pub mod Staying
 pub mod Leaving
 pub mod Taking
 pub mod Granting
+pub mod Logging

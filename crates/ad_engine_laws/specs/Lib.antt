@@ -3,3 +3,4 @@ pub mod Reads
 pub mod Results
 pub mod Granted
 pub mod Log
+pub mod Logged

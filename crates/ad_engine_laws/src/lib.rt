@@ -12,7 +12,9 @@
 //! # Proved
 //!
 //! What a frame is answered leaves a sound directory sound. A message that is refused or only asks changes nothing.
-//! A message that changes something is granted each right that its operation requires.
+//! A message that changes something is granted each right that its operation requires. And it leaves its events: each
+//! of these rights was tried with success, and has its line in the log where the SACL of its object asks for it. No
+//! line is there without its trial.
 //! Machines that took the same entries of one log have one directory and gave the same answers. Who hasn't bound is
 //! judged by the same token here as where rights are asked for.
 //!
@@ -25,11 +27,13 @@
 //! Nothing runs.
 #![tactic(auto)]
 
+mod auditing;
 mod refusing;
 mod replicas;
 mod soundness;
 mod unbound;
 
+pub use auditing::a_change_leaves_its_events;
 pub use refusing::{
     a_change_is_granted, a_message_changes_only_where_it_succeeds,
     a_refused_message_changes_nothing, what_changes_nothing,

@@ -57,7 +57,8 @@ one_agrees dir sd n live = put_agrees dir (stored dir (putting dir sd n)) (putti
 
 -- ---- one after the other
 
-stay_live : (dir : Directory) (o : Object) (ns : List ℕ) → AllByRecursion (λ (n : ℕ). is_live dir.objects n ≡ true) ns
+pub stay_live : (dir : Directory) (o : Object) (ns : List ℕ)
+    → AllByRecursion (λ (n : ℕ). is_live dir.objects n ≡ true) ns
     → AllByRecursion (λ (n : ℕ). is_live (stored dir o).objects n ≡ true) ns
 unfolding stored
 stay_live dir o [] live = tt

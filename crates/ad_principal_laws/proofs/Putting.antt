@@ -131,7 +131,7 @@ neither_one : (a b : Bool) → (a || b) ≡ false → (a ≡ false) × (b ≡ fa
 neither_one true b is = absurd cc
 neither_one false b is = (refl, is)
 
-items_leave : (dir : Directory) (attr : ℕ) (values : List Held) (items : List ActItem)
+pub items_leave : (dir : Directory) (attr : ℕ) (values : List Held) (items : List ActItem)
     → is_item_named items attr ≡ false → stored_in values attr ≡ stored_in (after_items dir values items) attr
 unfolding after_items after_item
 items_leave dir attr values [] none = refl
@@ -243,7 +243,7 @@ pending_rises dir [] rise = rise
 pending_rises dir (head ∷ others) rise =
     next_rises dir head others (next_child dir.objects head.parent head.cursor) rise refl
 
-step_rises : (dir : Directory) → Rise dir.objects → Rise (step dir).objects
+pub step_rises : (dir : Directory) → Rise dir.objects → Rise (step dir).objects
 unfolding step
 step_rises dir rise = pending_rises dir dir.pending rise
 

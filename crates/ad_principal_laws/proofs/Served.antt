@@ -52,7 +52,7 @@ modify_target dir token m flags rise none =
     let seen = head_holds _ _ reads.1 in
     named_live dir token m.dn rise seen.0
 
-rename_leaves : (dir after : Directory) (token : Token) (r : Rename) (s : Settings) → Rise dir.objects
+pub rename_leaves : (dir after : Directory) (token : Token) (r : Rename) (s : Settings) → Rise dir.objects
     → effect dir token (RenameOf r) s ≡ changes_to after → AgreeOnTokens dir after
 unfolding effect verdict_of
 rename_leaves dir after token r s rise e =
@@ -74,7 +74,7 @@ modify_leaves dir after token m s rise none e =
 -- ---- a message
 
 -- the directory from then on
-abbrev after_of : Directory → Decision → Directory
+abbrev pub after_of : Directory → Decision → Directory
 after_of dir d = unwrap_or d.change dir
 
 by_change : (dir : Directory) (id tag : ℕ) (made : Effect)

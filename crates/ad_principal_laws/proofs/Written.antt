@@ -1,5 +1,5 @@
 -- A Modify that changes the directory was granted the write of each attribute that it names.
-use Rattle.std.proofs.Common.{◌≡◌, ℕ, Bool, true, false, List, [], ◌∷◌, ◌++◌, map, Option, Some, None, refl, sym, ap}
+use Rattle.std.proofs.Common.{◌≡◌, ℕ, Bool, true, false, List, [], ◌∷◌, ◌++◌, Option, Some, None, sym, ap}
 use Rattle.std.proofs.Common.{subst, ◌∙◌}
 use Rattle.std.specs.Prelude.{if◌then◌else◌}
 use Rattle.std.specs.List.{AllByRecursion, list_any}
@@ -17,7 +17,7 @@ use Rattle.ad_needs_rules.specs.Checks.{first_failing, or_missing, all_met}
 use Rattle.ad_needs_rules.specs.Requests.{number_named, is_descriptor}
 use Rattle.ad_needs_rules.specs.Modifying.{is_item_of, items_of, written_sd, password_needs, descriptor_needs}
 use Rattle.ad_needs_rules.specs.Modifying.{attr_needs, ordinary_needs, item_needs, needs_behind, modify_needs}
-use Rattle.ad_needs_rules.specs.Modifying.{item_checks, modify_checks, modify_act}
+use Rattle.ad_needs_rules.specs.Modifying.{modify_checks, modify_act}
 use Rattle.ad_needs_rules.specs.Verdicts.{verdict_of}
 use Rattle.ad_needs_rules.proofs.FirstFailing.{head_holds, both_hold}
 use Rattle.ad_change.specs.Effects.{changes_to, effect}
@@ -26,15 +26,15 @@ use Rattle.ad_change.proofs.EffectSound.{effect_is}
 -- ---- requirements that are met
 
 -- none fails
-abbrev AreMet : Directory → Token → List (List Alternative) → Type 0
+abbrev pub AreMet : Directory → Token → List (List Alternative) → Type 0
 AreMet dir token required = first_failing (all_met dir token required) ≡ None
 
-both_met : (dir : Directory) (token : Token) (xs ys : List (List Alternative)) → AreMet dir token (xs ++ ys)
+pub both_met : (dir : Directory) (token : Token) (xs ys : List (List Alternative)) → AreMet dir token (xs ++ ys)
     → AreMet dir token xs × AreMet dir token ys
 both_met dir token xs ys met = both_hold (all_met dir token xs) (all_met dir token ys)
     (ap first_failing (sym (map-append (or_missing dir token) xs ys)) ∙ met)
 
-each_met : (dir : Directory) (token : Token) (required : List (List Alternative)) → AreMet dir token required
+pub each_met : (dir : Directory) (token : Token) (required : List (List Alternative)) → AreMet dir token required
     → AllByRecursion (λ requirement. is_met dir token requirement ≡ true) required
 each_met dir token [] met = tt
 each_met dir token (requirement ∷ required) met =
@@ -58,7 +58,7 @@ needs_at dir token number flags items earlier (x ∷ before) others item first m
     (ap (list_any (is_item_of item.attr)) (append_assoc earlier (x ∷ []) before) ∙ first)
     (both_met dir token _ _ met).1
 
-ordinary_met : (dir : Directory) (token : Token) (number flags attr : ℕ) (items : List Item) (item : Item)
+pub ordinary_met : (dir : Directory) (token : Token) (number flags attr : ℕ) (items : List Item) (item : Item)
     → is_descriptor item.attr ≡ false → is_password item.attr ≡ false → attr_place dir.schema item.attr ≡ Some attr
     → AreMet dir token (item_needs dir token number flags items item)
     → AreMet dir token (attr_needs dir token number attr (items_of items item.attr))
@@ -82,6 +82,18 @@ all_needs dir token m flags none =
     let seen = head_holds _ _ reads.1 in
     (both_hold _ _ seen.1).1
 
+-- what the first item of an attribute needs
+pub item_met : (dir : Directory) (token : Token) (m : Modify) (flags : ℕ) (before others : List Item) (item : Item)
+    → first_failing (modify_checks dir token m flags) ≡ None → m.items ≡ before ++ item ∷ others
+    → list_any (is_item_of item.attr) before ≡ false
+    → AreMet dir token (item_needs dir token (number_named dir token m.dn) flags m.items item)
+item_met dir token m flags before others item none are first =
+    let number = number_named dir token m.dn in
+    let met : AreMet dir token (needs_behind dir token number flags m.items [] (before ++ item ∷ others))
+    = subst (λ (items : List Item). AreMet dir token (needs_behind dir token number flags m.items [] items)) are
+    (all_needs dir token m flags none) in
+    needs_at dir token number flags m.items [] before others item first met
+
 pub may_write : (dir after : Directory) (token : Token) (m : Modify) (s : Settings) (before others : List Item)
     (item : Item) (attr : ℕ) → m.items ≡ before ++ item ∷ others → list_any (is_item_of item.attr) before ≡ false
     → is_descriptor item.attr ≡ false → is_password item.attr ≡ false → attr_place dir.schema item.attr ≡ Some attr
@@ -93,9 +105,6 @@ may_write dir after token m s before others item attr are first no_descriptor no
     let parts = effect_is dir after token (first_failing (modify_checks dir token m s.sd_flags))
     (modify_act dir token m s.sd_flags) e in
     let number = number_named dir token m.dn in
-    let met : AreMet dir token (needs_behind dir token number s.sd_flags m.items [] (before ++ item ∷ others))
-    = subst (λ (items : List Item). AreMet dir token (needs_behind dir token number s.sd_flags m.items [] items)) are
-    (all_needs dir token m s.sd_flags parts.before) in
     each_met dir token (attr_needs dir token number attr (items_of m.items item.attr))
     (ordinary_met dir token number s.sd_flags attr m.items item no_descriptor no_password at
-    (needs_at dir token number s.sd_flags m.items [] before others item first met))
+    (item_met dir token m s.sd_flags before others item parts.before are first))
