@@ -4,6 +4,7 @@ A case makes a Call of a size: the text that a store is loaded of, the words and
 the call that is taken off, and what the answer has to be, so that a case that asks for something else than it says is
 told."""
 
+import base64
 import os
 import struct
 import sys
@@ -356,6 +357,57 @@ def diff_order(count):
     """A comparison where two schemas have so many attributes in opposite orders, all of which everyone may read."""
     text, _ = with_schema(count)
     return compares(listed(text, 0x10), listed(with_schema(count, turned=True)[0], 0x10010), 1)
+
+
+def with_lists(count, entries):
+    """BASE with so many users, each with an identifier and a list of its own."""
+    made = BASE
+    for number in range(count):
+        own = base64.b64encode(make.sid(who(number, 1000))).decode()
+        made += f"\ndn: CN=u{number},{STAFF}\nobjectClass: user\nobjectSid:: {own}\n{descriptor(entries(number))}"
+    return made
+
+
+def told_alike(count, before, after, answer):
+    """A comparison of so many users with these lists, and then with those."""
+    itself = {"words": ("diff", "S", "S")}
+    return Call(with_lists(count, before), b"", answer, ("diff", "S", "T"), bare=itself, beside=with_lists(count, after))
+
+
+@case("diff-selves", 400, 200)
+def diff_selves(count):
+    """A comparison where so many users may write more of themselves: a set of changes, and no block."""
+    more = [make.entry(0, 0x30, make.SELF)]
+    return told_alike(count, lambda number: [make.entry(0, 0x10, make.SELF)], lambda number: more,
+                      lambda said: said.count(b"\nset ") == 1 and b"\nblock " not in said)
+
+
+@case("diff-all", 400, 200)
+def diff_all(count):
+    """One where all accounts may write to so many users, who might do so before to themselves."""
+    own = [make.entry(0, 0x30, make.SELF)]
+    return told_alike(count, lambda number: own, lambda number: [*own, make.entry(0, 0x30, make.USERS)],
+                      lambda said: said.count(b"\nblock ") == 1 and said.count(b"\nset ") == 2)
+
+
+@case("diff-lists", 200, 100, "which set of changes an account has on an object is told for each of both")
+def diff_lists(count):
+    """One where each list names another account, and all may do more."""
+    def named(number):
+        return make.entry(0, 0x10000, who((number + 1) % count, 1000))
+
+    return told_alike(count, lambda number: [named(number)],
+                      lambda number: [named(number), make.entry(0, 0x10000, make.USERS)],
+                      lambda said: said.count(b"\nblock ") >= count)
+
+
+@case("diff-entries", 400, 200, "each account is judged by a sweep over the list")
+def diff_entries(count):
+    """One where one list has an entry more for each account."""
+    given = descriptor([make.entry(0, 0x20, who(number, 1000)) for number in range(count)])
+    text, itself = with_lists(count, lambda number: []), {"words": ("diff", "S", "S")}
+    return Call(text, b"", lambda said: said.count(b"\nblock ") == 1, ("diff", "S", "T"), bare=itself,
+                beside=text.replace(f"dn: {CLUB}\n", f"dn: {CLUB}\n{given}", 1))
 
 
 def changes(text, bare="dn: CN=x\nchangetype: delete\n"):

@@ -14,7 +14,7 @@ from adsd_tools.shown import line_of, text_of
 NUMBER = re.compile("0|[1-9][0-9]{0,18}")
 CODE, CODES = re.compile("[A-Z]{2}"), re.compile("(?:[A-Z]{2})+")
 COUNTS = ("objects", "pending", "stale", "descriptors")
-# Why `token`, `who`, `can` and `diff` have no answer; a name stands behind the last.
+# Why `token`, `who` and `can` have no answer; a name stands behind the last.
 REASONS, TOO_MANY = ("no object", "several objects", "no principal", "no identifier", "no right"), "too many groups "
 KINDS = ("object", "attribute", "set", "right", "validated", "child")
 PRIVILEGES = {str(sum_of): sum_of for sum_of in range(8)}

@@ -11,8 +11,8 @@ GUID = "bf967aba-0de6-11d0-a285-00aa003049e2"
 ODD = ["CN=a\u0085b,DC=x", "CN=\u0085", "CN=a\u2028b\u2029", "CN=a\x0b\x0c\x1c\x1d\x1e", "CN=\\ a \\ ,DC=x",
        " CN=a ", "CN=a\r", "CN=\u00a0a\u3000"]
 DIFF = ("object + CN=new,DC=x\nobject - CN=old,DC=x\nentry + CN=ann,DC=x\t(A;;WD;;;S-1-1-0)\nmember - CN=g h,DC=x\tCN=bob,DC=x\n"
-        f"principal 1 {BOB} CN=bob,DC=x\nobject 1 CN=ann,DC=x\nprincipals 1 objects 1\n+ object WD\n+ right A b CR\n"
-        "- attribute cn WP\n")
+        f"none + {ANN} CN=ann,DC=x\nidentity 1 {BOB} CN=bob,DC=x\nidentity 1 S-1-5-7 -\nobject 1 2 CN=ann,DC=x\nobject 0 2 CN=bob,DC=x\n"
+        "set 1\n+ object WD\n+ right A b CR\n- attribute cn WP\nset 2\nblock 1 1 1\n")
 LISTED = (f"object CN=a,DC=x\nowner {BOB}\ngroup {ANN}\ndacl inherits\nallow {BOB} GA - - - explicit\n"
           f"deny {ANN} 0x1 A b user CIIO inherited\nsacl protected\naudit {BOB} WP - - SA explicit\n")
 
@@ -89,19 +89,29 @@ CASES = [
     ("list", LISTED.replace(f"owner {BOB}", "owner x"), "owner x"),
     ("list", LISTED.replace("object ", "Object "), "Object CN=a,DC=x"),
     ("diff", "", 0),
-    ("diff", DIFF, 7),
-    ("diff", DIFF.replace("principals 1 o", "principals 2 o"), "principals 2 objects 1"),
+    ("diff", DIFF, 12),
+    ("diff", DIFF.replace("block 1 1 1", "block 2 1 1"), "block 2 1 1"),
+    ("diff", DIFF.replace("block 1 1 1", "block 1 2 1"), "block 1 2 1"),
+    ("diff", DIFF.replace("block 1 1 1", "block 1 1 3"), "block 1 1 3"),
+    ("diff", DIFF.replace("block 1 1 1", "block 1 0 1"), "block 1 0 1"),
+    ("diff", DIFF + "block 1 1 2\n", "block 1 1 2"),
     ("diff", DIFF.replace("- attribute cn WP\n", "- attribute cn WP\n+ object SD\n"), "+ object SD"),
     ("diff", "+ object WD\n", "+ object WD"),
-    ("diff", DIFF + "object 1 CN=b\n", "object 1 CN=b"),
-    ("diff", DIFF.replace("object 1 CN=ann,DC=x", "object 1 CN=ann\n+ object GA,DC=x"), "+ object GA,DC=x"),
+    ("diff", DIFF + "object 1 0 CN=b\n", "object 1 0 CN=b"),
+    ("diff", DIFF.replace("object 1 2 CN=ann,DC=x", "object 1 2 CN=ann\n+ object GA,DC=x"), "+ object GA,DC=x"),
     ("diff", DIFF.replace("WD", "W"), "+ object W"),
+    ("diff", DIFF.replace("object 0 2 ", "object 0 3 "), "hasn't told"),
+    ("diff", DIFF.replace("set 2", "set 3"), "set 3"),
+    ("diff", DIFF.replace(f"identity 1 {BOB} ", "identity 1 x "), "identity 1 x"),
+    ("diff", DIFF.replace(f"identity 1 {BOB} ", f"identity 0 {BOB} "), f"identity 0 {BOB}"),
+    ("diff", DIFF.replace("identity 1 S-1-5-7 -", f"identity 1 {BOB} -"), f"identity 1 {BOB} -"),
+    ("diff", DIFF.replace("none + ", "none ! "), "none !"),
     ("diff", DIFF + "object + CN=new,DC=x\n", "object + CN=new,DC=x"),
     ("diff", "member + CN=g CN=bob\n", "member + CN=g CN=bob"),
     ("diff", "owner CN=ann\tann\n", "owner CN=ann"),
     ("diff", DIFF + "x\n", "x"),
-    ("diff", DIFF.replace("object 1 ", "object 0 "), "object 0 CN=ann"),
-    ("diff", DIFF[:-1], "- attribute cn WP"),
+    ("diff", DIFF.replace("object 1 2 ", "object 0 0 "), "object 0 0 CN=ann"),
+    ("diff", DIFF[:-1], "block 1 1 1"),
     *[(word, text.format(name), 1) for name in ODD for word, text in (
         ("who", "1 " + BOB + " {}\n"), ("can", "1 {}\n"), ("diff", "object + {}\n"),
         ("audit", "1 0 success WD - " + BOB + " {}\n"))],

@@ -1,6 +1,6 @@
 -- What is known before objects are looked at one by one: families, kinds and their lines.
-use Rattle.std.proofs.Common.{◌≡◌, ◌∙◌, ◌+◌, ℕ, true, false, List, [], ◌∷◌, ◌++◌, length, get_or, refl, sym}
-use Rattle.std.proofs.Common.{ap}
+use Rattle.std.proofs.Common.{◌≡◌, ◌∙◌, ◌+◌, ℕ, true, false, List, [], ◌∷◌, ◌++◌, length, get_or, map, take, refl, sym}
+use Rattle.std.proofs.Common.{ap, zero, suc}
 use Rattle.std.proofs.Common.{subst, arith, Bool, Option, Some, None, inl, inr}
 use Rattle.std.specs.Prelude.{All, slice_get, ◌==◌, ◌&&◌, ◌||◌, ◌≢◌, cond}
 use Rattle.std.specs.Option.{option_map_or}
@@ -9,19 +9,22 @@ use Rattle.std.proofs.lemmas.Bool.Decides.{Decides-eqb}
 use Rattle.std.proofs.lemmas.List.{append-nil}
 use Rattle.std.proofs.lemmas.List.Folds.{list_any-append}
 use Rattle.std.proofs.lemmas.List.Elements.{All-append, All-cons, All-nil}
-use Rattle.std.proofs.lemmas.Option.{same_Some, get_or_from_slice_get, slice_get_within}
+use Rattle.std.proofs.lemmas.Option.{same_Some, none-some, get_or_from_slice_get, slice_get_within}
 use Rattle.std.specs.Global.{Vec}
 use Rattle.indexmap.specs.IndexMap.{IndexMap, get}
 use Rattle.ad_ids.specs.SidValue.{SidValue, same_sid}
 use Rattle.ad_ids.proofs.SidLaws.{same_sid-Decides}
-use Rattle.ad_access.specs.Holder.{first_holder, holds}
 use Rattle.ad_dir_model.specs.Directory.{Directory}
 use Rattle.ad_dir_model.specs.Protection.{has}
 use Rattle.ad_both.specs.declared.both.Both.{Both}
 use Rattle.ad_diff_rights.specs.declared.unchanged.Sides.{Sides}
 use Rattle.ad_diff_rights.specs.declared.tokens.Party.{Party}
-use Rattle.ad_diff_rights.specs.Own.{changes_in, holds_own, IsBare}
-use Rattle.ad_diff_rights.specs.Parties.{IsParty}
+use Rattle.ad_ids.specs.declared.token.Token.{Token}
+use Rattle.ad_identities.specs.declared.identity.Identity.{Identity}
+use Rattle.ad_identities.specs.Identities.{IsTokenAlone, IsTokenBy}
+use Rattle.ad_principals.specs.Groups.{anonymous}
+use Rattle.ad_diff_rights.specs.Own.{changes_in, given_holds_own, IsBare, IsBareIf}
+use Rattle.ad_diff_rights.specs.Parties.{IsGiven, IsParty}
 use Rattle.ad_diff_rights.specs.Same.{IsAlike}
 use Rattle.ad_diff_rights.specs.Named.{IsNamedBoth, IsLike}
 use Rattle.ad_diff_rights.proofs.Likeness.{same_changes}
@@ -30,8 +33,9 @@ use Rattle.ad_diff.specs.declared.numbering.Grouped.{Grouped}
 use Rattle.ad_diff.specs.declared.bases.Frame.{Frame}
 use Rattle.ad_diff.specs.Families.{IsOfFamily, AreOfFamilies, IsNext}
 use Rattle.ad_diff.specs.Kinds.{IsOfKind, AreKinds}
-use Rattle.ad_diff.specs.Kinds.{IsNextKind}
-use Rattle.ad_diff.specs.Holders.{listed, listed_if, Gains, token_in, AreHolders}
+use Rattle.ad_diff.specs.Kinds.{IsNextKind, IsLikePlace, IsLikeIn}
+use Rattle.ad_diff_rights.specs.Steps.{texts}
+use Rattle.ad_diff.specs.Holders.{listed, listed_if, Gains, held_by, token_in, AreHolders}
 use Rattle.ad_diff.specs.Frames.{bare_at, bares_on, all_bares, row_texts, HasBase, AreBases}
 use Rattle.ad_diff_rights.proofs.Lists.{last_cases}
 use Rattle.ad_diff.proofs.Lists.{all_at, mapped_at, there_at, more_at, last_in}
@@ -123,11 +127,28 @@ kinds_more named parties old new kinds others place kind next all here are at k 
 
 -- ---- their lines
 
+bare_alone : (unbound : Bool) (dir : Directory) (sid : SidValue) (token : Token) → IsTokenAlone unbound dir sid token
+    → IsBare token
+bare_alone true dir sid token is = record {
+  deny_only = ap (λ (t : Token). t.deny_only) is;
+  restricting = ap (λ (t : Token). t.restricting) is;
+}
+bare_alone false dir sid token is = record { deny_only = is.deny_only; restricting = is.restricting }
+
+bare_by : (dir : Directory) (sid : SidValue) (number : Option ℕ) (token : Token) → IsTokenBy dir sid number token
+    → IsBare token
+bare_by dir sid (Some number) token is = record { deny_only = is.deny_only; restricting = is.restricting }
+bare_by dir sid None token is = bare_alone (same_sid sid anonymous) dir sid token is
+
+bare_given : (dir : Directory) (identity : Identity) (given : Option Token) → IsGiven dir identity given → IsBareIf given
+bare_given dir identity None is = tt
+bare_given dir identity (Some token) is = bare_by dir identity.sid identity.number token is
+
 pub bare_party : (before after : Directory) (party : Party) → IsParty before after party
-    → IsBare party.was × IsBare party.is
+    → IsBareIf party.was × IsBareIf party.is
 bare_party before after party is = (
-  record { deny_only = is.was.deny_only; restricting = is.was.restricting },
-  record { deny_only = is.is.deny_only; restricting = is.is.restricting },
+  bare_given before party.who.before party.was is.was,
+  bare_given after party.who.after party.is is.is,
 )
 
 pub bases_are : (sides : Sides) (named : List SidValue) (firsts : List Both) (places : List ℕ) (frame : Frame)
@@ -158,6 +179,44 @@ bases_are sides named firsts places frame are names rows count kinds family firs
     ∙ like_changes named before after other party first bare_other.0 bare_other.1 bare.0 bare.1 its.like.like
     (all_at (IsNamedBoth before after named) firsts family first names there)
 
+-- what stands at a place among the first of a list that is mapped
+taken_at : {A B : Type 0} (f : A → B) (xs : List A) (n i : ℕ) (x : A) (y : B) → slice_get xs i ≡ Some x
+    → slice_get (map f (take n xs)) i ≡ Some y → y ≡ f x
+taken_at f [] n i x y there is = absurd (none-some x there)
+taken_at f (z ∷ xs) zero i x y there is = absurd (none-some y is)
+taken_at f (z ∷ xs) (suc n) zero x y there is = sym (same_Some (f z) y is) ∙ ap f (same_Some z x there)
+taken_at f (z ∷ xs) (suc n) (suc i) x y there is = taken_at f xs n i x y there is
+
+-- an identity has the lines of one that is like it
+bare_like : (sides : Sides) (named : List SidValue) (o : Both) (first place : ℕ)
+    → All (IsParty sides.before.now sides.after.now) sides.parties.now
+    → IsNamedBoth sides.before.now sides.after.now named o → IsLikePlace named sides.parties.now first place
+    → bare_at sides o first ≡ bare_at sides o place
+bare_like sides named o first place are names like =
+    let before = sides.before.now in
+    let after = sides.after.now in
+    let party = like.0 in
+    let here = like.1 in
+    let its = like.2 in
+    let lines = λ (p : Option Party). option_map_or (λ (q : Party). changes_in before after q.was q.is false o) p [] in
+    let bare_other = bare_party before after its.other (all_at (IsParty before after) sides.parties.now first its.other are
+    its.there) in
+    let bare = bare_party before after party (all_at (IsParty before after) sides.parties.now place party are here) in
+    ap lines its.there
+    ∙ like_changes named before after its.other party o bare_other.0 bare_other.1 bare.0 bare.1 its.like names
+    ∙ sym (ap lines here)
+
+-- and these are known
+pub known_bare : (sides : Sides) (named : List SidValue) (places : List ℕ) (row : List (Vec ℕ)) (place : ℕ) (o : Both)
+    (at : ℕ) (lines : List ℕ) → All (IsParty sides.before.now sides.after.now) sides.parties.now
+    → IsNamedBoth sides.before.now sides.after.now named o
+    → texts row ≡ bares_on sides (take (length row) places) o → slice_get (texts row) at ≡ Some lines
+    → IsLikeIn named sides.parties.now places at place → lines ≡ bare_at sides o place
+known_bare sides named places row place o at lines are names row_is known like =
+    taken_at (bare_at sides o) places (length row) at like.0 lines like.1
+    (ap (λ (ls : List (List ℕ)). slice_get ls at) (sym row_is) ∙ known)
+    ∙ bare_like sides named o like.0 place are names like.2
+
 -- those of a family are those of its first object
 pub family_base : (sides : Sides) (firsts : List Both) (frame : Frame) (family : ℕ) (o : Both)
     → AreBases sides frame firsts → IsOfFamily sides.before.now sides.after.now firsts family o
@@ -177,19 +236,27 @@ and_true {a} {b} e f = ap (λ (q : Bool). q && b) e ∙ f
 
 -- ---- who doesn't stand among the holders of an identifier
 
+held_own : (given : Option Token) (sid : SidValue) → given_holds_own given (Some sid) ≡ held_by given sid
+held_own None sid = refl
+held_own (Some token) sid = refl
+
+none_own : (given : Option Token) → given_holds_own given None ≡ false
+none_own None = refl
+none_own (Some token) = refl
+
 pub not_holder : {S : Type 0} (table : IndexMap SidValue (Vec ℕ) S) (parties : List Party) (first : Bool)
     (own : Option SidValue) (place : ℕ) (party : Party) → AreHolders parties first (length parties) table
     → slice_get parties place ≡ Some party → has (listed_if table own) place ≡ false
-    → holds_own (token_in first party) own ≡ false
-not_holder table parties first None place party all here none = refl
+    → given_holds_own (token_in first party) own ≡ false
+not_holder table parties first None place party all here none = none_own (token_in first party)
 not_holder table parties first (Some sid) place party all here none =
-    elim (cases_Bool (holds (first_holder (token_in first party)) sid)) [
+    elim (cases_Bool (held_by (token_in first party) sid)) [
       | inl is ↦ absurd (false≢true (sym none ∙ all place party sid (slice_get_within parties place party here) here
           is))
-      | inr not ↦ not
+      | inr apart ↦ held_own (token_in first party) sid ∙ apart
     ]
 
-or_false : (b : Bool) → (b || false) ≡ b
+pub or_false : (b : Bool) → (b || false) ≡ b
 or_false false = refl
 or_false true = refl
 
@@ -217,20 +284,20 @@ gains_one old new sid place was is there more updates s p =
           ∙ ap (λ (b : Bool). has (listed old s) p || (b && place == p)) (sym apart)
     ]
 
--- one more principal
+-- one more identity
 pub holders_more : {S T : Type 0} (old : IndexMap SidValue (Vec ℕ) S) (new : IndexMap SidValue (Vec ℕ) T)
     (parties : List Party) (first : Bool) (n : ℕ) (party : Party) → slice_get parties n ≡ Some party
     → AreHolders parties first n old
-    → Gains (λ s p. holds (first_holder (token_in first party)) s && n == p) (listed old) (listed new)
+    → Gains (λ s p. held_by (token_in first party) s && n == p) (listed old) (listed new)
     → AreHolders parties first (n + 1) new
 holders_more old new parties first n party here all gains place other sid lt there held =
-    let test = holds (first_holder (token_in first party)) sid && n == place in
+    let test = held_by (token_in first party) sid && n == place in
     elim (cases_Bool (n == place)) [
       | inl same ↦
           let one : other ≡ party = same_Some other party (sym there
           ∙ ap (λ (i : ℕ). slice_get parties i) (sym ((Decides-eqb n place).0 same)) ∙ here) in
-          let holds_it : holds (first_holder (token_in first party)) sid ≡ true =
-          subst (λ (p : Party). holds (first_holder (token_in first p)) sid ≡ true) one held in
+          let holds_it : held_by (token_in first party) sid ≡ true =
+          subst (λ (p : Party). held_by (token_in first p) sid ≡ true) one held in
           gains sid place ∙ or_right (has (listed old sid) place) test (and_true holds_it same)
       | inr apart ↦
           let differ : n ≢ place = λ e. false≢true (sym apart ∙ (Decides-eqb n place).1 e) in

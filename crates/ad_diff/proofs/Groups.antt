@@ -1,18 +1,15 @@
--- Columns, groups of objects and groups of principals, as they grow.
+-- Columns and groups of identities, as they grow.
 use Rattle.std.proofs.Common.{◌≡◌, ◌∙◌, ◌+◌, ◌<◌, ℕ, zero, suc, inl, inr, List, [], ◌∷◌, ◌++◌, length}
 use Rattle.std.proofs.Common.{length-append, map, get_or, refl, sym, ap, subst, arith, Option, Some}
 use Rattle.std.specs.Prelude.{All, slice_get}
 use Rattle.std.specs.Option.{option_map_or}
 use Rattle.std.proofs.lemmas.List.{get_or_append_left, length-map, append-nil, map-append}
-use Rattle.std.proofs.lemmas.List.Elements.{All-append, All-cons, All-nil}
 use Rattle.std.proofs.lemmas.Option.{slice_get_within}
-use Rattle.ad_both.specs.declared.both.Both.{Both}
-use Rattle.ad_diff_rights.specs.declared.unchanged.Sides.{Sides}
-use Rattle.ad_diff.specs.declared.numbering.Grouped.{Grouped}
+use Rattle.ad_diff.specs.declared.numbering.Told.{Told}
 use Rattle.ad_diff.specs.declared.bases.Frame.{Frame}
 use Rattle.ad_diff.specs.declared.columns.Column.{Column}
-use Rattle.ad_diff.specs.Frames.{lines_at, group_lines, IsRight, IsAdded}
-use Rattle.ad_diff.specs.Table.{IsPlaced, ArePlaced, IsRow, IsLed, AreRows}
+use Rattle.ad_diff.specs.Frames.{lines_at, group_lines, IsAdded}
+use Rattle.ad_diff.specs.Table.{IsRow, IsLed, AreRows}
 use Rattle.ad_diff_rights.proofs.Lists.{last_cases}
 use Rattle.ad_diff.proofs.Lists.{mapped_at, there_at, left_at, last_at}
 
@@ -62,9 +59,9 @@ added_new frame old new column group are count =
       count = inr (omega (arith, many), count);
     }
 
--- ---- objects that are placed
+-- ---- columns that stay
 
-lines_still : (frame : Frame) (old new more : List Column) (group place : ℕ) → new ≡ old ++ more
+pub lines_still : (frame : Frame) (old new more : List Column) (group place : ℕ) → new ≡ old ++ more
     → group < suc (length old) → group_lines frame new group place ≡ group_lines frame old group place
 lines_still frame old new more zero place are within = refl
 lines_still frame old new more (suc n) place are within =
@@ -73,34 +70,7 @@ lines_still frame old new more (suc n) place are within =
     ap (λ (all : List Column). lines (slice_get all n)) are
     ∙ ap lines (left_at old more n found.0 found.1 ∙ sym found.1)
 
-placed_still : (sides : Sides) (frame : Frame) (old new more : List Column) (g : Grouped) → new ≡ old ++ more
-    → IsPlaced sides frame old g → IsPlaced sides frame new g
-placed_still sides frame old new more g are is =
-    let count : length new ≡ length old + length more = ap length are ∙ length-append old more in
-    record {
-      within = omega (arith, is.within, count);
-      lines = λ place party there. lines_still frame old new more g.group place are is.within
-          ∙ is.lines place party there;
-    }
-
--- one more object, with its group
-pub placed_more : (sides : Sides) (frame : Frame) (old new : List Column) (column : Column)
-    (objects others : List Grouped) (o : Both) (group : ℕ)
-    → IsAdded frame old new column group → ((place : ℕ) → IsRight sides o frame column place)
-    → ArePlaced sides frame old objects
-    → others ≡ objects ++ (record { both = o; group = group } ∷ []) → ArePlaced sides frame new others
-placed_more sides frame old new column objects others o group added right placed are =
-    let g : Grouped = record { both = o; group = group } in
-    let P : Grouped → Type 0 = IsPlaced sides frame new in
-    subst (All P) (sym are)
-    (All-append P objects (g ∷ [])
-    (λ i d lt. placed_still sides frame old new added.more (get_or objects i d) added.are (placed i d lt))
-    (All-cons P g [] (record {
-      within = added.within;
-      lines = λ place party there. added.lines place ∙ right place party there;
-    }) (All-nil P)))
-
--- ---- groups of principals
+-- ---- groups of identities
 
 pub row_none : (frame : Frame) (columns : List Column) (leaders : List ℕ) (place : ℕ)
     → All (λ (column : Column). lines_at frame column place ≡ []) columns → IsRow frame columns leaders place 0
@@ -156,14 +126,14 @@ row_still frame columns old new more place group are row =
           (omega (arith, row.within, length-map old at)));
     }
 
--- one more principal, with its group
-pub rows_more : (frame : Frame) (columns : List Column) (old new : List ℕ) (groups others : List Grouped) (place : ℕ)
-    (g : Grouped)
+-- one more identity, with its group
+pub rows_more : (frame : Frame) (columns : List Column) (old new : List ℕ) (groups others : List Told) (place : ℕ)
+    (g : Told)
     → IsLed frame columns old new place g.group → AreRows frame columns old groups → place ≡ length groups
     → others ≡ groups ++ (g ∷ []) → AreRows frame columns new others
 rows_more frame columns old new groups others place g led rows here are i h there =
-    elim (last_cases groups g h i (ap (λ (all : List Grouped). slice_get all i) (sym are) ∙ there)) [
+    elim (last_cases groups g h i (ap (λ (all : List Told). slice_get all i) (sym are) ∙ there)) [
       | inl before ↦ row_still frame columns old new led.more i h.group led.are (rows i h before)
       | inr last ↦ subst (λ (n : ℕ). IsRow frame columns new n h.group) (here ∙ sym last.0)
-          (subst (λ (k : Grouped). IsRow frame columns new place k.group) last.1 led.row)
+          (subst (λ (k : Told). IsRow frame columns new place k.group) last.1 led.row)
     ]

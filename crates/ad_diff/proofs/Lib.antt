@@ -2,9 +2,13 @@ pub mod Lists
 pub mod Texts
 pub mod Contexts
 pub mod Putting
-pub mod Exact
+pub mod Owning
+pub mod Once
 pub mod Groups
 pub mod Used
+pub mod Cells
+pub mod Placing
+pub mod Exact
 pub mod Refusals
 pub mod Whole
 pub mod Steps

@@ -1,81 +1,124 @@
--- The whole text, of principals and objects in groups.
-use Rattle.std.proofs.Common.{◌≡◌, ◌∙◌, ◌<◌, ℕ, List, ◌++◌, length, map, refl, sym, ap, subst}
+-- The whole text, of identities and objects in groups.
+use Rattle.std.proofs.Common.{◌≡◌, ◌∙◌, ◌<◌, ◌^◌, ℕ, suc, inl, inr, List, [], ◌∷◌, ◌++◌, length, map, refl, sym, ap}
+use Rattle.std.proofs.Common.{subst, arith, get_or}
 use Rattle.std.specs.Prelude.{All}
+use Rattle.std.specs.List.{flat_map}
+use Rattle.std.proofs.lemmas.Bool.{or_left, or_right}
 use Rattle.std.proofs.lemmas.List.{get_or-map, length-map}
-use Rattle.std.proofs.lemmas.List.Elements.{All-filter}
 use Rattle.ad_dir_model.specs.Directory.{Directory}
 use Rattle.ad_both.specs.declared.both.Both.{Both}
-use Rattle.ad_diff_rights.specs.declared.unchanged.Sides.{Sides}
-use Rattle.ad_diff_rights.specs.declared.tokens.Party.{Party}
 use Rattle.ad_both.specs.Both.{objects_of_both, IsLiveBoth}
-use Rattle.ad_diff_rights.specs.Both.{are_principals, principals_of_both}
 use Rattle.ad_causes.specs.Cause.{causes_text}
 use Rattle.ad_causes.specs.Causes.{causes}
+use Rattle.ad_diff_rights.specs.declared.unchanged.Sides.{Sides}
+use Rattle.ad_diff_rights.specs.declared.tokens.Party.{Party}
+use Rattle.ad_diff_rights.specs.declared.whose.Who.{Who}
 use Rattle.ad_diff_rights.specs.Parties.{IsParty}
-use Rattle.ad_diff.specs.declared.numbering.Grouped.{Grouped}
+use Rattle.ad_diff_rights.specs.Whose.{AreWhose, IsKnownBoth}
+use Rattle.ad_diff.specs.declared.numbering.Held.{Held}
+use Rattle.ad_diff.specs.declared.numbering.Told.{Told}
+use Rattle.ad_diff.specs.declared.numbering.Placed.{Placed}
 use Rattle.ad_diff.specs.declared.bases.Frame.{Frame}
 use Rattle.ad_diff.specs.declared.columns.Column.{Column}
-use Rattle.ad_diff.specs.Text.{members, row_text, table_text, blocks_text, IsDiffText}
-use Rattle.ad_diff.specs.Frames.{lines_at}
-use Rattle.ad_diff.specs.Table.{ArePlaced, row_of, table_of, AreRows, AreNumbered}
-use Rattle.ad_diff.proofs.Exact.{exact_all, none_of_objects, none_of_principals}
-use Rattle.ad_diff.proofs.Used.{cells_of_members}
+use Rattle.ad_diff.specs.Text.{whose_of, objects_of, groups_of, places_of, owns_of, has_number, is_in_table, cell}
+use Rattle.ad_diff.specs.Text.{none_line, row_text, table_text, blocks_text, IsDiffText}
+use Rattle.ad_diff.specs.Frames.{lines_at, AreOnce}
+use Rattle.ad_diff.specs.Table.{ArePlaced, AreRows, AreNumberedIdentities, AreNumberedObjects, AreOwns, AreTable, held_of}
+use Rattle.ad_diff.specs.Table.{held_in, table_by, IsCellNumber}
+use Rattle.ad_diff.proofs.Cells.{in_cell, in_table_by, none_of_objects, none_of_identities}
+use Rattle.ad_diff.proofs.Exact.{cell_told, exact_all, bare_all, given_all, apart_all}
+use Rattle.ad_diff.proofs.Placing.{placed_kept}
+use Rattle.ad_diff.proofs.Used.{numbers_of_members}
 
-table_is : (frame : Frame) (columns : List Column) (leaders : List ℕ)
-    → table_text 1 (map (λ (column : Column). row_of leaders (lines_at frame column)) columns)
-    ≡ table_text 0 (table_of frame columns leaders)
+table_is : (rows : List (List ℕ)) → table_text 1 (map (λ (row : List ℕ). 0 ∷ row) rows) ≡ table_text 0 (table_by rows)
 unfolding table_text row_text
-table_is frame columns leaders = refl
+table_is rows = refl
 
-pub whole : (sides : Sides) (frame : Frame) (columns : List Column) (objects groups : List Grouped)
-    (leaders : List ℕ) (text : List ℕ)
-    → map (λ (party : Party). party.both) sides.parties.now ≡ members groups
-    → All (IsParty sides.before.now sides.after.now) sides.parties.now
-    → ArePlaced sides frame columns objects → AreRows frame columns leaders groups
-    → AreNumbered (length columns) objects → AreNumbered (length leaders) groups
-    → members groups ≡ principals_of_both sides.before.now sides.after.now
-    → members objects ≡ objects_of_both sides.before.now sides.after.now
+-- whose the identities are
+whose_are : (identities : List Told) → map (λ (h : Held). h.who) (held_in identities) ≡ whose_of identities
+whose_are [] = refl
+whose_are (t ∷ identities) = ap (λ (ws : List Who). t.held.who ∷ ws) (whose_are identities)
+
+parties_are : (parties : List Party) → map (λ (h : Held). h.who) (map held_of parties)
+    ≡ map (λ (p : Party). p.who) parties
+parties_are [] = refl
+parties_are (p ∷ parties) = ap (λ (ws : List Who). p.who ∷ ws) (parties_are parties)
+
+pub whose_told : (identities : List Told) (parties : List Party) → held_in identities ≡ map held_of parties
+    → whose_of identities ≡ map (λ (p : Party). p.who) parties
+whose_told identities parties held =
+    sym (whose_are identities) ∙ ap (map (λ (h : Held). h.who)) held ∙ parties_are parties
+
+pub whole : (sides : Sides) (frame : Frame) (columns : List Column) (objects : List Placed) (identities : List Told)
+    (leaders : List ℕ) (placed_sets sets : List (List ℕ)) (rows : List (List ℕ)) (whose : List Who) (text : List ℕ)
+    → held_in identities ≡ map held_of sides.parties.now
+    → map (λ (p : Party). p.who) sides.parties.now ≡ whose
+    → AreWhose sides.before.now sides.after.now whose
+    → All (IsParty sides.before.now sides.after.now) sides.parties.now → AreOnce sides.parties.now
+    → ArePlaced sides frame columns placed_sets objects → AreRows frame columns leaders identities
+    → AreNumberedObjects (length columns) objects → AreNumberedIdentities (length leaders) identities
+    → AreOwns placed_sets objects
+    → AreTable placed_sets sets (map (λ (column : Column). map (lines_at frame column) leaders) columns) rows
+    → length sets < 2 ^ 32
+    → objects_of objects ≡ objects_of_both sides.before.now sides.after.now
     → text ≡ causes_text (causes sides.before.now sides.after.now)
-    ++ blocks_text sides.after.now groups objects
-    (table_text 1 (map (λ (column : Column). row_of leaders (lines_at frame column)) columns))
+    ++ (flat_map (none_line sides.after.now) identities
+    ++ blocks_text sides.after.now identities objects sets (table_text 1 (map (λ (row : List ℕ). 0 ∷ row) rows)))
     → IsDiffText sides.before.now sides.after.now text
-whole sides frame columns objects groups leaders text same are placed rows things they they_are things_are is =
+whole sides frame columns objects identities leaders placed_sets sets rows whose text held who whose_is are once placed
+    led things they owns table few things_are is =
     let before = sides.before.now in
     let after = sides.after.now in
+    let kept : ArePlaced sides frame columns sets objects = placed_kept sides frame columns placed_sets sets table.more
+    objects table.are placed in
+    let number : (l k : ℕ) → IsCellNumber sets (cell (table_by rows) l k) =
+    λ l k. in_cell (IsCellNumber sets) rows l k (omega arith, inl refl) table.each in
     record {
-      principals = groups;
+      identities = identities;
       objects = objects;
-      table = table_of frame columns leaders;
-      are_principals = they_are;
+      sets = sets;
+      table = table_by rows;
+      are_identities = subst (AreWhose before after) (sym (whose_told identities sides.parties.now held ∙ who)) whose_is;
       are_objects = things_are;
-      numbered_principals = they.fit;
+      numbered_identities = they.fit;
       numbered_objects = things.fit;
-      exact = exact_all sides frame columns objects groups leaders same are placed rows;
-      unlisted_objects = λ k. none_of_objects frame columns leaders k;
-      unlisted_principals = λ l. none_of_principals frame columns leaders l;
-      of_members = λ l k. cells_of_members frame columns leaders objects groups things.used they.used l k;
-      lines = is ∙ ap (λ (t : List ℕ). causes_text (causes before after) ++ blocks_text after groups objects t)
-          (table_is frame columns leaders);
+      few_sets = few;
+      numbered_cells = λ l k. (number l k).0;
+      given = given_all sides frame columns sets rows objects identities leaders held are once kept led table.numbers_are;
+      exact = exact_all sides frame columns sets rows objects identities leaders held are once kept led table.numbers_are;
+      bare = bare_all sides frame columns sets rows objects identities leaders held are once kept led table.numbers_are;
+      unlisted_objects = λ k. none_of_objects rows k;
+      unlisted_identities = λ l. none_of_identities rows l;
+      of_members = λ l k. numbers_of_members sets rows frame columns leaders (places_of objects) (groups_of identities) l k
+          things.used they.used (cell_told sets rows frame columns leaders l k table.numbers_are) (number l k).1;
+      apart = apart_all sides frame columns sets rows objects identities leaders held are once kept led table.numbers_are;
+      used = λ n lt. elim (table.fresh n lt) [
+        | inl before_it ↦ or_left (has_number (owns_of objects) (suc n)) (is_in_table (table_by rows) (suc n))
+            (owns n before_it)
+        | inr has ↦ or_right (has_number (owns_of objects) (suc n)) (is_in_table (table_by rows) (suc n))
+            (in_table_by rows (suc n) has)
+      ];
+      lines = is ∙ ap (λ (t : List ℕ). causes_text (causes before after) ++ (flat_map (none_line after) identities
+          ++ blocks_text after identities objects sets t)) (table_is rows);
     }
 
--- ---- those of both are live, and principals
+-- ---- those of both are live, and known
 
-pub all_members : (P : Both → Type 0) (gs : List Grouped) → All P (members gs) → All (λ (g : Grouped). P g.both) gs
-all_members P gs all i d lt = subst P (get_or-map (λ (g : Grouped). g.both) gs i d d.both lt)
-    (all i d.both (subst (λ (n : ℕ). i < n) (sym (length-map gs (λ (g : Grouped). g.both))) lt))
+pub all_mapped : {A B : Type 0} (f : A → B) (P : B → Type 0) (xs : List A) (ys : List B) → map f xs ≡ ys → All P ys
+    → All (λ (x : A). P (f x)) xs
+all_mapped {A} {B} f P xs ys are all i d lt =
+    let long : length xs ≡ length ys = sym (length-map xs f) ∙ ap length are in
+    subst P (ap (λ (l : List B). get_or l i (f d)) (sym are) ∙ get_or-map f xs i d (f d) lt)
+    (all i (f d) (omega (arith, lt, long)))
 
-pub members_live : (before after : Directory) (objects principals : List Both) (gs : List Grouped)
-    → objects ≡ objects_of_both before after → All (IsLiveBoth before after) objects
-    → principals ≡ principals_of_both before after → members gs ≡ principals
-    → All (λ (g : Grouped). IsLiveBoth before after g.both) gs
-members_live before after objects principals gs things_are live they_are of_them =
-    all_members (IsLiveBoth before after) gs
-    (subst (All (IsLiveBoth before after)) (sym (of_them ∙ they_are))
-    (All-filter (are_principals before after) (IsLiveBoth before after) (objects_of_both before after)
-    (subst (All (IsLiveBoth before after)) things_are live)))
+pub placed_live : (before after : Directory) (objects : List Both) (placed : List Placed)
+    → All (IsLiveBoth before after) objects → objects_of placed ≡ objects
+    → All (λ (o : Placed). IsLiveBoth before after o.both) placed
+placed_live before after objects placed live are =
+    all_mapped (λ (o : Placed). o.both) (IsLiveBoth before after) placed objects are live
 
-pub placed_live : (before after : Directory) (objects : List Both) (gs : List Grouped)
-    → All (IsLiveBoth before after) objects → members gs ≡ objects
-    → All (λ (g : Grouped). IsLiveBoth before after g.both) gs
-placed_live before after objects gs live of_them =
-    all_members (IsLiveBoth before after) gs (subst (All (IsLiveBoth before after)) (sym of_them) live)
+pub told_known : (before after : Directory) (whose : List Who) (identities : List Told)
+    → All (IsKnownBoth before after) whose → whose_of identities ≡ whose
+    → All (λ (t : Told). IsKnownBoth before after t.held.who) identities
+told_known before after whose identities known are =
+    all_mapped (λ (t : Told). t.held.who) (IsKnownBoth before after) identities whose are known

@@ -1,11 +1,13 @@
 -- Only for private contracts, invariants and proofs: objects in families.
-use Rattle.std.specs.Prelude.{◌≡◌, ℕ, Some, List, ◌++◌, All, slice_get}
+use Rattle.std.specs.Prelude.{◌≡◌, ℕ, Some, List, ◌++◌, All, map, slice_get}
 use Rattle.ad_dir_model.specs.Directory.{Directory}
 use Rattle.ad_both.specs.declared.both.Both.{Both}
 use Rattle.ad_both.specs.Both.{IsLiveBoth}
 use Rattle.ad_diff_rights.specs.Same.{IsAlike}
 use Rattle.ad_diff.specs.declared.numbering.Grouped.{Grouped}
-use Rattle.ad_diff.specs.Text.{members}
+
+abbrev pub members : List Grouped → List Both
+members groups = map (λ (g : Grouped). g.both) groups
 
 -- the family has a first object, which is like this one
 pub record IsOfFamily (before after : Directory) (firsts : List Both) (family : ℕ) (o : Both) : Type 0 where

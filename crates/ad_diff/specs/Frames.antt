@@ -1,12 +1,13 @@
 -- Only for private contracts, invariants and proofs: the lines of kinds on families, and columns.
-use Rattle.std.specs.Prelude.{◌≡◌, ◌⊎◌, ℕ, zero, suc, ◌<◌, true, false, nat_eq, Some, List, [], ◌++◌, map, get_or, length}
-use Rattle.std.specs.Prelude.{slice_get}
+use Rattle.std.specs.Prelude.{◌≡◌, ◌⊎◌, ℕ, zero, suc, ◌<◌, Bool, true, false, not, nat_eq, Some, List, [], ◌++◌, map}
+use Rattle.std.specs.Prelude.{get_or, length, slice_get}
 use Rattle.std.specs.Option.{option_map_or}
 use Rattle.std.specs.Global.{Vec}
 use Rattle.indexmap.specs.IndexMap.{get}
 use Rattle.ad_both.specs.declared.both.Both.{Both}
 use Rattle.ad_diff_rights.specs.declared.unchanged.Sides.{Sides}
 use Rattle.ad_diff_rights.specs.declared.tokens.Party.{Party}
+use Rattle.ad_diff_rights.specs.Whose.{is_own}
 use Rattle.ad_diff_rights.specs.Own.{changes_in}
 use Rattle.ad_diff_rights.specs.Sides.{changes_at}
 use Rattle.ad_diff_rights.specs.Steps.{texts}
@@ -17,7 +18,7 @@ use Rattle.ad_diff.specs.Holders.{AreHolders}
 
 -- ---- where own identifiers don't count
 
--- what the principal at a place gains and loses on an object
+-- what the identity at a place gains and loses on an object
 abbrev pub bare_at : Sides → Both → ℕ → List ℕ
 bare_at sides o place = changes_at sides false o place
 
@@ -33,27 +34,45 @@ all_bares sides places objects = map (bares_on sides places) objects
 abbrev pub row_texts : List (Vec (Vec ℕ)) → List (List (List ℕ))
 row_texts rows = map (λ (row : Vec (Vec ℕ)). texts row.items) rows
 
--- those of the principal at a place, by its kind
+-- those of the identity at a place, by its kind
 abbrev pub base_at : Frame → ℕ → ℕ → List ℕ
 base_at frame family place = get_or (get_or (row_texts frame.rows.items) family []) (get_or frame.kinds.items place 0)
     []
 
--- they are those that each principal has on an object where own identifiers don't count
+-- they are those that each identity has on an object where own identifiers don't count
 abbrev pub HasBase : Sides → Frame → ℕ → Both → Type 0
 HasBase sides frame family o = (place : ℕ) (party : Party) → slice_get sides.parties.now place ≡ Some party
     → base_at frame family place ≡ changes_in sides.before.now sides.after.now party.was party.is false o
 
+-- ---- what an identity has on an object
+
+-- with the own identifiers, or as if there were none
+abbrev pub party_changes : Sides → Bool → Both → Party → List ℕ
+party_changes sides own o party = changes_in sides.before.now sides.after.now party.was party.is own o
+
+-- with the own identifiers, but for the object itself
+abbrev pub wanted : Sides → Both → Party → List ℕ
+wanted sides o party = party_changes sides (not (is_own o party.who)) o party
+
+-- the identity at the place is the object's own
+abbrev pub own_at : List Party → Both → ℕ → Bool
+own_at parties o place = option_map_or (λ (party : Party). is_own o party.who) (slice_get parties place) false
+
+-- no object has two identities
+abbrev pub AreOnce : List Party → Type 0
+AreOnce parties = (o : Both) (i j : ℕ) → own_at parties o i ≡ true → own_at parties o j ≡ true → i ≡ j
+
 -- ---- columns
 
--- the lines of the principal at a place: others, or those of its kind
+-- the lines of the identity at a place: others, or those of its kind
 unfoldable pub lines_at : Frame → Column → ℕ → List ℕ
 lines_at frame column place = option_map_or (λ (lines : Vec ℕ). lines.items) (get nat_eq column.others place)
     (base_at frame column.family place)
 
--- they are what it gains and loses on an object
+-- they are what it gains and loses on an object, where the object itself is told apart
 abbrev pub IsRight : Sides → Both → Frame → Column → ℕ → Type 0
 IsRight sides o frame column place = (party : Party) → slice_get sides.parties.now place ≡ Some party
-    → lines_at frame column place ≡ changes_in sides.before.now sides.after.now party.was party.is true o
+    → lines_at frame column place ≡ wanted sides o party
 
 -- where they are, they stay so
 abbrev pub Keeps : Sides → Both → Frame → Column → Column → Type 0
@@ -82,7 +101,7 @@ AreBases sides frame firsts = (family : ℕ) (first : Both) → slice_get firsts
 abbrev pub IsNumbered : ℕ → ℕ → ℕ → Type 0
 IsNumbered old new group = (new ≡ old) ⊎ ((new ≡ suc old) × (group ≡ new))
 
--- the lines of the principal at a place in the column of a group of objects; group 0 has none
+-- the lines of the identity at a place in the column of a group of objects; group 0 has none
 abbrev pub group_lines : Frame → List Column → ℕ → ℕ → List ℕ
 group_lines frame columns zero place = []
 group_lines frame columns (suc n) place = option_map_or (λ (column : Column). lines_at frame column place)

@@ -1,5 +1,5 @@
 -- Only for private contracts, invariants and proofs: who holds an identifier, as it is kept in a table.
-use Rattle.std.specs.Prelude.{◌≡◌, ℕ, ◌<◌, Bool, true, ◌||◌, if◌then◌else◌, Option, None, Some, List, [], slice_get}
+use Rattle.std.specs.Prelude.{◌≡◌, ℕ, ◌<◌, Bool, true, false, ◌||◌, if◌then◌else◌, Option, None, Some, List, [], slice_get}
 use Rattle.std.specs.Option.{option_map_or}
 use Rattle.std.specs.Global.{Vec}
 use Rattle.indexmap.specs.IndexMap.{IndexMap, get}
@@ -22,12 +22,17 @@ listed_if table (Some sid) = listed table sid
 abbrev pub Gains : (SidValue → ℕ → Bool) → (SidValue → List ℕ) → (SidValue → List ℕ) → Type 0
 Gains test old new = (sid : SidValue) (place : ℕ) → has (new sid) place ≡ (has (old sid) place || test sid place)
 
--- the token of a principal in the first directory, or in the second
-abbrev pub token_in : Bool → Party → Token
+-- what the first directory gives an identity, or the second
+abbrev pub token_in : Bool → Party → Option Token
 token_in first party = if first then party.was else party.is
 
--- the table has each identifier that one of the first n principals holds, with its place
+-- there is a token, and it holds the identifier
+abbrev pub held_by : Option Token → SidValue → Bool
+held_by None sid = false
+held_by (Some token) sid = holds (first_holder token) sid
+
+-- the table has each identifier that one of the first n identities holds, with its place
 abbrev pub AreHolders : {S : Type 0} → List Party → Bool → ℕ → IndexMap SidValue (Vec ℕ) S → Type 0
 AreHolders parties first n table = (place : ℕ) (party : Party) (sid : SidValue) → place < n
-    → slice_get parties place ≡ Some party → holds (first_holder (token_in first party)) sid ≡ true
+    → slice_get parties place ≡ Some party → held_by (token_in first party) sid ≡ true
     → has (listed table sid) place ≡ true

@@ -5,4 +5,5 @@ pub mod Families
 pub mod Kinds
 pub mod Holders
 pub mod Frames
+pub mod Sets
 pub mod Table

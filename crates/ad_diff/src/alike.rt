@@ -1,4 +1,4 @@
-//! Which objects are alike: but for their own identifiers no principal gains or loses on one what it doesn't on the
+//! Which objects are alike: but for their own identifiers no identity gains or loses on one what it doesn't on the
 //! other.
 
 ghost use Rattle.std.specs.Prelude.{◌≡◌, true, IfSome};
@@ -56,8 +56,8 @@ fn mixed_object(hash: u64, dir: &Dir, number: u32) -> u64
     requires { is_live dir.now.objects number ≡ true }
 {
     let hash = mixed(hash, u64::from(class_of(dir, number).0));
-    match dir.sd(number) {
-        Some(view) => mixed_bytes(hash, view.as_bytes()),
+    match dir.kept().sd_id(number) {
+        Some(id) => mixed(hash, u64::from(id.0)),
         None => hash,
     }
 }

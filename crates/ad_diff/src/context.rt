@@ -1,4 +1,4 @@
-//! What is known before objects are looked at one by one: which principals are granted alike, what those of a kind gain
+//! What is known before objects are looked at one by one: which identities are granted alike, what those of a kind gain
 //! and lose where own identifiers don't count, and who holds an identifier.
 
 ghost use Rattle.std.specs.Prelude.{◌≡◌, true, All, IfOk};

@@ -3,8 +3,7 @@
 ghost use Rattle.std.specs.Prelude.{◌≡◌, ◌++◌, ◌∷◌, [], true, All, slice_get, IfOk, OnOk};
 ghost use Rattle.ad_dir_model.specs.Directory.{Directory};
 ghost use Rattle.ad_both.specs.Both.{IsLiveBoth};
-ghost use Rattle.ad_diff.specs.Text.{members};
-ghost use Rattle.ad_diff.specs.Families.{IsOfFamily, AreOfFamilies, IsNext};
+ghost use Rattle.ad_diff.specs.Families.{members, IsOfFamily, AreOfFamilies, IsNext};
 
 use crate::alike::{hash_of, is_alike};
 use crate::numbering::{Grouped, number_of};

@@ -1,10 +1,10 @@
-//! Who holds an identifier: the places of the principals, found by the identifier.
+//! Who holds an identifier: the places of the identities, found by the identifier.
 
 ghost use Rattle.std.specs.Prelude.{◌≡◌, ◌==◌, ◌&&◌, length, IfOk, OnOk};
 ghost use Rattle.std.specs.Option.{option_copied};
 ghost use Rattle.ad_ids.specs.SidValue.{same_sid, contains_sid};
 ghost use Rattle.ad_access.specs.Holder.{first_holder, holds};
-ghost use Rattle.ad_diff.specs.Holders.{listed, listed_if, Gains, token_in, AreHolders};
+ghost use Rattle.ad_diff.specs.Holders.{listed, listed_if, Gains, held_by, token_in, AreHolders};
 
 use ad_diff_rights::Party;
 use ad_ids::{Sid, Token};
@@ -13,7 +13,7 @@ use std::alloc::{AllocError, Global};
 
 type Table = IndexMap<Sid, Vec<usize>>;
 
-/// The places of the principals that hold each identifier, by the token of one directory.
+/// The places of the identities that hold each identifier, by the token of one directory.
 #[derive(Drop)]
 pub struct Holders {
     pub places: IndexMap<Sid, Vec<usize>>,
@@ -59,8 +59,24 @@ fn note_token(
     note_all(alloc, table, token.groups.as_slice(), place)
 }
 
-// The token of a principal in the first directory, or in the second.
-fn token_in(party: &Party, first: bool) -> &Token
+// The same where there is a token.
+fn note_given(
+    alloc: Global,
+    table: &mut Table,
+    token: &Option<Token>,
+    place: usize,
+) -> Result<(), AllocError>
+    ensures { OnOk result (Gains (λ s p. held_by token.now s && place == p)
+        (listed table.old) (listed table.new)) }
+{
+    match token {
+        Some(token) => note_token(alloc, table, token, place),
+        None => Ok(()),
+    }
+}
+
+// What the first directory gives an identity, or the second.
+fn token_in(party: &Party, first: bool) -> &Option<Token>
     ensures { result.now ≡ token_in first party.entry.now }
 {
     if first {
@@ -84,7 +100,7 @@ pub(crate) fn holders_in(
 {
     let mut places = IndexMap::new(alloc);
     'each: for place in 0..parties.len() {
-        note_token(alloc, &mut places, token_in(&parties[place], first), place)?;
+        note_given(alloc, &mut places, token_in(&parties[place], first), place)?;
     }
     Ok(Holders { places })
 }

@@ -1,11 +1,11 @@
-//! The principals in kinds: those of a kind hold alike the identifiers that are named, so they are granted alike
+//! The identities in kinds: those of a kind hold alike the identifiers that are named, so they are granted alike
 //! where own identifiers don't count.
 
-ghost use Rattle.std.specs.Prelude.{◌≡◌, ◌<◌, ◌+◌, true, List, length, slice_get, IfOk, OnOk};
+ghost use Rattle.std.specs.Prelude.{◌≡◌, ◌<◌, ◌+◌, true, List, Some, None, length, slice_get, IfOk, OnOk};
 ghost use Rattle.ad_ids.specs.SidValue.{SidValue};
 ghost use Rattle.ad_access.specs.Holder.{first_holder, holds};
 ghost use Rattle.ad_diff_rights.specs.declared.tokens.Party.{Party as PartyValue};
-ghost use Rattle.ad_diff_rights.specs.Named.{HoldAlike, AreTokensAlike, IsLike};
+ghost use Rattle.ad_diff_rights.specs.Named.{HoldAlike, AreTokensAlike, AreGivenAlike, IsLike};
 ghost use Rattle.ad_diff.specs.Kinds.{IsLikeAt};
 ghost use Rattle.ad_diff.specs.Kinds.{IsOfKind, AreKinds, IsNextKind};
 
@@ -16,7 +16,7 @@ use ad_ids::{Sid, Token};
 use indexmap::{IndexMap, IndexSet};
 use std::alloc::{AllocError, Global};
 
-/// The kind of each principal, and the place of the first of each kind.
+/// The kind of each identity, and the place of the first of each kind.
 #[derive(Drop)]
 pub struct Kinds {
     pub of: Vec<u32>,
@@ -55,15 +55,45 @@ fn are_tokens_alike(named: &[Sid], a: &Token, b: &Token) -> bool
     hold_alike(named, a, b)
 }
 
-// Whether the tokens of each directory are alike.
+// Whether there is a token that is like this one.
+fn is_given_alike(named: &[Sid], a: &Token, b: &Option<Token>) -> bool
+    ensures { result ≡ true → AreGivenAlike named.now (Some a.now) b.now }
+{
+    match b {
+        Some(b) => are_tokens_alike(named, a, b),
+        None => false,
+    }
+}
+
+// Whether there is none.
+fn is_none(named: &[Sid], b: &Option<Token>) -> bool
+    ensures { result ≡ true → AreGivenAlike named.now None b.now }
+{
+    match b {
+        Some(_) => false,
+        None => true,
+    }
+}
+
+// Whether there are two tokens that are alike, or there is none.
+fn are_given_alike(named: &[Sid], a: &Option<Token>, b: &Option<Token>) -> bool
+    ensures { result ≡ true → AreGivenAlike named.now a.now b.now }
+{
+    match a {
+        Some(a) => is_given_alike(named, a, b),
+        None => is_none(named, b),
+    }
+}
+
+// Whether what each directory gives them is alike.
 fn is_like(named: &[Sid], a: &Party, b: &Party) -> bool
     ensures { result ≡ true → IsLike named.now a.now b.now }
 {
-    are_tokens_alike(named, &a.was, &b.was) && are_tokens_alike(named, &a.is, &b.is)
+    are_given_alike(named, &a.was, &b.was) && are_given_alike(named, &a.is, &b.is)
 }
 
-// Whether a principal is of the kind of the one at a place.
-fn is_like_at(named: &[Sid], parties: &[Party], first: usize, party: &Party) -> bool
+/// Whether an identity is of the kind of the one at a place.
+pub(crate) fn is_like_at(named: &[Sid], parties: &[Party], first: usize, party: &Party) -> bool
     ensures { result ≡ true → IsLikeAt named.now parties.now first party.now }
 {
     match party_at(parties, first) {
@@ -82,7 +112,7 @@ fn first_of(firsts: &[usize], kind: u32) -> Option<usize>
     }
 }
 
-// Whether a principal is of a kind.
+// Whether an identity is of a kind.
 fn is_of(named: &[Sid], parties: &[Party], firsts: &[usize], kind: u32, party: &Party) -> bool
     ensures { result ≡ true → IsOfKind named.now parties.now firsts.now kind party.now }
 {
@@ -92,7 +122,7 @@ fn is_of(named: &[Sid], parties: &[Party], firsts: &[usize], kind: u32, party: &
     }
 }
 
-// A new kind, of the principal at the place.
+// A new kind, of the identity at the place.
 fn begin(firsts: &mut Vec<usize>, place: usize) -> Result<u32, AllocError>
     ensures { IfOk result (λ kind. (named : List SidValue) (parties : List PartyValue)
         → IsNextKind named parties firsts.old.items firsts.new.items place kind) }
@@ -102,7 +132,7 @@ fn begin(firsts: &mut Vec<usize>, place: usize) -> Result<u32, AllocError>
     Ok(kind)
 }
 
-// The kind of the principal at the place: this one, or a new one.
+// The kind of the identity at the place: this one, or a new one.
 fn kind_of(
     named: &[Sid],
     parties: &[Party],
@@ -122,7 +152,7 @@ fn kind_of(
     begin(firsts, place)
 }
 
-// The kinds of one more principal.
+// The kinds of one more identity.
 fn join(
     named: &[Sid],
     parties: &[Party],
@@ -159,12 +189,19 @@ fn mixed_token(hash: u64, named: &IndexSet<Sid>, token: &Token) -> u64 {
     mixed(mixed(hash, u64::from(token.privileges)), held)
 }
 
-// A hash that principals have in common that hold the same of what is named, each identifier once.
-fn hash_of(named: &IndexSet<Sid>, party: &Party) -> u64 {
-    mixed_token(mixed_token(NOTHING, named, &party.was), named, &party.is)
+fn mixed_given(hash: u64, named: &IndexSet<Sid>, token: &Option<Token>) -> u64 {
+    match token {
+        Some(token) => mixed_token(hash, named, token),
+        None => mixed(hash, NOTHING),
+    }
 }
 
-/// The kinds of these principals by the identifiers that are named.
+/// A hash that identities have in common that hold the same of what is named, each identifier once.
+pub(crate) fn hash_of(named: &IndexSet<Sid>, party: &Party) -> u64 {
+    mixed_given(mixed_given(NOTHING, named, &party.was), named, &party.is)
+}
+
+/// The kinds of these identities by the identifiers that are named.
 ///
 /// # Errors
 ///

@@ -1,13 +1,15 @@
 //! Pieces of text. Where memory runs out a part may have been put: the one call that makes the text then drops it.
 
-ghost use Rattle.std.specs.Prelude.{◌≡◌, ◌++◌, decimal, true, OnOk};
-ghost use Rattle.ad_bytes.specs.Puts.{spaced, labelled};
+ghost use Rattle.std.specs.Prelude.{◌≡◌, ◌++◌, Some, true, decimal, OnOk};
+ghost use Rattle.ad_bytes.specs.Puts.{spaced, ended, labelled};
 ghost use Rattle.ad_dir_model.specs.Objects.{is_live};
-ghost use Rattle.ad_dir_model.specs.Names.{name_text};
-ghost use Rattle.ad_diff.specs.Text.{sid_of};
+ghost use Rattle.ad_diff_rights.specs.Whose.{IsKnown};
+ghost use Rattle.ad_diff.specs.Text.{title_text, who_text};
 
+use ad_diff_rights::Who;
 use ad_dir::Dir;
-use ad_principals::{put, put_labelled, put_name, put_sid, put_spaced};
+use ad_identities::Identity;
+use ad_principals::{put_ended, put_labelled, put_name, put_sid, put_spaced};
 use std::alloc::{AllocError, Global};
 
 /// A number and a blank.
@@ -28,33 +30,43 @@ pub(crate) fn put_number_line(
     put_labelled(into, label, itoa::Buffer::new().format(number).as_bytes())
 }
 
-/// The identifier of an object, where it has one, and a blank.
-pub(crate) fn put_sid_of(
+// An identity's object is live.
+fn identity_lives(after: &Dir, identity: &Identity, number: u32)
+    requires identity { IsKnown after.now identity.now }
+    requires number { identity.now.number ≡ Some number }
+    ensures { is_live after.now.objects number ≡ true }
+{}
+
+// The name of an identity's object, and a line end; a hyphen where it has none.
+fn put_title(
     alloc: Global,
     into: &mut Vec<u8>,
-    dir: &Dir,
-    number: u32,
+    after: &Dir,
+    identity: &Identity,
 ) -> Result<(), AllocError>
-    ensures { OnOk result (into.new.items ≡ into.old.items ++ sid_of dir.now number) }
+    requires { IsKnown after.now identity.now }
+    ensures { OnOk result (into.new.items ≡ into.old.items
+        ++ ended (title_text after.now identity.now.number)) }
 {
-    match dir.self_sid(number) {
-        Some(sid) => put_sid(alloc, into, sid),
-        None => Ok(()),
+    match identity.number {
+        Some(number) => {
+            identity_lives(after, identity, number);
+            put_name(alloc, into, after, number)
+        }
+        None => put_ended(into, b"-"),
     }
 }
 
-/// A label, and the name of a live object and a line end.
-pub(crate) fn put_name_line(
+/// An identity by its identifier and its name in the second directory, and a line end.
+pub(crate) fn put_who(
     alloc: Global,
     into: &mut Vec<u8>,
-    label: &[u8],
-    dir: &Dir,
-    number: u32,
+    after: &Dir,
+    who: &Who,
 ) -> Result<(), AllocError>
-    requires { is_live dir.now.objects number ≡ true }
-    ensures { OnOk result (into.new.items ≡ into.old.items
-        ++ labelled label.now (name_text dir.now number)) }
+    requires { IsKnown after.now who.now.after }
+    ensures { OnOk result (into.new.items ≡ into.old.items ++ who_text after.now who.now) }
 {
-    put(into, label)?;
-    put_name(alloc, into, dir, number)
+    put_sid(alloc, into, &who.after.sid)?;
+    put_title(alloc, into, after, &who.after)
 }

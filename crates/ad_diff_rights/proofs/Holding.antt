@@ -1,6 +1,6 @@
 -- Tokens that hold the same of the identifiers that a descriptor names are granted the same by it, where own
 -- identifiers don't count.
-use Rattle.std.proofs.Common.{◌≡◌, ◌∙◌, ℕ, suc, Bool, true, false, ◌&&◌, ◌||◌, None, List, [], ◌∷◌}
+use Rattle.std.proofs.Common.{◌≡◌, ◌∙◌, ℕ, suc, Bool, true, false, ◌&&◌, ◌||◌, Option, Some, None, List, [], ◌∷◌}
 use Rattle.std.proofs.Common.{length, refl, sym, ap, subst, inl, inr, arith}
 use Rattle.std.specs.Prelude.{if◌then◌else◌, ◌==◌, not, All}
 use Rattle.std.specs.List.{list_any}
@@ -26,8 +26,9 @@ use Rattle.ad_both.specs.declared.both.Both.{Both}
 use Rattle.ad_diff_rights.specs.declared.tokens.Party.{Party}
 use Rattle.ad_diff_rights.specs.Rights.{class_at}
 use Rattle.ad_diff_rights.specs.Changes.{change_lines}
-use Rattle.ad_diff_rights.specs.Own.{grants_in, rights_in, changes_in, IsBare}
-use Rattle.ad_diff_rights.specs.Named.{IsForOne, IsNamed, IsNamedBoth, HoldAlike, AreTokensAlike, IsLike}
+use Rattle.ad_diff_rights.specs.Own.{grants_in, rights_in, granted_in, changes_in, IsBare, IsBareIf}
+use Rattle.ad_diff_rights.specs.Named.{IsForOne, IsNamed, IsNamedBoth, HoldAlike, AreTokensAlike, AreGivenAlike}
+use Rattle.ad_diff_rights.specs.Named.{IsLike}
 use Rattle.ad_diff_rights.proofs.Owned.{denies_is}
 use Rattle.ad_diff_rights.proofs.Pointwise.{same_by}
 
@@ -124,13 +125,22 @@ same_rights named dir a b number bare_a bare_b alike are =
     same_by dir.schema (grants_in dir a false number) (grants_in dir b false number) (class_at dir number)
     (λ path bit. granted_same named a b (sd_at dir.objects number) path bit bare_a bare_b alike are)
 
--- principals that are alike gain and lose the same
-pub like_changes : (named : List SidValue) (before after : Directory) (a b : Party) (o : Both) → IsBare a.was
-    → IsBare a.is → IsBare b.was → IsBare b.is → IsLike named a b → IsNamedBoth before after named o
+same_granted : (named : List SidValue) (dir : Directory) (a b : Option Token) (number : ℕ) → IsBareIf a → IsBareIf b
+    → AreGivenAlike named a b → IsNamed named (sd_at dir.objects number)
+    → granted_in dir a false number ≡ granted_in dir b false number
+same_granted named dir None None number bare_a bare_b alike are = refl
+same_granted named dir None (Some b) number bare_a bare_b alike are = absurd alike
+same_granted named dir (Some a) None number bare_a bare_b alike are = absurd alike
+same_granted named dir (Some a) (Some b) number bare_a bare_b alike are =
+    same_rights named dir a b number bare_a bare_b alike are
+
+-- identities that are alike gain and lose the same
+pub like_changes : (named : List SidValue) (before after : Directory) (a b : Party) (o : Both) → IsBareIf a.was
+    → IsBareIf a.is → IsBareIf b.was → IsBareIf b.is → IsLike named a b → IsNamedBoth before after named o
     → changes_in before after a.was a.is false o ≡ changes_in before after b.was b.is false o
 unfolding changes_in
 like_changes named before after a b o a_was a_is b_was b_is like are =
-    ap (λ (had : List (List ℕ)). change_lines had (rights_in after a.is false o.after))
-    (same_rights named before a.was b.was o.before a_was b_was like.was are.first)
-    ∙ ap (λ (has : List (List ℕ)). change_lines (rights_in before b.was false o.before) has)
-    (same_rights named after a.is b.is o.after a_is b_is like.is are.second)
+    ap (λ (had : List (List ℕ)). change_lines had (granted_in after a.is false o.after))
+    (same_granted named before a.was b.was o.before a_was b_was like.was are.first)
+    ∙ ap (λ (has : List (List ℕ)). change_lines (granted_in before b.was false o.before) has)
+    (same_granted named after a.is b.is o.after a_is b_is like.is are.second)

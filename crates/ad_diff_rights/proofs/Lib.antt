@@ -7,7 +7,7 @@ pub mod Holding
 pub mod NoChange
 pub mod Naming
 pub mod Live
-pub mod Lacking
+pub mod Lone
 pub mod Masks
 pub mod Leaves
 pub mod Labels

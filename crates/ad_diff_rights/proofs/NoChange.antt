@@ -1,5 +1,5 @@
 -- Where nothing of a principal and an object differs, no line says that anything does.
-use Rattle.std.proofs.Common.{◌≡◌, ◌∙◌, ℕ, Bool, true, false, List, [], ◌∷◌, ◌++◌, Option, None, refl, sym, ap}
+use Rattle.std.proofs.Common.{◌≡◌, ◌∙◌, ℕ, Bool, true, false, List, [], ◌∷◌, ◌++◌, Option, Some, None, refl, sym, ap}
 use Rattle.std.proofs.Common.{append_assoc}
 use Rattle.std.specs.Prelude.{◌||◌, if◌then◌else◌, codes}
 use Rattle.std.specs.List.{flat_map, list_any}
@@ -16,7 +16,7 @@ use Rattle.ad_both.specs.declared.both.Both.{Both}
 use Rattle.ad_diff_rights.specs.declared.tokens.Party.{Party}
 use Rattle.ad_diff_rights.specs.Rights.{rights_by, grants_by}
 use Rattle.ad_diff_rights.specs.Changes.{has_label, line_unless, lines_without, change_lines}
-use Rattle.ad_diff_rights.specs.Own.{own_sid, rights_in, changes_in}
+use Rattle.ad_diff_rights.specs.Own.{own_sid, rights_in, granted_in, changes_in}
 use Rattle.ad_diff_rights.specs.Same.{IsUnchanged, IsUnchangedParty}
 
 -- ---- equal lists have no lines
@@ -57,16 +57,13 @@ no_change all =
 
 -- ---- equal rights
 
-one_right : (before after : Directory) (was is : Token) (own : Bool) (o : Both) → before.schema ≡ after.schema
-    → was ≡ is → IsUnchanged before after o → rights_in before was own o.before ≡ rights_in after is own o.after
+one_right : (before after : Directory) (is : Token) (own : Bool) (o : Both) → before.schema ≡ after.schema
+    → IsUnchanged before after o → rights_in before is own o.before ≡ rights_in after is own o.after
 unfolding rights_in
-one_right before after was is own o one_schema one_token same =
+one_right before after is own o one_schema same =
     ap (λ (schema : List SchemaRecord). rights_by schema
-    (grants_by (sd_at before.objects o.before) was (own_sid before own o.before))
+    (grants_by (sd_at before.objects o.before) is (own_sid before own o.before))
     (record { 0 = (object_at before.objects o.before).class })) one_schema
-    ∙ ap (λ (token : Token). rights_by after.schema
-    (grants_by (sd_at before.objects o.before) token (own_sid before own o.before))
-    (record { 0 = (object_at before.objects o.before).class })) one_token
     ∙ ap (λ (sd : Sd). rights_by after.schema (grants_by sd is (own_sid before own o.before))
     (record { 0 = (object_at before.objects o.before).class })) same.sd
     ∙ ap (λ (self : Option SidValue). rights_by after.schema
@@ -75,10 +72,17 @@ one_right before after was is own o one_schema one_token same =
     ∙ ap (λ (class : ℕ). rights_by after.schema
     (grants_by (sd_at after.objects o.after) is (own_sid after own o.after)) (record { 0 = class })) same.class
 
+one_granted : (before after : Directory) (token : Option Token) (own : Bool) (o : Both) → before.schema ≡ after.schema
+    → IsUnchanged before after o → granted_in before token own o.before ≡ granted_in after token own o.after
+one_granted before after None own o one_schema same = refl
+one_granted before after (Some token) own o one_schema same = one_right before after token own o one_schema same
+
 pub none_differs : (before after : Directory) (party : Party) (own : Bool) (o : Both) → IsUnchangedParty before after party
     → IsUnchanged before after o → changes_in before after party.was party.is own o ≡ []
 unfolding changes_in
 none_differs before after party own o unchanged_party same =
-    ap (λ (had : List (List ℕ)). change_lines had (rights_in after party.is own o.after))
-    (one_right before after party.was party.is own o unchanged_party.schema unchanged_party.token same)
-    ∙ no_change (rights_in after party.is own o.after)
+    ap (λ (token : Option Token). change_lines (granted_in before token own o.before)
+    (granted_in after party.is own o.after)) unchanged_party.token
+    ∙ ap (λ (had : List (List ℕ)). change_lines had (granted_in after party.is own o.after))
+    (one_granted before after party.is own o unchanged_party.schema same)
+    ∙ no_change (granted_in after party.is own o.after)

@@ -18,9 +18,9 @@ use Rattle.ad_dir_model.specs.Objects.{sd_at}
 use Rattle.ad_dir_model.specs.Identity.{self_sid}
 use Rattle.ad_both.specs.declared.both.Both.{Both}
 use Rattle.ad_diff_rights.specs.Rights.{grants_by, class_at, rights}
-use Rattle.ad_diff_rights.specs.Changes.{change_lines, changes}
-use Rattle.ad_diff_rights.specs.Own.{is_for_self, own_sid, asked_in, grants_in, rights_in, changes_in, holds_own}
-use Rattle.ad_diff_rights.specs.Own.{IsBare}
+use Rattle.ad_diff_rights.specs.Changes.{change_lines, granted_to, changes}
+use Rattle.ad_diff_rights.specs.Own.{is_for_self, own_sid, asked_in, grants_in, rights_in, granted_in, changes_in}
+use Rattle.ad_diff_rights.specs.Own.{holds_own, given_holds_own, IsBare, IsBareIf}
 use Rattle.ad_diff_rights.proofs.Pointwise.{same_by}
 use Rattle.ad_diff_rights.proofs.Unasked.{granted_any}
 
@@ -78,19 +78,32 @@ rights_bare dir token number bare none =
     ∙ granted_alike sd.owner sd.dacl.entries token (asked_in dir number) None path bit
     (alone token (asked_in dir number) bare none))
 
+granted_bare : (dir : Directory) (token : Option Token) (number : ℕ) → IsBareIf token
+    → given_holds_own token (asked_in dir number) ≡ false → granted_in dir token true number ≡ granted_in dir token false number
+granted_bare dir None number bare none = refl
+granted_bare dir (Some token) number bare none = rights_bare dir token number bare none
+
 -- who holds none of both own identifiers gains and loses the same as if there were none
-pub changes_bare : (before after : Directory) (was is : Token) (o : Both) → IsBare was → IsBare is
-    → holds_own was (asked_in before o.before) ≡ false → holds_own is (asked_in after o.after) ≡ false
+pub changes_bare : (before after : Directory) (was is : Option Token) (o : Both) → IsBareIf was → IsBareIf is
+    → given_holds_own was (asked_in before o.before) ≡ false → given_holds_own is (asked_in after o.after) ≡ false
     → changes_in before after was is true o ≡ changes_in before after was is false o
 unfolding changes_in
 changes_bare before after was is o bare_was bare_is none none_too =
-    ap (λ (had : List (List ℕ)). change_lines had (rights_in after is true o.after))
-    (rights_bare before was o.before bare_was none)
-    ∙ ap (λ (has : List (List ℕ)). change_lines (rights_in before was false o.before) has)
-    (rights_bare after is o.after bare_is none_too)
+    ap (λ (had : List (List ℕ)). change_lines had (granted_in after is true o.after))
+    (granted_bare before was o.before bare_was none)
+    ∙ ap (λ (has : List (List ℕ)). change_lines (granted_in before was false o.before) has)
+    (granted_bare after is o.after bare_is none_too)
 
 -- with the own identifiers they are those of the rules
-pub changes_own : (before after : Directory) (was is : Token) (o : Both)
+granted_own : (dir : Directory) (token : Option Token) (number : ℕ)
+    → granted_in dir token true number ≡ granted_to dir token number
+unfolding rights_in rights
+granted_own dir None number = refl
+granted_own dir (Some token) number = refl
+
+pub changes_own : (before after : Directory) (was is : Option Token) (o : Both)
     → changes_in before after was is true o ≡ changes before after was is o
-unfolding changes_in rights_in changes rights
-changes_own before after was is o = refl
+unfolding changes_in changes
+changes_own before after was is o =
+    ap (λ (had : List (List ℕ)). change_lines had (granted_in after is true o.after)) (granted_own before was o.before)
+    ∙ ap (change_lines (granted_to before was o.before)) (granted_own after is o.after)

@@ -1,7 +1,8 @@
 pub mod Both
+pub mod Whose
+pub mod Parties
 pub mod Rights
 pub mod Changes
-pub mod Parties
 pub mod Own
 pub mod Same
 pub mod Named

@@ -1,5 +1,5 @@
 -- Which identifiers descriptors name, and which tokens hold the same of them.
-use Rattle.std.specs.Prelude.{◌≡◌, true, List, All}
+use Rattle.std.specs.Prelude.{◌≡◌, true, Option, Some, None, List, All}
 use Rattle.ad_ids.specs.SidValue.{SidValue, contains_sid}
 use Rattle.ad_ids.specs.declared.token.Token.{Token}
 use Rattle.ad_acl.specs.Entry.{Entry}
@@ -39,7 +39,14 @@ pub record AreTokensAlike (named : List SidValue) (a b : Token) : Type 0 where
   pub privileges : a.privileges ≡ b.privileges
   pub held : HoldAlike named a b
 
--- the tokens of each directory are alike
+-- or there is none
+abbrev pub AreGivenAlike : List SidValue → Option Token → Option Token → Type 0
+AreGivenAlike named None None = Unit {0}
+AreGivenAlike named None (Some b) = ⊥
+AreGivenAlike named (Some a) None = ⊥
+AreGivenAlike named (Some a) (Some b) = AreTokensAlike named a b
+
+-- what each directory gives them is alike
 pub record IsLike (named : List SidValue) (a b : Party) : Type 0 where
-  pub was : AreTokensAlike named a.was b.was
-  pub is : AreTokensAlike named a.is b.is
+  pub was : AreGivenAlike named a.was b.was
+  pub is : AreGivenAlike named a.is b.is

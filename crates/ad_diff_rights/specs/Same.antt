@@ -26,12 +26,12 @@ pub record IsUnchanged (before after : Directory) (o : Both) : Type 0 where
   pub sd : sd_at before.objects o.before ≡ sd_at after.objects o.after
   pub self : self_sid before o.before ≡ self_sid after o.after
 
--- what the principal is granted differs by objects alone: the schemas are equal, and so are its tokens
+-- what the identity is granted differs by objects alone: the schemas are equal, and so is what they give it
 pub record IsUnchangedParty (before after : Directory) (party : Party) : Type 0 where
   pub schema : before.schema ≡ after.schema
   pub token : party.was ≡ party.is
 
--- a principal whose flag is set is such a one
+-- one whose flag is set is such a one
 abbrev pub AreUnchangedParties : Directory → Directory → List Party → List Bool → Type 0
 AreUnchangedParties before after parties flags = (place : ℕ) (party : Party) → slice_get parties place ≡ Some party
     → slice_get flags place ≡ Some true → IsUnchangedParty before after party

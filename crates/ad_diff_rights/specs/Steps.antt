@@ -1,5 +1,5 @@
 -- Only for private contracts, invariants and proofs: texts, tables of them, and rights of masks.
-use Rattle.std.specs.Prelude.{◌≡◌, ℕ, ◌<◌, true, ◌||◌, List, [], Vec, All, map, codes, slice_get}
+use Rattle.std.specs.Prelude.{◌≡◌, ℕ, ◌<◌, Bool, true, not, ◌&&◌, ◌||◌, List, [], Vec, All, map, codes, slice_get}
 use Rattle.std.specs.Borrow.{Bor}
 use Rattle.std.specs.Str.{bytes_eq}
 use Rattle.std.specs.declared.alloc.Global.{Global}
@@ -11,6 +11,9 @@ use Rattle.ad_schema.specs.declared.line.SchemaRecord.{SchemaRecord}
 use Rattle.ad_schema.specs.declared.info.AttrId.{AttrId}
 use Rattle.ad_schema.specs.declared.info.AttrInfo.{AttrInfo}
 use Rattle.ad_schema.specs.Attributes.{attrs_of}
+use Rattle.ad_ids.specs.SidValue.{SidValue}
+use Rattle.ad_dir_model.specs.Directory.{Directory}
+use Rattle.ad_identities.specs.Identities.{has_principal}
 use Rattle.ad_access_dir.specs.Labels.{label_of}
 use Rattle.ad_diff_rights.specs.Rights.{labels, attribute_codes}
 use Rattle.ad_diff_rights.specs.Changes.{has_label}
@@ -37,3 +40,7 @@ unfoldable pub masked_attribute : List SchemaRecord → AttrId → ℕ → List 
 masked_attribute schema id mask = option_map_or
     (λ (info : AttrInfo). labels (has_bit mask) (label_of (codes "attribute ") info.name) attribute_codes)
     (slice_get (attrs_of schema) id.0) []
+
+-- the identifier is a principal's in neither
+abbrev pub is_nobodys : Directory → Directory → SidValue → Bool
+is_nobodys before after sid = not (has_principal before sid) && not (has_principal after sid)

@@ -1,10 +1,11 @@
-//! What a principal gains and loses on an object.
+//! What an identity gains and loses on an object.
 
 ghost use Rattle.std.specs.Prelude.{◌≡◌, ◌++◌, [], take, if◌then◌else◌, IfOk, OnOk};
 ghost use Rattle.std.specs.List.{flat_map, list_any};
 ghost use Rattle.ad_bytes.specs.Puts.{labelled};
 ghost use Rattle.ad_diff_rights.specs.Changes.{has_label, line_unless, lines_without, change_lines};
-ghost use Rattle.ad_diff_rights.specs.Own.{changes_in};
+ghost use Rattle.ad_dir_model.specs.Objects.{is_live};
+ghost use Rattle.ad_diff_rights.specs.Own.{granted_in, changes_in};
 ghost use Rattle.ad_diff_rights.specs.Steps.{texts};
 ghost use Rattle.ad_both.specs.Both.{IsLiveBoth};
 
@@ -96,7 +97,24 @@ fn change_lines(alloc: Global, was: &[Vec<u8>], is: &[Vec<u8>]) -> Result<Vec<u8
     Ok(lines)
 }
 
-/// The lines of what is gained and lost, of tokens of a principal on an object that is live in both: with the object's
+// What is granted; to who has no token nothing.
+fn granted_in(
+    alloc: Global,
+    dir: &Dir,
+    token: &Option<Token>,
+    number: u32,
+    own: bool,
+) -> Result<Vec<Vec<u8>>, AllocError>
+    requires { is_live dir.now.objects number ≡ true }
+    ensures { IfOk result (λ granted. texts granted.items ≡ granted_in dir.now token.now own number) }
+{
+    match token {
+        Some(token) => rights(alloc, dir, token, number, own),
+        None => Ok(Vec::new(alloc)),
+    }
+}
+
+/// The lines of what is gained and lost, of tokens of an identity on an object that is live in both: with the object's
 /// own identifiers, or as if it had none.
 ///
 /// # Errors
@@ -107,8 +125,8 @@ pub(crate) fn changes(
     alloc: Global,
     before: &Dir,
     after: &Dir,
-    was: &Token,
-    is: &Token,
+    was: &Option<Token>,
+    is: &Option<Token>,
     own: bool,
     o: Both,
 ) -> Result<Vec<u8>, AllocError>
@@ -116,7 +134,7 @@ pub(crate) fn changes(
     ensures { IfOk result (λ lines. lines.items
         ≡ changes_in before.now after.now was.now is.now own o) }
 {
-    let had = rights(alloc, before, was, o.before, own)?;
-    let has = rights(alloc, after, is, o.after, own)?;
+    let had = granted_in(alloc, before, was, o.before, own)?;
+    let has = granted_in(alloc, after, is, o.after, own)?;
     change_lines(alloc, had.as_slice(), has.as_slice())
 }

@@ -1,5 +1,5 @@
-//! What a principal gains and loses on an object from one directory to another: which principals stand in both, which
-//! token each directory gives a principal, and which rights a token is granted on an object, as lines.
+//! What an identity gains and loses on an object from one directory to another: which identities are compared, which
+//! token each directory gives one, and which rights a token is granted on an object, as lines.
 //!
 //! The rules are written in `docs/profile/diff.md`, and defined in `specs/` apart from the code.
 //!
@@ -8,24 +8,25 @@
 //! ```text
 //! let objects = ad_both::objects_of_both(alloc, &before, &after)?;
 //! let principals = ad_diff_rights::principals_among(alloc, &before, &after, objects.as_slice())?;
-//! let parties = ad_diff_rights::parties(alloc, &before, &after, principals.as_slice())?;
+//! let whose = ad_diff_rights::identities_of_both(alloc, &before, &after, principals.as_slice())?;
+//! let parties = ad_diff_rights::parties(alloc, &before, &after, whose.as_slice())?;
 //! ```
 //!
 //! # Proved
 //!
-//! The lines of a principal on an object are those of the rules, with the object's own identifier or as if it had none.
-//! Tokens are those of the directories, or the first principal is told that has too many groups. Laws, in `proofs/`:
-//! which objects are alike, which principals are, and for whom the own identifier counts.
+//! The lines of an identity on an object are those of the rules, with the object's own identifier or as if it had none.
+//! All identities of both are listed, each once. Tokens are those of the directories, and none where there are too many
+//! groups for one. Laws, in `proofs/`: which objects are alike, which identities are, and for whom the own identifier counts.
 //!
 //! # The caller owes
 //!
-//! Objects that are live in both directories, and principals that stand in both. Marks of `unchanged_flags`.
+//! Objects that are live in both directories, and identities of both. Marks of `unchanged_flags`.
 //!
 //! # Cost
 //!
-//! A principal on an object takes a sweep over the descriptor of each directory for the tree of attributes, and one for
+//! An identity on an object takes a sweep over the descriptor of each directory for the tree of attributes, and one for
 //! each right and class that is asked for. Nothing is judged where nothing can differ: the schemas are equal, so are
-//! the principal's tokens, and the object has the class, the descriptor and the identifier in both.
+//! the identity's tokens, and the object has the class, the descriptor and the identifier in both.
 #![tactic(auto)]
 
 mod asked;
@@ -41,10 +42,12 @@ mod same;
 mod sought;
 mod tokens;
 mod unchanged;
+mod whose;
 
 pub use both::principals_among;
-pub use named::named_by;
+pub use named::{named_by, named_on};
 pub use own::asked_in;
 pub use same::is_unchanged;
-pub use tokens::{DiffFault, Party, parties, party_at};
+pub use tokens::{Party, parties, party_at};
 pub use unchanged::{Sides, changes_at, unchanged_flags};
+pub use whose::{Who, identities_of_both};

@@ -58,6 +58,25 @@ fn name_both(
     Ok(())
 }
 
+/// Those that the descriptors of an object name, in each directory.
+///
+/// # Errors
+///
+/// Out of memory.
+pub fn named_on(
+    alloc: Global,
+    before: &Dir,
+    after: &Dir,
+    o: Both,
+) -> Result<IndexSet<Sid>, AllocError>
+    requires { IsLiveBoth before.now after.now o }
+    ensures { IfOk result (λ named. IsNamedBoth before.now after.now named.keys o) }
+{
+    let mut named = IndexSet::new(alloc);
+    name_both(&mut named, before, after, o)?;
+    Ok(named)
+}
+
 /// Those that the descriptors of these objects name, in each directory.
 ///
 /// # Errors

@@ -1,6 +1,6 @@
-//! What is the same in both directories: the schema, the token of a principal, an object.
+//! What is the same in both directories: the schema, the token of an identity, an object.
 
-ghost use Rattle.std.specs.Prelude.{◌≡◌, true};
+ghost use Rattle.std.specs.Prelude.{◌≡◌, true, Some, None};
 ghost use Rattle.ad_sd.specs.Seen.{seen};
 ghost use Rattle.ad_diff_rights.specs.Same.{IsUnchanged};
 ghost use Rattle.ad_both.specs.Both.{IsLiveBoth};
@@ -103,8 +103,8 @@ fn same_names(a: &Token, b: &Token) -> bool
     a.primary == b.primary
 }
 
-/// Whether two tokens are equal.
-pub(crate) fn same_token(a: &Token, b: &Token) -> bool
+// Whether two tokens are equal.
+fn same_token(a: &Token, b: &Token) -> bool
     ensures { result ≡ true → a.now ≡ b.now }
 {
     if a.version != b.version {
@@ -117,6 +117,36 @@ pub(crate) fn same_token(a: &Token, b: &Token) -> bool
         return false;
     }
     same_lists(a, b)
+}
+
+// Whether there is this token.
+fn is_given(a: &Token, b: &Option<Token>) -> bool
+    ensures { result ≡ true → Some a.now ≡ b.now }
+{
+    match b {
+        Some(b) => same_token(a, b),
+        None => false,
+    }
+}
+
+// Whether there is none.
+fn is_none(b: &Option<Token>) -> bool
+    ensures { result ≡ true → None ≡ b.now }
+{
+    match b {
+        Some(_) => false,
+        None => true,
+    }
+}
+
+/// Whether there are two equal tokens, or there is none.
+pub(crate) fn same_given(a: &Option<Token>, b: &Option<Token>) -> bool
+    ensures { result ≡ true → a.now ≡ b.now }
+{
+    match a {
+        Some(a) => is_given(a, b),
+        None => is_none(b),
+    }
 }
 
 // ---- an object

@@ -1,115 +1,100 @@
-//! The tokens of the principals of both directories.
+//! The tokens of the identities of both directories.
 
-ghost use Rattle.std.specs.Prelude.{◌≡◌, ◌++◌, ◌∷◌, [], true, List, All, map, slice_get, IfOk, IfErr, OnOk};
+ghost use Rattle.std.specs.Prelude.{◌≡◌, ◌++◌, ◌∷◌, [], All, map, slice_get, IfOk, OnOk};
 ghost use Rattle.std.specs.Option.{option_copied};
-ghost use Rattle.ad_dir_model.specs.Objects.{is_live};
-ghost use Rattle.ad_principals.specs.Groups.{is_principal};
 ghost use Rattle.ad_principals.specs.Membership.{AreMembersOf};
-ghost use Rattle.ad_principals.specs.Tokens.{IsTokenOf, IsTokenFault};
-ghost use Rattle.ad_both.specs.declared.both.Both.{Both as BothValue};
-ghost use Rattle.ad_diff_rights.specs.declared.tokens.DiffFault.TheVariants as diff_fault;
-ghost use Rattle.ad_diff_rights.specs.Both.{are_principals};
-ghost use Rattle.ad_diff_rights.specs.Parties.{IsParty, AreNoParties, IsOfLive, IsNoToken};
+ghost use Rattle.ad_identities.specs.Identities.{IsIdentity, lone};
+ghost use Rattle.ad_diff_rights.specs.Parties.{IsParty, IsGiven};
+ghost use Rattle.ad_diff_rights.specs.Whose.{IsKnown, IsKnownBoth};
 
-use ad_both::Both;
+use crate::whose::Who;
 use ad_dir::Dir;
-use ad_ids::Token;
+use ad_identities::{Identity, identity_token, lone_token};
+use ad_ids::{Sid, Token};
 use ad_principals::{Members, TokenFault};
 use std::alloc::{AllocError, Global};
 
-/// A principal of both directories, with the token that each gives it.
+/// An identity of both directories, with the token that each gives it; none where it has more groups there than a token
+/// may.
 #[derive(Drop)]
 pub struct Party {
-    pub both: Both,
-    pub was: Token,
-    pub is: Token,
+    pub who: Who,
+    pub was: Option<Token>,
+    pub is: Option<Token>,
 }
 
-/// Why there are no differences.
-#[derive(Clone, Copy, Debug, PartialEq, Eq)]
-pub enum DiffFault {
-    /// The principal of this number in the first directory has more groups there than a token may.
-    Before(u32),
-    /// The one of this number in the second has them there.
-    After(u32),
-    /// Memory ran out.
-    Memory,
-}
-
-impl From<AllocError> for DiffFault {
-    ghost from_gives = { λ _ e. e ≡ diff_fault.Memory };
-
-    fn from(_: AllocError) -> DiffFault {
-        DiffFault::Memory
+// The token of an identity with an object.
+fn principal_token(
+    alloc: Global,
+    dir: &Dir,
+    members: &Members,
+    identity: &Identity,
+) -> Result<Option<Token>, AllocError>
+    requires members { AreMembersOf dir.now members.now }
+    requires identity { IsIdentity dir.now identity.now }
+    ensures { IfOk result (IsGiven dir.now identity.now) }
+{
+    match identity_token(alloc, dir, members, identity) {
+        Ok(token) => Ok(Some(token)),
+        Err(TokenFault::NoSid) => unreachable!(),
+        Err(TokenFault::TooMany) => Ok(None),
+        Err(TokenFault::Memory) => Err(AllocError),
     }
 }
 
-// A principal is live.
-fn principal_lives(dir: &Dir, principal: u32)
-    requires { is_principal dir.now principal ≡ true }
-    ensures { is_live dir.now.objects principal ≡ true }
-{}
+// The token of an identifier without one.
+fn sid_token(
+    alloc: Global,
+    dir: &Dir,
+    members: &Members,
+    sid: &Sid,
+) -> Result<Option<Token>, AllocError>
+    requires members { AreMembersOf dir.now members.now }
+    ensures { IfOk result (IsGiven dir.now (lone sid.now)) }
+{
+    match lone_token(alloc, dir, members, sid) {
+        Ok(token) => Ok(Some(token)),
+        Err(TokenFault::NoSid) => unreachable!(),
+        Err(TokenFault::TooMany) => Ok(None),
+        Err(TokenFault::Memory) => Err(AllocError),
+    }
+}
 
-// The token of a principal, or this fault where it has too many groups.
+// The token that a directory gives an identity, if it does.
 fn token_in(
     alloc: Global,
     dir: &Dir,
     members: &Members,
-    principal: u32,
-    fault: DiffFault,
-) -> Result<Token, DiffFault>
+    identity: &Identity,
+) -> Result<Option<Token>, AllocError>
     requires members { AreMembersOf dir.now members.now }
-    requires principal { is_principal dir.now principal ≡ true }
-    ensures token { IfOk result (IsTokenOf dir.now principal []) }
-    ensures fault { IfErr result (IsNoToken dir.now principal fault) }
+    requires known { IsKnown dir.now identity.now }
+    ensures { IfOk result (IsGiven dir.now identity.now) }
 {
-    match members.token(alloc, dir, principal, &[]) {
-        Ok(token) => Ok(token),
-        Err(TokenFault::NoSid) => unreachable!(),
-        Err(TokenFault::TooMany) => Err(fault),
-        Err(TokenFault::Memory) => Err(DiffFault::Memory),
+    match identity.number {
+        Some(_) => principal_token(alloc, dir, members, identity),
+        None => sid_token(alloc, dir, members, &identity.sid),
     }
 }
 
-// A principal with its tokens.
+// An identity with its tokens.
 fn party_of(
     alloc: Global,
     before: &Dir,
     after: &Dir,
     members: &Members,
     others: &Members,
-    principal: Both,
-) -> Result<Party, DiffFault>
+    who: Who,
+) -> Result<Party, AllocError>
     requires members { AreMembersOf before.now members.now }
     requires others { AreMembersOf after.now others.now }
-    requires principal { are_principals before.now after.now principal ≡ true }
-    ensures both { IfOk result (λ party. party.both ≡ principal) }
+    requires known { IsKnownBoth before.now after.now who }
+    ensures who { IfOk result (λ party. party.who ≡ who) }
     ensures party { IfOk result (IsParty before.now after.now) }
-    ensures fault { IfErr result (λ fault. (others : List BothValue)
-        → AreNoParties before.now after.now (principal ∷ others) fault) }
-    ensures live { IfErr result (IsOfLive before.now after.now) }
 {
-    principal_lives(before, principal.before);
-    principal_lives(after, principal.after);
-    let was = token_in(
-        alloc,
-        before,
-        members,
-        principal.before,
-        DiffFault::Before(principal.before),
-    )?;
-    let is = token_in(
-        alloc,
-        after,
-        others,
-        principal.after,
-        DiffFault::After(principal.after),
-    )?;
-    Ok(Party {
-        both: principal,
-        was,
-        is,
-    })
+    let was = token_in(alloc, before, members, &who.before)?;
+    let is = token_in(alloc, after, others, &who.after)?;
+    Ok(Party { who, was, is })
 }
 
 fn push_party(parties: &mut Vec<Party>, party: Party) -> Result<(), AllocError>
@@ -119,60 +104,50 @@ fn push_party(parties: &mut Vec<Party>, party: Party) -> Result<(), AllocError>
     Ok(())
 }
 
-// Each of these principals with its tokens.
+// Each of these identities with its tokens.
 fn parties_of(
     alloc: Global,
     before: &Dir,
     after: &Dir,
     members: &Members,
     others: &Members,
-    principals: &[Both],
-) -> Result<Vec<Party>, DiffFault>
+    whose: &[Who],
+) -> Result<Vec<Party>, AllocError>
     requires members { AreMembersOf before.now members.now }
     requires others { AreMembersOf after.now others.now }
-    requires principals { All (λ p. are_principals before.now after.now p ≡ true) principals.now }
-    ensures both { IfOk result (λ parties. map (λ party. party.both) parties.items
-        ≡ principals.now) }
+    requires known { All (IsKnownBoth before.now after.now) whose.now }
+    ensures who { IfOk result (λ parties. map (λ party. party.who) parties.items ≡ whose.now) }
     ensures parties { IfOk result (λ parties. All (IsParty before.now after.now) parties.items) }
-    ensures fault { IfErr result (AreNoParties before.now after.now principals.now) }
-    ensures live { IfErr result (IsOfLive before.now after.now) }
 {
     let mut parties = Vec::new(alloc);
-    for principal in principals {
-        let party = match party_of(alloc, before, after, members, others, *principal) {
-            Ok(party) => party,
-            Err(fault) => return Err(fault),
-        };
+    for who in whose {
+        let party = party_of(alloc, before, after, members, others, *who)?;
         push_party(&mut parties, party)?;
     }
     Ok(parties)
 }
 
-/// Each of these principals of both with its tokens.
+/// Each of these identities of both with its tokens.
 ///
 /// # Errors
 ///
-/// `Before` or `After` of the first that has too many groups in the first directory, or in the second. `Memory` where
-/// memory ran out.
+/// Out of memory.
 pub fn parties(
     alloc: Global,
     before: &Dir,
     after: &Dir,
-    principals: &[Both],
-) -> Result<Vec<Party>, DiffFault>
-    requires { All (λ p. are_principals before.now after.now p ≡ true) principals.now }
-    ensures both { IfOk result (λ parties. map (λ party. party.both) parties.items
-        ≡ principals.now) }
+    whose: &[Who],
+) -> Result<Vec<Party>, AllocError>
+    requires { All (IsKnownBoth before.now after.now) whose.now }
+    ensures who { IfOk result (λ parties. map (λ party. party.who) parties.items ≡ whose.now) }
     ensures parties { IfOk result (λ parties. All (IsParty before.now after.now) parties.items) }
-    ensures fault { IfErr result (AreNoParties before.now after.now principals.now) }
-    ensures live { IfErr result (IsOfLive before.now after.now) }
 {
     let members = Members::of(alloc, before)?;
     let others = Members::of(alloc, after)?;
-    parties_of(alloc, before, after, &members, &others, principals)
+    parties_of(alloc, before, after, &members, &others, whose)
 }
 
-/// The principal at a place, if there is one.
+/// The identity at a place, if there is one.
 pub fn party_at(parties: &[Party], place: usize) -> Option<&Party>
     ensures { option_copied result ≡ slice_get parties.entry.now place }
 {

@@ -1,4 +1,4 @@
-//! What a principal gains and loses on an object, without judging where nothing of both differs.
+//! What an identity gains and loses on an object, without judging where nothing of both differs.
 
 ghost use Rattle.std.specs.Prelude.{◌≡◌, true, Some, slice_get, IfOk};
 ghost use Rattle.ad_dir_model.specs.Directory.{Directory};
@@ -8,13 +8,13 @@ ghost use Rattle.ad_diff_rights.specs.Same.{IsUnchanged, IsUnchangedParty, AreUn
 ghost use Rattle.ad_diff_rights.specs.Sides.{changes_at, AreFlagged};
 
 use crate::changes::changes;
-use crate::same::{same_schema, same_token};
+use crate::same::{same_given, same_schema};
 use crate::tokens::{Party, party_at};
 use ad_both::Both;
 use ad_dir::Dir;
 use std::alloc::{AllocError, Global};
 
-/// Two directories, their principals, and of each principal whether what it is granted differs by objects alone.
+/// Two directories, the identities of both, and of each whether what it is granted differs by objects alone.
 #[derive(Drop)]
 pub struct Sides<'a> {
     pub before: &'a Dir,
@@ -23,7 +23,7 @@ pub struct Sides<'a> {
     pub flags: &'a [bool],
 }
 
-// Whether both tokens of a principal are equal, where the schemas are.
+// Whether both tokens of an identity are equal, where the schemas are.
 fn is_unchanged_party(one_schema: bool, party: &Party) -> bool
     ensures { result ≡ true → (before after : Directory)
         → (one_schema ≡ true → before.schema ≡ after.schema) → IsUnchangedParty before after party.now }
@@ -31,10 +31,10 @@ fn is_unchanged_party(one_schema: bool, party: &Party) -> bool
     if !one_schema {
         return false;
     }
-    same_token(&party.was, &party.is)
+    same_given(&party.was, &party.is)
 }
 
-/// Of each principal whether what it is granted differs by objects alone. The schemas are compared once.
+/// Of each identity whether what it is granted differs by objects alone. The schemas are compared once.
 ///
 /// # Errors
 ///
@@ -65,8 +65,8 @@ fn is_flagged(flags: &[bool], place: usize) -> bool
     }
 }
 
-// The lines of a principal on an object that is live in both. They are none, and nothing is judged, where neither
-// the principal nor the object is changed.
+// The lines of an identity on an object that is live in both. They are none, and nothing is judged, where neither
+// the identity nor the object is changed.
 fn lines_of(
     alloc: Global,
     sides: &Sides<'_>,
@@ -98,8 +98,8 @@ fn lines_of(
     )
 }
 
-/// The lines of the principal at a place on an object that is live in both, with the object's own identifiers or as if
-/// it had none; where there is no principal, none. `unchanged` is what `is_unchanged` says of the object.
+/// The lines of the identity at a place on an object that is live in both, with the object's own identifiers or as if
+/// it had none; where there is no identity, none. `unchanged` is what `is_unchanged` says of the object.
 ///
 /// # Errors
 ///

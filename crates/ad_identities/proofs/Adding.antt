@@ -17,7 +17,7 @@ use Rattle.ad_identities.specs.Told.{Adds}
 
 -- ---- one
 
-or_none : (b : Bool) → (b || false) ≡ b
+pub or_none : (b : Bool) → (b || false) ≡ b
 or_none true = refl
 or_none false = refl
 
@@ -44,7 +44,7 @@ adds_key old new sid put =
 
 -- ---- one after the other
 
-or_assoc : (a b c : Bool) → ((a || b) || c) ≡ (a || (b || c))
+pub or_assoc : (a b c : Bool) → ((a || b) || c) ≡ (a || (b || c))
 or_assoc true b c = refl
 or_assoc false b c = refl
 

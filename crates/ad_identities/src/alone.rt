@@ -30,7 +30,8 @@ fn is_always(sid: &Sid) -> bool
     sid.is_well_known(5, 7) || sid.is_well_known(1, 0) || sid.is_well_known(5, 11)
 }
 
-fn has_principal(dir: &Dir, sid: &Sid) -> bool
+/// Whether an identifier is a principal's.
+pub fn has_principal(dir: &Dir, sid: &Sid) -> bool
     ensures { result ≡ has_principal dir.now sid.now }
 {
     match dir.with_sid(sid) {
@@ -61,12 +62,12 @@ fn standing(alloc: Global, dir: &Dir, sids: &[Sid]) -> Result<Vec<Sid>, AllocErr
     Ok(those)
 }
 
-/// All of them, in rising order of their bytes.
+/// The identifiers that count without a principal, in rising order of their bytes.
 ///
 /// # Errors
 ///
 /// Out of memory.
-pub(crate) fn without_principal(alloc: Global, dir: &Dir) -> Result<Vec<Sid>, AllocError>
+pub fn without_principal(alloc: Global, dir: &Dir) -> Result<Vec<Sid>, AllocError>
     ensures rise { IfOk result (λ those. SidsRise those.items) }
     ensures each { IfOk result (λ those. (sid : SidValue) → contains_sid those.items sid
         ≡ is_without_principal dir.now sid) }

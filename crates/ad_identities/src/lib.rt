@@ -34,6 +34,7 @@ mod named;
 mod token;
 mod told;
 
+pub use alone::{has_principal, without_principal};
 pub use identity::Identity;
 pub use laws::{
     an_identity_has_one_token, an_identity_is_named_by_its_text,
@@ -41,4 +42,4 @@ pub use laws::{
 };
 pub use listing::identities;
 pub use named::identity_named;
-pub use token::identity_token;
+pub use token::{identity_token, lone_token};

@@ -59,8 +59,18 @@ fn bound_token(alloc: Global, dir: &Dir, members: &Members, sid: &Sid) -> Result
     members.token_from(alloc, dir, sid, &Sid::well_known(1, 0), first.as_slice())
 }
 
-// The token of an identifier without a principal.
-fn lone_token(alloc: Global, dir: &Dir, members: &Members, sid: &Sid) -> Result<Token, TokenFault>
+/// The token of an identifier that is no principal's, where these are the directory's members, whether a descriptor tells
+/// it or not: that of the identity without an object.
+///
+/// # Errors
+///
+/// `TooMany` above 1,024 groups. `Memory` where memory ran out.
+pub fn lone_token(
+    alloc: Global,
+    dir: &Dir,
+    members: &Members,
+    sid: &Sid,
+) -> Result<Token, TokenFault>
     requires { AreMembersOf dir.now members.now }
     ensures token { IfOk result (IsTokenAlone (same_sid sid.now anonymous) dir.now sid.now) }
     ensures fault { IfErr result (IsFaultBy dir.now sid.now None) }

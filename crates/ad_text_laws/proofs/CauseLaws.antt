@@ -14,7 +14,6 @@ use Rattle.ad_ids.specs.Sid.{IsSid}
 use Rattle.ad_ids.specs.SidText.{sid_text}
 use Rattle.ad_dn.specs.declared.rdn.Dn.{Dn}
 use Rattle.ad_dn.specs.Value.{AreRdns}
-use Rattle.ad_dn.specs.Reading.{dn_of}
 use Rattle.ad_dn.specs.Text.{is_control, has_no_control, dn_text}
 use Rattle.ad_dn.proofs.OneLine.{rdns_shown}
 use Rattle.ad_causes.specs.Cause.{Cause, object, owner, protection, order, entry, class, primary, history, member, schema}
@@ -22,7 +21,7 @@ use Rattle.ad_causes.specs.Cause.{sign, divided, cause_line}
 use Rattle.ad_text_laws.specs.Lines.{is_line, word_of, number_of}
 use Rattle.ad_text_laws.specs.CauseLines.{cause_text, parts_of, object_cause, owner_cause, entry_cause, member_cause}
 use Rattle.ad_text_laws.specs.CauseLines.{cause_by, IsCauseLine}
-use Rattle.ad_text_laws.specs.Diff.{DiffLine, cause, object_of, diff_line_of, object as placed}
+use Rattle.ad_text_laws.specs.Diff.{DiffLine, cause, own_of, object_of, diff_line_of}
 use Rattle.ad_text_laws.proofs.LineLaws.{both, two_lines, word_is_line}
 use Rattle.ad_text_laws.proofs.WordLaws.{sid_word, sid_back, name_line, name_back}
 
@@ -128,7 +127,7 @@ no_number false = ap (λ (text : List ℕ). if bytes_eq (45 ∷ []) text && nat_
 
 abbrev placed_at : List ℕ → Option ℕ → Option DiffLine
 placed_at name number =
-    option_and_then (λ (group : ℕ). option_map (λ (dn : Dn). placed group dn) (dn_of name)) number
+    option_and_then (λ (group : ℕ). own_of group name) number
 
 no_group : (more : Bool) (name : List ℕ) → object_of (sign more ++ name) ≡ None
 unfolding object_of word_of number_of

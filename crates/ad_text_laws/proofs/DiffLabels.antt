@@ -24,6 +24,8 @@ use Rattle.ad_access_dir.specs.Labels.{label_of, right_title}
 use Rattle.ad_diff_rights.specs.Rights.{object_codes, attribute_codes, extended_codes, validated_codes, child_codes}
 use Rattle.ad_diff_rights.specs.Rights.{labels, object_labels, attribute_labels, kind_labels, right_labels, child_labels}
 use Rattle.ad_diff_rights.specs.Rights.{children_labels, rights_by, grants_at, class_at, rights}
+use Rattle.ad_diff_rights.specs.Changes.{granted_to}
+use Rattle.ad_diff_rights.specs.Own.{grants_in, rights_in, granted_in}
 use Rattle.ad_text_laws.specs.Lines.{is_line, is_word}
 use Rattle.ad_text_laws.proofs.LineLaws.{two_lines, word_is_line}
 use Rattle.ad_text_laws.proofs.CodeWords.{title_word}
@@ -136,3 +138,20 @@ pub granted_are : (dir : Directory) (token : Token) (number : ℕ) → MakeSchem
 unfolding rights
 granted_are dir token number makes = all_are dir.schema (grants_at dir token number) (class_at dir number)
     (names_are_words dir.schema makes)
+
+-- of a token, if there is one; with the own identifiers, or as if there were none
+pub given_are : (dir : Directory) (token : Option Token) (number : ℕ) → MakeSchema dir.schema
+    → AreLines (granted_to dir token number)
+given_are dir None number makes = tt
+given_are dir (Some token) number makes = granted_are dir token number makes
+
+in_are : (dir : Directory) (token : Token) (own : Bool) (number : ℕ) → MakeSchema dir.schema
+    → AreLines (rights_in dir token own number)
+unfolding rights_in
+in_are dir token own number makes = all_are dir.schema (grants_in dir token own number) (class_at dir number)
+    (names_are_words dir.schema makes)
+
+pub bare_are : (dir : Directory) (token : Option Token) (own : Bool) (number : ℕ) → MakeSchema dir.schema
+    → AreLines (granted_in dir token own number)
+bare_are dir None own number makes = tt
+bare_are dir (Some token) own number makes = in_are dir token own number makes

@@ -14,6 +14,7 @@ pub mod CauseForms
 pub mod DiffLaws
 pub mod DiffLabels
 pub mod DiffTexts
+pub mod DiffReads
 pub mod RightsLaws
 pub mod RightsFacts
 pub mod RightsTexts

@@ -15,8 +15,9 @@ pub fn the_lines_of_diff_read_back()
         ≡ Some lines }
 {}
 
-/// What diff prints is of such lines: each cause; each principal and each object in a group, with the number of the group;
-/// and for a group of each that has differences what its members gain and lose.
+/// What diff prints is of such lines: each cause; who has a token in one directory alone; each identity and each object in
+/// a group, with the number of the group, and that of the object's own set; each set with what is gained and lost; and which
+/// set a group of each has.
 pub fn what_diff_prints_reads_back()
     ensures { (before after : Directory) (text : List ℕ) (told : IsDiffText before after text)
         → IsTellable before → IsTellable after → IsRead before after text told }
@@ -27,6 +28,6 @@ pub fn answers_of_one_text_tell_the_same()
     ensures { (before after other_before other_after : Directory) (text : List ℕ)
         (told : IsDiffText before after text) (other : IsDiffText other_before other_after text)
         → IsTellable before → IsTellable after → IsTellable other_before → IsTellable other_after
-        → lines_told before after told.principals told.objects told.table
-        ≡ lines_told other_before other_after other.principals other.objects other.table }
+        → lines_told before after told.identities told.objects told.sets told.table
+        ≡ lines_told other_before other_after other.identities other.objects other.sets other.table }
 {}

@@ -25,7 +25,7 @@ fn tell<S: Site>(alloc: Global, site: &mut S, first: &Dir, second: &Dir) -> Outc
     ensures { TellsOf S.Site DiffTold first.now second.now site.old site.new result }
 {
     match ad_diff::diff(alloc, first, second) {
-        Ok(told) => say(site, &told.text, outcome_of(told.answered)),
+        Ok(text) => say(site, &text, outcome_of(true)),
         Err(AllocError) => Outcome::NoMemory,
     }
 }

@@ -36,8 +36,8 @@ def texts(path: str, moments: Moments) -> Told:
         if why is not None:
             raise Refused(shown(why))
         read = answered(lambda data: differences.read(text_of(data)), said)
-        for one in read["principals"]:
-            people.hold(moments.stores[word], "diff", one["sid"], one["name"])
+        for one in read["none"] + read["identities"]:
+            people.hold(moments.stores[word], "diff", one["sid"], one["name"] or "-")
         made[word] = answered(lambda data: adsd_lines.lines("diff", data), said), read
     return made
 

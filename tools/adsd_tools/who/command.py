@@ -176,10 +176,10 @@ class Asked:
     def diff(self, before):
         """From another store to this one. The account is that of this one, as the identifier and the name are."""
         made = differences.read(text_of(program("diff", before, self.path)))
-        principals = [{**one, **self.one(one["sid"], one["name"])} for one in made["principals"]]
+        called = {kind: [{**one, **self.one(one["sid"], one["name"])} for one in made[kind]] for kind in ("none", "identities")}
         for name in [one["name"] for one in made["objects"]] + differences.alone(made, "+"):
             self.number(name)
-        return {"command": "diff", "before": before, "after": self.path, **made, "principals": principals}
+        return {"command": "diff", "before": before, "after": self.path, **made, **called}
 
 
 def answered(asked):

@@ -11,7 +11,7 @@ HEADS = {"token": ("part", "sid", "account"),
          "who": ("decides", "place", "entry", "sid", "account", "name"),
          "can": ("decides", "place", "entry", "name"),
          "control": ("steps", "sid", "account", "name", "chain"), "reach": ("steps", "sid", "account", "name", "chain"),
-        "diff": ("change", "of", "of name", "code", "sid", "account", "name", "object")}
+        "diff": ("line", "identities", "objects", "set", "of", "of name", "code", "sid", "account", "name", "object")}
 
 
 def decides(told):
@@ -47,14 +47,24 @@ def cause_row(one):
     """A cause: what was changed on what, beside it the entry, the owner or the member."""
     word = f"{one['cause']} {one['sign']}" if one["sign"] else one["cause"]
     who = one["name"] if "group" in one else ""
-    return [word, "", one.get("ace", ""), "", one.get("sid", ""), "", who, one.get("group", one["name"])]
+    return [word, "", "", "", "", one.get("ace", ""), "", one.get("sid", ""), "", who, one.get("group", one["name"])]
+
+
+def who_row(word, identities, one):
+    """An identity, in a set or without a token."""
+    return [word, identities, "", "", "", "", "", one["sid"], one["account"] or "", one["name"] or "", ""]
 
 
 def diff_rows(made):
-    """One of each cause, and one of each right of each principal on each object."""
-    return [cause_row(one) for one in made["causes"]] + [
-        [differences.SIGNS[sign], right["of"], right["name"] or "", right["code"], who["sid"], who["account"] or "", who["name"], one["name"]]
-        for sign, right, who, one in differences.expanded(made)]
+    """One of each cause, of each identity and each object with the numbers of its sets, of each right of a set of changes, and
+    of each block. So many rows are told as lines, and not one of each right of each identity on each object."""
+    found = [cause_row(one) for one in made["causes"]]
+    found += [who_row(f"none {one['sign']}", "", one) for one in made["none"]]
+    found += [who_row("identity", one["set"], one) for one in made["identities"]]
+    found += [["object", "", one["set"] or "", one["self"] or "", "", "", "", "", "", "", one["name"]] for one in made["objects"]]
+    found += [[word, "", "", one["set"], right["of"], right["name"] or "", right["code"], "", "", "", ""]
+              for one in made["sets"] for word in differences.SIGNS.values() for right in one[word]]
+    return found + [["block", one["identities"], one["objects"], one["set"], *[""] * 7] for one in made["blocks"]]
 
 
 def as_json(made, told):

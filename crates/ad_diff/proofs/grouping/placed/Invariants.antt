@@ -1,5 +1,6 @@
 use Rattle.std.proofs.Common.{take}
-use Rattle.ad_diff.specs.Text.{members}
+use Rattle.ad_diff.specs.Families.{members}
+use Rattle.ad_diff.specs.Sets.{sets_of}
 use Rattle.ad_diff.specs.Table.{IsPlacing}
 use Rattle.ad_diff.proofs.grouping.placed.Given as goal
 
@@ -7,4 +8,4 @@ use Rattle.ad_diff.proofs.grouping.placed.Given as goal
 abbrev pub invariant-loop-g : goal.invariant-loop-g
 invariant-loop-g l =
     IsPlacing l.sides l.context.frame (members (take l.g-index l.fn.objects)) l.placing.objects.items
-    l.placing.columns.items
+    l.placing.columns.items (sets_of l.placing.sets)

@@ -4,6 +4,6 @@ use Rattle.ad_diff.specs.Text.{object_line}
 use Rattle.ad_diff.proofs.listing.put_object_lines.Given as goal
 
 -- the lines so far
-abbrev pub invariant-loop-g : goal.invariant-loop-g
-invariant-loop-g l =
-    l.into.items ≡ l.fn.into.items ++ flat_map (object_line l.after) (take l.g-index l.groups)
+abbrev pub invariant-loop-o : goal.invariant-loop-o
+invariant-loop-o l =
+    l.into.items ≡ l.fn.into.items ++ flat_map (object_line l.after) (take l.o-index l.objects)

@@ -9,7 +9,6 @@ unfolding row_text
 each-init c = sym (append-nil c.args.into.now.items)
 
 pub each-preserved : goal.each-preserved
-each-preserved c = row_step c.args.objects c.each.k c.in_ok-principals.principals c.args.frame.now c.args.column.now
-    c.args.leaders.now
-    c.args.into.now.items c.each.into.items c.put_cell.new.into.items c.lines_at.result.now c.each-test.true
-    c.each.invariant c.in_ok-principals.ensures c.lines_at.ensures c.in_ok-put_cell.ensures
+each-preserved c = row_step c.args.objects c.each.k c.in_ok-identities.identities c.index-row-k.result c.args.row.now
+    c.args.into.now.items c.each.into.items c.put_cell.new.into.items c.each-test.true c.each.invariant
+    c.in_ok-identities.ensures c.index-row-k.is c.in_ok-put_cell.ensures

@@ -1,16 +1,13 @@
-use Rattle.std.proofs.Common.{◌≡◌, take, drop, map}
+use Rattle.std.proofs.Common.{◌≡◌, take, map}
 use Rattle.std.specs.List.{All}
 use Rattle.ad_diff_rights.specs.declared.tokens.Party.{Party}
-use Rattle.ad_diff_rights.specs.declared.tokens.DiffFault.{DiffFault}
-use Rattle.ad_diff_rights.specs.Parties.{IsParty, AreNoParties}
+use Rattle.ad_diff_rights.specs.Parties.{IsParty}
 use Rattle.ad_diff_rights.proofs.tokens.parties_of.Given as goal
 
--- those so far have tokens, and what goes wrong with those that are left goes wrong with all
-abbrev pub invariant-loop-principal : goal.invariant-loop-principal
-invariant-loop-principal l =
+-- those so far have their tokens
+abbrev pub invariant-loop-who : goal.invariant-loop-who
+invariant-loop-who l =
     record {
-      both : map (λ (party : Party). party.both) l.parties.items ≡ take l.principal-index l.principals;
+      who : map (λ (party : Party). party.who) l.parties.items ≡ take l.who-index l.whose;
       parties : All (IsParty l.before l.after) l.parties.items;
-      fault : (fault : DiffFault) → AreNoParties l.before l.after (drop l.principal-index l.principals) fault
-          → AreNoParties l.before l.after l.principals fault;
     }

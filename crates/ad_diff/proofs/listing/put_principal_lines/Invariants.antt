@@ -1,9 +1,0 @@
-use Rattle.std.proofs.Common.{◌≡◌, ◌++◌, take}
-use Rattle.std.specs.List.{flat_map}
-use Rattle.ad_diff.specs.Text.{principal_line}
-use Rattle.ad_diff.proofs.listing.put_principal_lines.Given as goal
-
--- the lines so far
-abbrev pub invariant-loop-g : goal.invariant-loop-g
-invariant-loop-g l =
-    l.into.items ≡ l.fn.into.items ++ flat_map (principal_line l.after) (take l.g-index l.groups)
