@@ -294,7 +294,7 @@ def open_descriptors(count):
     return opens(with_descriptors(count))
 
 
-@case("rights-lists", 400, 200, "each different list has a set, of a byte an identity")
+@case("rights-lists", 400, 200)
 def rights_lists(count):
     """Who may read so many objects, each of which has a list of its own for an identifier of its own."""
     words = "rights", "S", "RP"

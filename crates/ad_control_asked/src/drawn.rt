@@ -11,6 +11,7 @@ ghost use Rattle.ad_control_graph.specs.Drawing.{IsSetOf, AreBelow};
 ghost use Rattle.ad_control_asked.specs.Drawn.{CanDraw, IsNodeOf, IsTold, AreDrawn};
 
 use ad_control_graph::{Graph, Kind};
+use ad_places::Places;
 use ad_sets::{Sets, Sign};
 use indexmap::IndexMap;
 use std::alloc::{AllocError, Global};
@@ -47,7 +48,8 @@ fn set_of(
     if let Some(found) = known(drawn, place) {
         return Ok(found);
     }
-    let found = graph.put_members(alloc, at, sets.at(place))?;
+    let flags = sets.at(place).flags(alloc)?;
+    let found = graph.put_members(alloc, at, flags.as_slice())?;
     drawn.insert(place, found)?;
     Ok(found)
 }
@@ -151,10 +153,10 @@ fn draw_with(
     draw_own(at, graph, kind, own, to)
 }
 
-fn without(alloc: Global, base: &[bool], own: usize) -> Result<Vec<bool>, AllocError>
+fn without(alloc: Global, base: &Places, own: usize) -> Result<Vec<bool>, AllocError>
     ensures { IfOk result (λ rest. rest.items ≡ set base.now own false) }
 {
-    let mut rest = base.to_vec(alloc)?;
+    let mut rest = base.flags(alloc)?;
     if own < rest.len() {
         rest[own] = false;
     }
@@ -165,7 +167,7 @@ fn without(alloc: Global, base: &[bool], own: usize) -> Result<Vec<bool>, AllocE
 fn draw_without(
     alloc: Global,
     at: &[usize],
-    base: &[bool],
+    base: &Places,
     graph: &mut Graph,
     kind: Kind,
     own: usize,

@@ -46,7 +46,8 @@ fn draw_granted(
         number,
         bit,
     )?;
-    let place = graph.put_members(alloc, ground.at.as_slice(), set.as_slice())?;
+    let flags = set.flags(alloc)?;
+    let place = graph.put_members(alloc, ground.at.as_slice(), flags.as_slice())?;
     graph.draw(kind, place, to)
 }
 

@@ -11,20 +11,21 @@ ghost use Rattle.ad_control_held.specs.Granting.{any_set};
 
 use ad_dir::Dir;
 use ad_ids::Sid;
+use ad_places::{Places, either};
 use ad_rights::{Holding, granted_set};
 use ad_sd::SdView;
-use ad_sets::either;
 use std::alloc::{AllocError, Global};
 
 /// How many rights there are of objects and their descriptors. They have the first places in a mask.
 const RIGHTS: u32 = 20;
 
 // Nobody of all tokens.
-fn nobody(alloc: Global, holding: &Holding) -> Result<Vec<bool>, AllocError>
-    ensures { IfOk result (λ set. (tokens : List TokenValue) → IsHoldingOf tokens holding.now
-        → set.items ≡ map (λ (token : TokenValue). false) tokens) }
+fn nobody(alloc: Global, holding: &Holding) -> Result<Places, AllocError>
+    ensures { IfOk result (λ set. (tokens : List TokenValue) → IsHoldingOf tokens holding.now → set
+        ≡ map (λ (token : TokenValue). false) tokens) }
 {
-    Ok(vec![in alloc; false; holding.count()]?)
+    let flags = vec![in alloc; false; holding.count()]?;
+    Places::of_flags(alloc, flags.as_slice())
 }
 
 // Those who were granted one of the rights before, and those who are granted this one.
@@ -33,16 +34,16 @@ fn join_right(
     view: &SdView<'_>,
     holding: &Holding,
     self_sid: Option<&Sid>,
-    set: &[bool],
+    set: &Places,
     bit: u32,
-) -> Result<Vec<bool>, AllocError>
+) -> Result<Places, AllocError>
     requires { bit < 32 }
     ensures { IfOk result (λ joined. (tokens : List TokenValue) → IsHoldingOf tokens holding.now → AreBare
         tokens → set.now ≡ any_set (seen view.now) tokens (option_copied self_sid.entry) bit
-        → joined.items ≡ any_set (seen view.now) tokens (option_copied self_sid.entry) (bit + 1)) }
+        → joined ≡ any_set (seen view.now) tokens (option_copied self_sid.entry) (bit + 1)) }
 {
     let one = granted_set(alloc, view, holding, self_sid, &[], bit)?;
-    either(alloc, one.as_slice(), set)
+    either(alloc, &one, set)
 }
 
 // Those who are granted any right.
@@ -51,13 +52,13 @@ fn any_set(
     view: &SdView<'_>,
     holding: &Holding,
     self_sid: Option<&Sid>,
-) -> Result<Vec<bool>, AllocError>
+) -> Result<Places, AllocError>
     ensures { IfOk result (λ set. (tokens : List TokenValue) → IsHoldingOf tokens holding.now → AreBare
-        tokens → set.items ≡ any_set (seen view.now) tokens (option_copied self_sid.entry) 20) }
+        tokens → set ≡ any_set (seen view.now) tokens (option_copied self_sid.entry) 20) }
 {
     let mut set = nobody(alloc, holding)?;
     for bit in 0..RIGHTS {
-        let joined = join_right(alloc, view, holding, self_sid, set.as_slice(), bit)?;
+        let joined = join_right(alloc, view, holding, self_sid, &set, bit)?;
         set = joined;
     }
     Ok(set)
@@ -76,10 +77,10 @@ pub(crate) fn granting(
     holding: &Holding,
     number: u32,
     bit: Option<u32>,
-) -> Result<Vec<bool>, AllocError>
+) -> Result<Places, AllocError>
     requires { IfSome bit (λ b. b < 32) }
     ensures { IfOk result (λ set. (tokens : List TokenValue) → IsHoldingOf tokens holding.now → AreBare
-        tokens → set.items ≡ map (λ token. sd_grants dir.now number token bit (seen view.now)) tokens) }
+        tokens → set ≡ map (λ token. sd_grants dir.now number token bit (seen view.now)) tokens) }
 {
     let self_sid = dir.self_sid(number);
     match bit {

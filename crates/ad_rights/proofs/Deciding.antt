@@ -1,10 +1,12 @@
 -- What is decided of a token, step by step.
-use Rattle.std.proofs.Common.{◌≡◌, ◌∙◌, ℕ, ◌<◌, ◌≤◌, ◌⊎◌, inl, inr, Bool, true, false, ◌||◌, Option, Some, None}
-use Rattle.std.proofs.Common.{List, length, set, refl, sym, ap, arith}
+use Rattle.std.proofs.Common.{◌≡◌, ◌∙◌, ℕ, ◌⊎◌, inl, inr, Bool, true, false, not, ◌||◌, Option, Some, None, List, [], ◌∷◌}
+use Rattle.std.proofs.Common.{◌++◌, refl, sym, ap}
 use Rattle.std.specs.Prelude.{◌==◌, ◌&&◌, if◌then◌else◌, unwrap_or, is_some}
-use Rattle.std.proofs.lemmas.Bool.{cases_eq, eq-eqb, ne_eqb, false≢true}
-use Rattle.std.proofs.lemmas.List.{get_or-set_same, get_or-set_other}
-use Rattle.ad_rights.specs.Standing.{stand_at, decided, by_privilege}
+use Rattle.std.proofs.Math.Bool.{or-false}
+use Rattle.std.proofs.lemmas.Bool.{cases_eq, eq-eqb, ne_eqb}
+use Rattle.std.proofs.lemmas.List.Folds.{list_any-append}
+use Rattle.ad_rights.specs.Holding.{has}
+use Rattle.ad_rights.specs.Standing.{decided, by_privilege}
 
 -- ---- one stand
 
@@ -36,44 +38,53 @@ begun false true false by_entries = refl
 begun false false true by_entries = refl
 begun false false false by_entries = refl
 
--- ---- one place of a list
+-- by a privilege alone
+pub by_taking : (takes : Bool) → decided takes true None ≡ by_privilege true takes
+by_taking true = refl
+by_taking false = refl
 
-apart_stays : (stands : List (Option Bool)) (place q : ℕ) (allow : Bool) → (place ≡ q → ⊥) → stand_at stands q
-    ≡ decided (place == q) allow (stand_at stands q)
-apart_stays stands place q allow apart =
-    sym (ap (λ (b : Bool). decided b allow (stand_at stands q)) (ne_eqb place q apart)
-    ∙ decided_none allow (stand_at stands q))
+pub none_taking : (takes : Bool) → None ≡ by_privilege false takes
+none_taking true = refl
+none_taking false = refl
 
-pub not_there : (stands : List (Option Bool)) (place q : ℕ) (allow : Bool) → length stands ≤ place → q < length stands
-    → stand_at stands q ≡ decided (place == q) allow (stand_at stands q)
-not_there stands place q allow past lt = apart_stays stands place q allow
-    (λ (e : place ≡ q). omega (arith, e, past, lt))
+-- ---- who is granted so far
 
-settled : (counts allow : Bool) (stand : Option Bool) → is_some stand ≡ true → stand ≡ decided counts allow stand
-settled counts allow None is = absurd (false≢true is)
-settled counts allow (Some granted) is = refl
+lone_other : (b : Bool) (place q : ℕ) → (place ≡ q → ⊥) → has (if b then place ∷ [] else []) q ≡ false
+lone_other true place q apart = ap (λ (c : Bool). c || false) (ne_eqb place q apart)
+lone_other false place q apart = refl
 
-pub not_open : (stands : List (Option Bool)) (place q : ℕ) (allow : Bool) → is_some (stand_at stands place) ≡ true
-    → stand_at stands q ≡ decided (place == q) allow (stand_at stands q)
-not_open stands place q allow is = elim (cases_eq place q) [
-  | inl at ↦ settled (place == q) allow (stand_at stands q)
-      (sym (ap (λ (n : ℕ). is_some (stand_at stands n)) at) ∙ is)
-  | inr apart ↦ apart_stays stands place q allow apart
-]
+decided_here : (allow : Bool) (place q : ℕ) → place ≡ q
+    → (false || has (if allow then place ∷ [] else []) q) ≡ unwrap_or (decided true allow None) false
+decided_here true place q here = ap (λ (b : Bool). false || (b || false)) (eq-eqb place q here)
+decided_here false place q here = refl
 
-opened : (allow : Bool) (stand : Option Bool) → is_some stand ≡ false → Some allow ≡ decided true allow stand
-opened allow None is = refl
-opened allow (Some granted) is = absurd (false≢true (sym is))
+by_stand : (old : List ℕ) (place q : ℕ) (was_open allow : Bool) (was : Option Bool) → place ≡ q
+    → was_open ≡ not (is_some was) → has old q ≡ unwrap_or was false
+    → (has old q || has (if was_open && allow then place ∷ [] else []) q) ≡ unwrap_or (decided true allow was) false
+by_stand old place q was_open allow (Some granted) here open_is is =
+    ap (λ (b : Bool). has old q || has (if b && allow then place ∷ [] else []) q) open_is ∙ or-false (has old q) ∙ is
+by_stand old place q was_open allow None here open_is is =
+    ap (λ (b : Bool). has old q || has (if b && allow then place ∷ [] else []) q) open_is
+    ∙ ap (λ (b : Bool). b || has (if allow then place ∷ [] else []) q) is
+    ∙ decided_here allow place q here
 
-pub is_set : (stands : List (Option Bool)) (place q : ℕ) (allow : Bool) → is_some (stand_at stands place) ≡ false
-    → place < length stands → stand_at (set stands place (Some allow)) q
-    ≡ decided (place == q) allow (stand_at stands q)
-is_set stands place q allow is lt = elim (cases_eq place q) [
-  | inl at ↦ ap (stand_at (set stands place (Some allow))) (sym at)
-      ∙ get_or-set_same stands place (Some allow) None lt
-      ∙ opened allow (stand_at stands place) is
-      ∙ ap (λ (b : Bool). decided b allow (stand_at stands place)) (sym (eq-eqb place q at))
-      ∙ ap (λ (n : ℕ). decided (place == q) allow (stand_at stands n)) at
-  | inr apart ↦ get_or-set_other stands place q (Some allow) None (λ (e : q ≡ place). apart (sym e))
-      ∙ apart_stays stands place q allow apart
+-- after one decision more the list has those who are granted
+pub granted_next : (old new : List ℕ) (place q : ℕ) (was_open allow : Bool) (at was : Option Bool)
+    → has old q ≡ unwrap_or was false → (place ≡ q → at ≡ was) → was_open ≡ not (is_some at)
+    → new ≡ old ++ (if was_open && allow then place ∷ [] else [])
+    → has new q ≡ unwrap_or (decided (place == q) allow was) false
+granted_next old new place q was_open allow at was is same open_is new_is = elim (cases_eq place q) [
+  | inl here ↦
+      ap (λ (l : List ℕ). has l q) new_is
+      ∙ list_any-append (λ (p : ℕ). p == q) old (if was_open && allow then place ∷ [] else [])
+      ∙ by_stand old place q was_open allow was here (open_is ∙ ap (λ (o : Option Bool). not (is_some o)) (same here)) is
+      ∙ sym (ap (λ (b : Bool). unwrap_or (decided b allow was) false) (eq-eqb place q here))
+  | inr apart ↦
+      ap (λ (l : List ℕ). has l q) new_is
+      ∙ list_any-append (λ (p : ℕ). p == q) old (if was_open && allow then place ∷ [] else [])
+      ∙ ap (λ (b : Bool). has old q || b) (lone_other (was_open && allow) place q apart)
+      ∙ or-false (has old q)
+      ∙ is
+      ∙ sym (ap (λ (b : Bool). unwrap_or (decided b allow was) false) (ne_eqb place q apart)
+      ∙ ap (λ (o : Option Bool). unwrap_or o false) (decided_none allow was))
 ]

@@ -1,12 +1,12 @@
 -- The walk by an index grants what the rule grants each token.
 use Rattle.std.proofs.Common.{◌≡◌, ◌∙◌, ℕ, ◌<◌, zero, suc, Bool, true, false, not, ◌&&◌, ◌||◌, Option, Some, None}
 use Rattle.std.proofs.Common.{List, [], ◌∷◌, ◌++◌, length, map, get_or, refl, sym, ap, arith}
-use Rattle.std.specs.Prelude.{◌==◌, if◌then◌else◌, unwrap_or, slice_get}
+use Rattle.std.specs.Prelude.{◌==◌, if◌then◌else◌, unwrap_or, slice_get, slice_index_or}
 use Rattle.std.specs.List.{list_any}
 use Rattle.std.specs.Option.{option_map, option_map_or}
 use Rattle.std.proofs.Math.Bool.{and-true}
 use Rattle.std.proofs.lemmas.Bool.{ne_eqb}
-use Rattle.std.proofs.lemmas.List.{append-nil, same_lists, length-map, get_or-map}
+use Rattle.std.proofs.lemmas.List.{append-nil, same_lists, length-map, get_or-map, get_or_default}
 use Rattle.std.proofs.lemmas.Option.{get_or_from_slice_get, slice_get-map}
 use Rattle.ad_ids.specs.SidValue.{SidValue, same_sid, contains_sid}
 use Rattle.ad_ids.specs.declared.guid.Guid.{Guid}
@@ -25,7 +25,9 @@ use Rattle.ad_access.specs.Grant.{is_implicit_owner_right, sets_owner_rights}
 use Rattle.ad_rights.specs.Entry.{meant, is_about_right, is_held, decides_by, granted_by}
 use Rattle.ad_rights.specs.Holding.{has, holds_at, takes, audits}
 use Rattle.ad_rights.specs.Set.{IsBare, AreBare, granted_set, is_for_self}
-use Rattle.ad_rights.specs.Standing.{stand_at, decided, by_privilege}
+use Rattle.ad_rights.specs.Standing.{decided, by_privilege}
+use Rattle.ad_places.specs.Flags.{set_of as set_with}
+use Rattle.ad_places.proofs.Placing.{flag_in, set_long}
 use Rattle.ad_rights.proofs.Deciding.{begun, decided_step}
 use Rattle.ad_rights.proofs.Unasked.{granted_any}
 
@@ -168,68 +170,59 @@ some_at (y ∷ ys) (suc i) lt = some_at ys i (omega arith)
 abbrev held : SidValue → Option Token → Bool
 held sid token = option_map_or (λ (t : Token). holds (first_holder t) sid) token false
 
--- What stands at first is by privilege, then also as the owner, and in the end as the entries have it.
-pub set_is : (holders : SidValue → List ℕ) (tokens : List Token) (takers : List Bool)
-    (first second third : List (Option Bool)) (set : List Bool) (owner : SidValue) (dacl : List Entry) (self : Option SidValue) (path : List Guid)
-    (bit : ℕ) → (bit ≡ access_system_security → ⊥) → ((sid : SidValue) (q : ℕ) → has (holders sid) q ≡ holds_at tokens sid q)
-    → takers ≡ map takes tokens → AreBare tokens → first ≡ map (by_privilege (bit == write_owner)) takers
-    → length second ≡ length first
-    → ((q : ℕ) → q < length first → stand_at second q
-    ≡ decided ((is_implicit_owner_right bit && not (list_any sets_owner_rights dacl))
-    && has (holders owner) q) true (stand_at first q))
-    → length third ≡ length second
-    → ((q : ℕ) → q < length second → unwrap_or (stand_at third q) false
-    ≡ unwrap_or (stand_at second q) (granted_by holders dacl self owner path bit q))
-    → set ≡ map (λ (stand : Option Bool). unwrap_or stand false) third → set
-    ≡ map (λ (t : Token). granted owner dacl t self path bit) tokens
-set_is holders tokens takers first second third set owner dacl self path bit other are taken bare first_is two second_is three
-    third_is whole =
-    same_lists set (map grants tokens) (set_long ∙ sym (length-map tokens grants)) at
+-- What stands at first is by privilege, then also as the owner, and in the end as the entries have it; those who are
+-- granted then make the set.
+pub set_is : (holders : SidValue → List ℕ) (tokens : List Token) (takers : List Bool) (taking granted_places : List ℕ)
+    (count : ℕ) (first second third : ℕ → Option Bool) (set : List Bool) (owner : SidValue) (dacl : List Entry)
+    (self : Option SidValue) (path : List Guid) (bit : ℕ) → (bit ≡ access_system_security → ⊥)
+    → ((sid : SidValue) (q : ℕ) → has (holders sid) q ≡ holds_at tokens sid q) → takers ≡ map takes tokens
+    → ((q : ℕ) → has taking q ≡ slice_index_or takers q false) → AreBare tokens → count ≡ length takers
+    → ((q : ℕ) → first q ≡ by_privilege (bit == write_owner) (has taking q))
+    → ((q : ℕ) → second q ≡ decided ((is_implicit_owner_right bit && not (list_any sets_owner_rights dacl))
+    && has (holders owner) q) true (first q))
+    → ((q : ℕ) → unwrap_or (third q) false ≡ unwrap_or (second q) (granted_by holders dacl self owner path bit q))
+    → ((q : ℕ) → has granted_places q ≡ unwrap_or (third q) false) → set ≡ set_with count granted_places
+    → set ≡ map (λ (t : Token). granted owner dacl t self path bit) tokens
+set_is holders tokens takers taking granted_places count first second third set owner dacl self path bit other are taken
+    taking_is bare counted first_is second_is third_is granted_is_in whole =
+    same_lists set (map grants tokens) (long ∙ sym (length-map tokens grants)) at
   where
     grants : Token → Bool
     grants t = granted owner dacl t self path bit
 
-    shown : Option Bool → Bool
-    shown stand = unwrap_or stand false
+    many : count ≡ length tokens
+    many = counted ∙ ap length taken ∙ length-map tokens takes
 
-    first_long : length first ≡ length tokens
-    first_long = ap length first_is ∙ length-map takers (by_privilege (bit == write_owner)) ∙ ap length taken
-        ∙ length-map tokens takes
+    long : length set ≡ length tokens
+    long = ap length whole ∙ set_long granted_places count ∙ many
 
-    set_long : length set ≡ length tokens
-    set_long = ap length whole ∙ length-map third shown ∙ three ∙ two ∙ first_long
+    taking_at : (k : ℕ) (x : Token) → k < length tokens → slice_get tokens k ≡ Some x → has taking k ≡ takes x
+    taking_at k x lt is =
+        taking_is k
+        ∙ ap (λ (l : List Bool). slice_index_or l k false) taken
+        ∙ get_or-map takes tokens k x false lt
+        ∙ ap takes (get_or_from_slice_get tokens k x x is)
 
-    first_at : (k : ℕ) (x : Token) → k < length tokens → slice_get tokens k ≡ Some x → stand_at first k
-        ≡ by_privilege (bit == write_owner) (takes x)
-    first_at k x lt is =
-        ap (λ (l : List (Option Bool)). stand_at l k)
-        (first_is ∙ ap (map (by_privilege (bit == write_owner))) taken)
-        ∙ get_or-map (by_privilege (bit == write_owner)) (map takes tokens) k false None
-        (omega (arith, lt, length-map tokens takes))
-        ∙ ap (by_privilege (bit == write_owner))
-        (get_or-map takes tokens k x false lt ∙ ap takes (get_or_from_slice_get tokens k x x is))
-
-    at_token : (k : ℕ) (d : Bool) → k < length tokens → (x : Token) → slice_get tokens k ≡ Some x → get_or set k d
-        ≡ get_or (map grants tokens) k d
-    at_token k d lt x is =
-        let lt1 : k < length first = omega (arith, lt, first_long) in
-        let lt2 : k < length second = omega (arith, lt1, two) in
-        let lt3 : k < length third = omega (arith, lt2, three) in
+    at_token : (k : ℕ) (d : Bool) → k < length set → k < length tokens → (x : Token) → slice_get tokens k ≡ Some x
+        → get_or set k d ≡ get_or (map grants tokens) k d
+    at_token k d within lt x is =
         let owned : Bool = (is_implicit_owner_right bit && not (list_any sets_owner_rights dacl))
         && has (holders owner) k in
-        ap (λ (l : List Bool). get_or l k d) whole
-        ∙ get_or-map shown third k None d lt3
-        ∙ third_is k lt2
+        get_or_default set k d false within
+        ∙ ap (λ (l : List Bool). slice_index_or l k false) whole
+        ∙ flag_in granted_places count k (omega (arith, lt, many))
+        ∙ granted_is_in k
+        ∙ third_is k
         ∙ ap (λ (o : Option Bool). unwrap_or o (granted_by holders dacl self owner path bit k))
-        (second_is k lt1 ∙ ap (decided owned true) (first_at k x lt is))
+        (second_is k ∙ ap (decided owned true) (first_is k ∙ ap (by_privilege (bit == write_owner)) (taking_at k x lt is)))
         ∙ granted_is holders k x owner dacl self path bit other (bare k x is) (λ sid. are sid k ∙ ap (held sid) is)
         ∙ sym (get_or-map grants tokens k x d lt ∙ ap grants (get_or_from_slice_get tokens k x x is))
 
     at : (k : ℕ) (d : Bool) → k < length set → get_or set k d ≡ get_or (map grants tokens) k d
     at k d lt =
-        let within : k < length tokens = omega (arith, lt, set_long) in
+        let within : k < length tokens = omega (arith, lt, long) in
         let there = some_at tokens k within in
-        at_token k d within there.0 there.1
+        at_token k d lt within there.0 there.1
 
 pub set_of : (sd : Sd) (owner : SidValue) (tokens : List Token) (self : Option SidValue) (path : List Guid) (bit : ℕ)
     (set : List Bool) → owner ≡ sd.owner

@@ -1,11 +1,11 @@
 -- The places that an index has, one token after the other.
 use Rattle.std.proofs.Common.{◌≡◌, ◌∙◌, ℕ, ◌+◌, ◌<◌, ◌≤◌, ◌⊎◌, inl, inr, zero, suc, Bool, true, false, ◌&&◌, ◌||◌, Some, None}
 use Rattle.std.proofs.Common.{Option, List, [], ◌∷◌, ◌++◌, length, map, refl, sym, ap, arith}
-use Rattle.std.specs.Prelude.{◌==◌, cond, slice_get}
+use Rattle.std.specs.Prelude.{◌==◌, cond, if◌then◌else◌, slice_get, slice_index_or}
 use Rattle.std.specs.Option.{option_map_or}
 use Rattle.std.proofs.Math.Bool.{and-false, and-true, or-false}
 use Rattle.std.specs.Global.{Vec}
-use Rattle.std.proofs.lemmas.Bool.{cases_Bool, cases_order, eq-eqb, ne_eqb}
+use Rattle.std.proofs.lemmas.Bool.{cases_Bool, cases_order, eq-eqb, ne_eqb, eqb-true, eqb-false}
 use Rattle.std.proofs.lemmas.List.{length_push, map_push}
 use Rattle.std.proofs.lemmas.List.Folds.{list_any-append}
 use Rattle.std.proofs.lemmas.Option.{slice_get_past}
@@ -104,3 +104,35 @@ pub auditors_more : (tokens : List Token) (t : Token) (old new : List Bool) → 
     → new ≡ old ++ audits t ∷ [] → new ≡ map audits (tokens ++ t ∷ [])
 auditors_more tokens t old new was more =
     more ∙ ap (λ (l : List Bool). l ++ audits t ∷ []) was ∙ sym (map_push audits tokens t)
+
+-- ---- the places of those who take
+
+lone_there : (b : Bool) (place q : ℕ) → has (if b then place ∷ [] else []) q ≡ (b && (place == q))
+lone_there true place q = or-false (place == q)
+lone_there false place q = refl
+
+flag_push : (flags : List Bool) (b : Bool) (q : ℕ)
+    → slice_index_or (flags ++ b ∷ []) q false ≡ (slice_index_or flags q false || (b && (length flags == q)))
+flag_push [] b zero = sym (and-true b)
+flag_push [] b (suc q) = sym (ap (λ (c : Bool). b && c) (ne_eqb 0 (suc q) (λ (e : 0 ≡ suc q). omega (arith, e))) ∙ and-false b)
+flag_push (x ∷ xs) b zero = sym (ap (λ (c : Bool). x || (b && c))
+    (ne_eqb (suc (length xs)) 0 (λ (e : suc (length xs) ≡ 0). omega (arith, e)))
+    ∙ ap (λ (c : Bool). x || c) (and-false b) ∙ or-false x)
+flag_push (x ∷ xs) b (suc q) = flag_push xs b q ∙ ap (λ (c : Bool). slice_index_or xs q false || (b && c)) (same (cases_Bool (length xs == q)))
+  where
+    same : ((length xs == q) ≡ true) ⊎ ((length xs == q) ≡ false) → (length xs == q) ≡ (suc (length xs) == suc q)
+    same (inl is) = is ∙ sym (eq-eqb (suc (length xs)) (suc q) (ap (λ (n : ℕ). suc n) (eqb-true (length xs) q is)))
+    same (inr is) = is ∙ sym (ne_eqb (suc (length xs)) (suc q) (λ (e : suc (length xs) ≡ suc q).
+        eqb-false (length xs) q is (omega (arith, e))))
+
+pub taking_more : (takers more : List Bool) (old new : List ℕ) (place : ℕ) (b : Bool) → place ≡ length takers
+    → ((q : ℕ) → has old q ≡ slice_index_or takers q false) → more ≡ takers ++ b ∷ []
+    → new ≡ old ++ (if b then place ∷ [] else []) → (q : ℕ) → has new q ≡ slice_index_or more q false
+taking_more takers more old new place b at was more_is new_is q =
+    ap (λ (l : List ℕ). has l q) new_is
+    ∙ list_any-append (λ (p : ℕ). p == q) old (if b then place ∷ [] else [])
+    ∙ ap (λ (c : Bool). has old q || c) (lone_there b place q)
+    ∙ ap (λ (c : Bool). c || (b && (place == q))) (was q)
+    ∙ ap (λ (n : ℕ). slice_index_or takers q false || (b && (n == q))) at
+    ∙ sym (flag_push takers b q)
+    ∙ ap (λ (l : List Bool). slice_index_or l q false) (sym more_is)

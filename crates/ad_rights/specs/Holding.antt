@@ -1,5 +1,5 @@
 -- Which tokens hold each identifier, as it is kept in an index.
-use Rattle.std.specs.Prelude.{◌≡◌, ℕ, Bool, false, ◌||◌, ◌==◌, List, [], map, slice_get}
+use Rattle.std.specs.Prelude.{◌≡◌, ℕ, Bool, false, ◌||◌, ◌==◌, List, [], map, slice_get, slice_index_or}
 use Rattle.std.specs.List.{list_any}
 use Rattle.std.specs.Option.{option_map_or}
 use Rattle.std.specs.Global.{Vec}
@@ -35,9 +35,10 @@ takes token = has_bit token.privileges take_ownership
 abbrev pub audits : Token → Bool
 audits token = has_bit token.privileges security
 
--- The index is of these tokens: it has the places of those that hold each identifier, and which of them have each
--- privilege.
+-- The index is of these tokens: it has the places of those that hold each identifier, which of them have each
+-- privilege, and the places of those that have the privilege to take ownership.
 pub record IsHoldingOf (tokens : List Token) (h : Holding) : Type 0 where
   pub holders : (sid : SidValue) (place : ℕ) → has (listed h.holders sid) place ≡ holds_at tokens sid place
   pub takers : h.takers.items ≡ map takes tokens
   pub auditors : h.auditors.items ≡ map audits tokens
+  pub taking : (place : ℕ) → has h.taking.items place ≡ slice_index_or h.takers.items place false

@@ -1,6 +1,6 @@
 //! What one entry decides of all tokens, and what the entries of a descriptor are for.
 
-ghost use Rattle.std.specs.Prelude.{◌≡◌, ◌<◌, ℕ, length};
+ghost use Rattle.std.specs.Prelude.{◌≡◌, ◌<◌, ℕ, OnOk};
 ghost use Rattle.std.specs.List.{list_any};
 ghost use Rattle.std.specs.Option.{option_copied};
 ghost use Rattle.ad_acl.specs.EntrySeen.{entry_seen};
@@ -10,14 +10,15 @@ ghost use Rattle.ad_access.specs.Grant.{is_allow, sets_owner_rights};
 ghost use Rattle.ad_rights.specs.Entry.{meant, is_about_right, decides_by};
 ghost use Rattle.ad_rights.specs.Holding.{listed};
 ghost use Rattle.ad_rights.specs.Set.{is_for_self};
-ghost use Rattle.ad_rights.specs.Standing.{stand_at, decided};
+ghost use Rattle.ad_rights.specs.Standing.{stand_at, decided, AreGranted};
 
 use crate::holding::Holding;
-use crate::standing::decide;
+use crate::standing::{Stands, decide};
 use ad_access::{is_about, is_inherit_only, is_spoken};
 use ad_acl::{AceIn, AceKind, map_generic};
 use ad_ids::{Guid, Sid};
 use ad_sd::SdView;
+use std::alloc::AllocError;
 
 // Whether the mask has the right after generic mapping.
 #[tactic(auto, unfolding(ad_acl::specs::Mask::has_bit))]
@@ -64,6 +65,10 @@ fn allows(ace: &AceIn<'_>) -> bool
 }
 
 /// Decides for the open tokens that the entry is for, where it is about the right on the path.
+///
+/// # Errors
+///
+/// Out of memory.
 pub(crate) fn take_entry(
     ace: &AceIn<'_>,
     self_sid: Option<&Sid>,
@@ -71,21 +76,22 @@ pub(crate) fn take_entry(
     holding: &Holding,
     path: &[Guid],
     bit: u32,
-    stands: &mut [Option<bool>],
-)
-    requires { bit < 32 }
-    ensures len { length stands.new ≡ length stands.old }
-    ensures each { (q : ℕ) → q < length stands.old → stand_at stands.new q
+    stands: &mut Stands,
+) -> Result<(), AllocError>
+    requires bit { bit < 32 }
+    requires granted { AreGranted stands.now }
+    ensures granted { OnOk result (AreGranted stands.new) }
+    ensures each { OnOk result ((q : ℕ) → stand_at stands.new.known q
         ≡ decided (decides_by (listed holding.now.holders) (entry_seen ace.now)
         (option_copied self_sid.entry) owner.now path.now bit q) (is_allow (entry_seen ace.now).kind)
-        (stand_at stands.old q) }
+        (stand_at stands.old.known q)) }
 {
     if !is_about_right(ace, path, bit) {
-        return;
+        return Ok(());
     }
     match meant(ace, self_sid, owner) {
         Some(sid) => decide(stands, holding.holders_of(&sid), allows(ace)),
-        None => {}
+        None => Ok(()),
     }
 }
 

@@ -5,6 +5,7 @@ ghost use Rattle.ad_ids.specs.SidValue.{same_sid, contains_sid};
 ghost use Rattle.ad_ids.specs.declared.token.Token.{Token as TokenValue};
 ghost use Rattle.ad_rights.specs.Holding.{listed, takes, audits, Gains, IsHoldingOf};
 
+use crate::standing::put_if;
 use ad_ids::{SECURITY, Sid, TAKE_OWNERSHIP, Token};
 use indexmap::IndexMap;
 use std::alloc::{AllocError, Global};
@@ -18,6 +19,8 @@ pub struct Holding {
     holders: IndexMap<Sid, Vec<usize>>,
     takers: Vec<bool>,
     auditors: Vec<bool>,
+    // The places of the takers.
+    taking: Vec<usize>,
 }
 
 // Puts a place at the end of those of an identifier.
@@ -83,6 +86,7 @@ impl Holding {
             holders: IndexMap::new(alloc),
             takers: Vec::new(alloc),
             auditors: Vec::new(alloc),
+            taking: Vec::new(alloc),
         }
     }
 
@@ -97,6 +101,7 @@ impl Holding {
     {
         let place = self.count();
         note_token(alloc, &mut self.holders, token, place)?;
+        put_if(&mut self.taking, may_take(token), place)?;
         self.takers.push(may_take(token))?;
         self.auditors.push(may_audit(token))?;
         Ok(())
@@ -119,11 +124,18 @@ impl Holding {
         }
     }
 
-    /// Of each token, whether it has the privilege to take ownership.
-    pub(crate) fn takers(&self) -> &[bool]
+    // Of each token, whether it has the privilege to take ownership.
+    fn takers(&self) -> &[bool]
         ensures { result.now ≡ self.now.takers.items }
     {
         self.takers.as_slice()
+    }
+
+    /// The places of the tokens that have the privilege to take ownership.
+    pub(crate) fn taking(&self) -> &[usize]
+        ensures { result.now ≡ self.now.taking.items }
+    {
+        self.taking.as_slice()
     }
 
     /// Of each token, whether it has the privilege to read and write SACLs.

@@ -27,8 +27,9 @@
 //!
 //! # Cost
 //!
-//! The index costs the groups of all tokens. A set costs the number of tokens, and for each entry that is about the
-//! right the number of tokens that hold its identifier.
+//! The index costs the groups of all tokens. A set costs for each entry that is about the right the number of tokens that
+//! hold its identifier, and memory for the tokens that are granted it. For the right to the SACL, which a privilege alone
+//! grants, it costs the number of tokens.
 #![tactic(auto)]
 
 mod entry;

@@ -1,6 +1,6 @@
 //! The set of the tokens that are granted a right by one descriptor.
 
-ghost use Rattle.std.specs.Prelude.{◌≡◌, ◌&&◌, ◌==◌, ◌<◌, not, ℕ, List, length, map, unwrap_or, true, false, IfOk};
+ghost use Rattle.std.specs.Prelude.{◌≡◌, ◌&&◌, ◌==◌, ◌<◌, not, ℕ, List, unwrap_or, true, false, IfOk, OnOk};
 ghost use Rattle.std.specs.List.{list_any};
 ghost use Rattle.std.specs.Option.{option_copied};
 ghost use Rattle.ad_ids.specs.declared.token.Token.{Token as TokenValue};
@@ -10,12 +10,13 @@ ghost use Rattle.ad_access.specs.Grant.{is_implicit_owner_right, sets_owner_righ
 ghost use Rattle.ad_rights.specs.Entry.{granted_by};
 ghost use Rattle.ad_rights.specs.Holding.{has, listed, IsHoldingOf};
 ghost use Rattle.ad_rights.specs.Set.{granted_set, AreBare};
-ghost use Rattle.ad_rights.specs.Standing.{stand_at, decided, by_privilege};
+ghost use Rattle.ad_rights.specs.Standing.{stand_at, decided, by_privilege, AreGranted};
 
 use crate::entry::{has_owner_rights, take_entry};
 use crate::holding::Holding;
-use crate::standing::{by_privilege, decide, granted_of};
+use crate::standing::{Stands, by_privilege, decide, granted_of};
 use ad_ids::{Guid, Sid};
+use ad_places::Places;
 use ad_sd::SdView;
 use std::alloc::{AllocError, Global};
 
@@ -42,18 +43,19 @@ fn take_owner(
     owner: &Sid,
     holding: &Holding,
     bit: u32,
-    stands: &mut [Option<bool>],
-)
-    ensures len { length stands.new ≡ length stands.old }
-    ensures each { (q : ℕ) → q < length stands.old → stand_at stands.new q
+    stands: &mut Stands,
+) -> Result<(), AllocError>
+    requires { AreGranted stands.now }
+    ensures granted { OnOk result (AreGranted stands.new) }
+    ensures each { OnOk result ((q : ℕ) → stand_at stands.new.known q
         ≡ decided ((is_implicit_owner_right bit
         && not (list_any sets_owner_rights (seen view.now).dacl.entries))
-        && has (listed holding.now.holders owner.now) q) true (stand_at stands.old q) }
+        && has (listed holding.now.holders owner.now) q) true (stand_at stands.old.known q)) }
 {
     if !is_owners(view, bit) {
-        return;
+        return Ok(());
     }
-    decide(stands, holding.holders_of(owner), true);
+    decide(stands, holding.holders_of(owner), true)
 }
 
 // Goes over the entries, each of which decides for the tokens that are open.
@@ -64,17 +66,19 @@ fn walk(
     self_sid: Option<&Sid>,
     path: &[Guid],
     bit: u32,
-    stands: &mut [Option<bool>],
-)
-    requires { bit < 32 }
-    ensures len { length stands.new ≡ length stands.old }
-    ensures each { (q : ℕ) → q < length stands.old → unwrap_or (stand_at stands.new q) false
-        ≡ unwrap_or (stand_at stands.old q) (granted_by (listed holding.now.holders)
-        (seen view.now).dacl.entries (option_copied self_sid.entry) owner.now path.now bit q) }
+    stands: &mut Stands,
+) -> Result<(), AllocError>
+    requires bit { bit < 32 }
+    requires granted { AreGranted stands.now }
+    ensures granted { OnOk result (AreGranted stands.new) }
+    ensures each { OnOk result ((q : ℕ) → unwrap_or (stand_at stands.new.known q) false
+        ≡ unwrap_or (stand_at stands.old.known q) (granted_by (listed holding.now.holders)
+        (seen view.now).dacl.entries (option_copied self_sid.entry) owner.now path.now bit q)) }
 {
     for ace in view.dacl_in() {
-        take_entry(&ace, self_sid, owner, holding, path, bit, stands);
+        take_entry(&ace, self_sid, owner, holding, path, bit, stands)?;
     }
+    Ok(())
 }
 
 // The set, where what stands is by privilege.
@@ -85,25 +89,20 @@ fn judged(
     self_sid: Option<&Sid>,
     path: &[Guid],
     bit: u32,
-    stands: &mut [Option<bool>],
-) -> Result<Vec<bool>, AllocError>
+    mut stands: Stands,
+) -> Result<Places, AllocError>
     requires bit { bit < 32 }
     requires other { bit ≡ access_system_security → ⊥ }
-    requires begun { stands.old ≡ map (by_privilege (bit == write_owner)) holding.now.takers.items }
+    requires granted { AreGranted stands }
+    requires begun { (q : ℕ) → stand_at stands.known q
+        ≡ by_privilege (bit == write_owner) (has holding.now.taking.items q) }
     ensures { IfOk result (λ set. (tokens : List TokenValue) → IsHoldingOf tokens holding.now → AreBare
-        tokens → set.items ≡ granted_set (seen view.now) tokens (option_copied self_sid.entry)
-        path.now bit) }
+        tokens → set ≡ granted_set (seen view.now) tokens (option_copied self_sid.entry) path.now bit) }
 {
     let owner = view.owner();
-    take_owner(view, &owner, holding, bit, stands);
-    walk(view, &owner, holding, self_sid, path, bit, stands);
-    granted_of(alloc, stands)
-}
-
-fn copy_of(alloc: Global, set: &[bool]) -> Result<Vec<bool>, AllocError>
-    ensures { IfOk result (λ copy. copy.items ≡ set.now) }
-{
-    Ok(set.to_vec(alloc)?)
+    take_owner(view, &owner, holding, bit, &mut stands)?;
+    walk(view, &owner, holding, self_sid, path, bit, &mut stands)?;
+    Places::of(alloc, holding.count(), granted_of(stands))
 }
 
 /// The set of the tokens that the descriptor grants the right on the path, by its place in a mask, to an object with
@@ -119,15 +118,14 @@ pub fn granted_set(
     self_sid: Option<&Sid>,
     path: &[Guid],
     bit: u32,
-) -> Result<Vec<bool>, AllocError>
+) -> Result<Places, AllocError>
     requires { bit < 32 }
     ensures { IfOk result (λ set. (tokens : List TokenValue) → IsHoldingOf tokens holding.now → AreBare
-        tokens → set.items ≡ granted_set (seen view.now) tokens (option_copied self_sid.entry)
-        path.now bit) }
+        tokens → set ≡ granted_set (seen view.now) tokens (option_copied self_sid.entry) path.now bit) }
 {
     if bit == ACCESS_SYSTEM_SECURITY {
-        return copy_of(alloc, holding.auditors());
+        return Places::of_flags(alloc, holding.auditors());
     }
-    let mut stands = by_privilege(alloc, holding.takers(), bit == WRITE_OWNER)?;
-    judged(alloc, view, holding, self_sid, path, bit, &mut stands)
+    let stands = by_privilege(alloc, holding.taking(), bit == WRITE_OWNER)?;
+    judged(alloc, view, holding, self_sid, path, bit, stands)
 }

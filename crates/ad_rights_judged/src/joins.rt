@@ -5,7 +5,8 @@ ghost use Rattle.ad_sets.specs.Sets.{sets_of, set_at, Keeps, IsJoined};
 ghost use Rattle.ad_rights_judged.specs.Judged.{IsJoin, IsJoinOf};
 
 use crate::bases::{mixed, place_if};
-use ad_sets::{Sets, both, either};
+use ad_places::{Places, both, either};
+use ad_sets::Sets;
 use indexmap::IndexMap;
 use std::alloc::{AllocError, Global};
 
@@ -68,9 +69,9 @@ fn joined(
     all: bool,
     first: usize,
     second: usize,
-) -> Result<Vec<bool>, AllocError>
+) -> Result<Places, AllocError>
     ensures { IfOk result (λ joined. IsJoined all (set_at (sets_of sets.now) first)
-        (set_at (sets_of sets.now) second) joined.items) }
+        (set_at (sets_of sets.now) second) joined) }
 {
     if all {
         both(alloc, sets.at(first), sets.at(second))

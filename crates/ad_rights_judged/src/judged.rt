@@ -13,6 +13,7 @@ use crate::bases::{Bases, base_of};
 use crate::joins::{Joins, join_of};
 use crate::tokens::Tokens;
 use ad_dir::Dir;
+use ad_places::Places;
 use ad_sets::{Change, Sets, Sign, told_by};
 use ad_types::Path;
 use indexmap::IndexMap;
@@ -56,12 +57,12 @@ impl Judged {
     /// # Errors
     ///
     /// Out of memory.
-    pub fn put(&mut self, set: Vec<bool>) -> Result<usize, AllocError>
+    pub fn put(&mut self, set: Places) -> Result<usize, AllocError>
         ensures judged { OnOk result ((dir : Directory) (tokens : List TokenValue)
             → AreJudged dir tokens self.old → AreJudged dir tokens self.new) }
         ensures kept { OnOk result (Keeps (sets_of self.old.sets) (sets_of self.new.sets)) }
         ensures place { IfOk result (λ place. slice_get (sets_of self.new.sets) place
-            ≡ Some set.items) }
+            ≡ Some set) }
     {
         self.sets.put(set)
     }

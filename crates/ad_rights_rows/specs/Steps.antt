@@ -1,10 +1,9 @@
 -- Only for private contracts, invariants and proofs: the changes of a set at the places of an object itself; rows;
 -- and whether nobody is told yes.
-use Rattle.std.specs.Prelude.{◌≡◌, ◌==◌, ◌<◌, ℕ, Bool, true, false, if◌then◌else◌, Option, None, Some, List, slice_get}
-use Rattle.std.specs.Prelude.{length, nat_eq, nat_lt}
+use Rattle.std.specs.Prelude.{◌≡◌, ◌==◌, ℕ, Bool, true, false, if◌then◌else◌, Option, None, Some, List, slice_get}
+use Rattle.std.specs.Prelude.{length, nat_lt}
 use Rattle.std.specs.List.{flat_map}
 use Rattle.std.specs.Option.{option_map_or}
-use Rattle.indexmap.specs.IndexMap.{IndexMap, get}
 use Rattle.ad_ids.specs.SidValue.{SidValue}
 use Rattle.ad_ids.specs.declared.token.Token.{Token}
 use Rattle.ad_dir_model.specs.Directory.{Directory}
@@ -65,12 +64,3 @@ is_added set None sign = false
 is_added set (Some own) Same = false
 is_added set (Some own) With = nat_lt own (length set)
 is_added set (Some own) Without = false
-
--- no place of the set before this one has a member
-abbrev pub IsFirst : List Bool → ℕ → Type 0
-IsFirst set first = (place : ℕ) → place < first → stands_in set place ≡ false
-
--- what is known of places is so of the sets that stand there
-abbrev pub AreFirsts : {S : Type 0} → List (List Bool) → IndexMap ℕ ℕ S → Type 0
-AreFirsts sets firsts = (place first : ℕ) → get nat_eq firsts place ≡ Some first
-    → (set : List Bool) × (slice_get sets place ≡ Some set) × IsFirst set first

@@ -10,6 +10,7 @@ ghost use Rattle.ad_rights_rows.specs.Rows.{is_met_apart, are_met_apart};
 ghost use Rattle.ad_rights_rows.specs.Kept.{IsSetOf, AreEnds};
 
 use ad_dir::Dir;
+use ad_places::Places;
 use ad_questions::Alternative;
 use ad_rights_judged::{Judged, Tokens};
 use std::alloc::{AllocError, Global};
@@ -22,10 +23,11 @@ pub struct Ends {
 }
 
 // A set that has all tokens, or none.
-fn all_or_none(alloc: Global, tokens: &Tokens, there: bool) -> Result<Vec<bool>, AllocError>
-    ensures { IfOk result (λ set. set.items ≡ map (λ (token : TokenValue). there) tokens.now.all.items) }
+fn all_or_none(alloc: Global, tokens: &Tokens, there: bool) -> Result<Places, AllocError>
+    ensures { IfOk result (λ set. set ≡ map (λ (token : TokenValue). there) tokens.now.all.items) }
 {
-    Ok(vec![in alloc; there; tokens.count()]?)
+    let flags = vec![in alloc; there; tokens.count()]?;
+    Places::of_flags(alloc, flags.as_slice())
 }
 
 /// Puts the sets of nobody and of everybody.

@@ -9,7 +9,8 @@ ghost use Rattle.ad_sets.specs.Told.{stands_in, signed, told_at};
 ghost use Rattle.ad_sets.specs.Rows.{row_of};
 ghost use Rattle.ad_rights_rows.specs.Rows.{base_at, whole_at};
 
-use ad_sets::{Sign, stands_in};
+use ad_places::Places;
+use ad_sets::Sign;
 
 /// Whether somebody is in what a set tells with a sign, who is in the set or isn't.
 pub fn signed(sign: Sign, own: Option<usize>, member: usize, was: bool) -> bool
@@ -27,10 +28,10 @@ pub fn signed(sign: Sign, own: Option<usize>, member: usize, was: bool) -> bool
 }
 
 /// Whether a member is in what a set tells with a sign.
-pub fn tells(set: &[bool], sign: Sign, own: Option<usize>, member: usize) -> bool
+pub fn tells(set: &Places, sign: Sign, own: Option<usize>, member: usize) -> bool
     ensures { result ≡ signed sign own member (stands_in set.now member) }
 {
-    signed(sign, own, member, stands_in(set, member))
+    signed(sign, own, member, set.has(member))
 }
 
 /// What the set and the sign of an object tell of a member is whether its token is told yes on it.

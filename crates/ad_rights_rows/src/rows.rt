@@ -13,11 +13,11 @@ ghost use Rattle.ad_sets.specs.Sets.{sets_of, Keeps};
 ghost use Rattle.ad_sets.specs.Rows.{told_set, told_sign, AreRows};
 ghost use Rattle.ad_rights_rows.specs.Rows.{base_of, whole_of, base_at, whole_at, own_at, rows_of};
 ghost use Rattle.ad_rights_rows.specs.Kept.{AreEnds, AreKept};
-ghost use Rattle.ad_rights_rows.specs.Steps.{AreFirsts, IsRowIf};
+ghost use Rattle.ad_rights_rows.specs.Steps.{IsRowIf};
 
 use crate::bases::{Ends, needed_set};
 use crate::changes::{changes, changes_make_the_whole};
-use crate::nobody::{Firsts, is_nobody_at, no_firsts};
+use crate::nobody::tells_nobody;
 use crate::parties::Parties;
 use ad_dir::{Dir, goes_with};
 use ad_questions::{Alternative, Question, requirements};
@@ -113,7 +113,6 @@ fn row_if(
     parties: &Parties,
     places: &IndexMap<u32, usize>,
     judged: &mut Judged,
-    firsts: &mut Firsts,
     ends: Ends,
     question: Question,
     number: u32,
@@ -123,10 +122,8 @@ fn row_if(
     requires parties { AreKept dir.now parties.now }
     requires places { (number : ℕ) → get nat_eq places.now number ≡ own_at parties.now.members.items number }
     requires judged { AreJudged dir.now parties.now.tokens.all.items judged.now }
-    requires firsts { AreFirsts (sets_of judged.now.sets) firsts.now }
     requires ends { AreEnds (sets_of judged.now.sets) parties.now.tokens.all.items ends }
     ensures judged { OnOk result (AreJudged dir.now parties.now.tokens.all.items judged.new) }
-    ensures firsts { OnOk result (AreFirsts (sets_of judged.new.sets) firsts.new) }
     ensures kept { OnOk result (Keeps (sets_of judged.old.sets) (sets_of judged.new.sets)) }
     ensures row { IfOk result (IsRowIf dir.now parties.now.members.items parties.now.tokens.all.items
         question number (sets_of judged.new.sets)) }
@@ -134,7 +131,7 @@ fn row_if(
     ad_sets::a_row_tells_the_whole();
     let own = own_of(places, number);
     let (place, sign) = told_on(alloc, dir, parties, judged, ends, own, question, number)?;
-    let nobody = is_nobody_at(firsts, judged.sets(), place, own, sign)?;
+    let nobody = tells_nobody(judged.sets().at(place), own, sign);
     let row = Row {
         object: number,
         place,
@@ -161,7 +158,6 @@ fn put_row(
     parties: &Parties,
     places: &IndexMap<u32, usize>,
     judged: &mut Judged,
-    firsts: &mut Firsts,
     ends: Ends,
     question: Question,
     rows: &mut Vec<Row>,
@@ -172,18 +168,14 @@ fn put_row(
     requires parties { AreKept dir.now parties.now }
     requires places { (number : ℕ) → get nat_eq places.now number ≡ own_at parties.now.members.items number }
     requires judged { AreJudged dir.now parties.now.tokens.all.items judged.now }
-    requires firsts { AreFirsts (sets_of judged.now.sets) firsts.now }
     requires ends { AreEnds (sets_of judged.now.sets) parties.now.tokens.all.items ends }
     ensures judged { OnOk result (AreJudged dir.now parties.now.tokens.all.items judged.new) }
-    ensures firsts { OnOk result (AreFirsts (sets_of judged.new.sets) firsts.new) }
     ensures ends { OnOk result (AreEnds (sets_of judged.new.sets) parties.now.tokens.all.items ends) }
     ensures rows { OnOk result ((values : List RowValue) → AreRows (sets_of judged.old.sets) rows.old.items
         values → AreRows (sets_of judged.new.sets) rows.new.items (values ++ rows_of dir.now
         parties.now.members.items parties.now.tokens.all.items question (number ∷ []))) }
 {
-    let row = row_if(
-        alloc, dir, parties, places, judged, firsts, ends, question, number,
-    )?;
+    let row = row_if(alloc, dir, parties, places, judged, ends, question, number)?;
     push_if(rows, row)
 }
 
@@ -212,19 +204,9 @@ pub fn told_rows(
         parties.now.members.items parties.now.tokens.all.items question all.now)) }
 {
     let mut rows = Vec::new(alloc);
-    let mut firsts = no_firsts(alloc);
     for number in all {
         put_row(
-            alloc,
-            dir,
-            parties,
-            places,
-            judged,
-            &mut firsts,
-            ends,
-            question,
-            &mut rows,
-            *number,
+            alloc, dir, parties, places, judged, ends, question, &mut rows, *number,
         )?;
     }
     Ok(rows)

@@ -1,9 +1,7 @@
 -- Sets that were put keep their places, and two sets that are equal stand once.
-use Rattle.std.proofs.Common.{◌≡◌, ◌∙◌, ℕ, zero, suc, Bool, true, false, Option, Some, None, List, []}
-use Rattle.std.proofs.Common.{◌∷◌, ◌++◌, map, refl, sym, ap}
+use Rattle.std.proofs.Common.{◌≡◌, ℕ, zero, suc, Bool, true, false, Some, List, [], ◌∷◌, ◌++◌, refl}
 use Rattle.std.specs.Prelude.{if◌then◌else◌, slice_get}
-use Rattle.std.specs.Option.{option_map}
-use Rattle.std.proofs.lemmas.Option.{none-some, slice_get-map}
+use Rattle.std.proofs.lemmas.Option.{none-some}
 use Rattle.ad_sets.specs.Told.{same_set}
 use Rattle.ad_sets.specs.Sets.{Keeps}
 
@@ -15,17 +13,10 @@ more_at [] ys place x there = absurd (none-some x there)
 more_at (z ∷ xs) ys zero x there = there
 more_at (z ∷ xs) ys (suc place) x there = more_at xs ys place x there
 
-pub keeps_put : {X : Type 0} (f : X → List Bool) (b : Bool) (keys : List X) (key : X)
-    → Keeps (map f keys) (map f (if b then keys else keys ++ key ∷ []))
-keeps_put f true keys key place set there = there
-keeps_put {X = X} f false keys key place set there =
-    let here : option_map f (slice_get keys place) ≡ Some set = sym (slice_get-map f keys place) ∙ there in
-    slice_get-map f (keys ++ key ∷ []) place ∙ more (slice_get keys place) refl here
-  where
-    more : (found : Option X) → slice_get keys place ≡ found → option_map f found ≡ Some set
-        → option_map f (slice_get (keys ++ key ∷ []) place) ≡ Some set
-    more None is some = absurd (none-some set some)
-    more (Some x) is some = ap (option_map f) (more_at keys (key ∷ []) place x is) ∙ some
+pub keeps_put : (b : Bool) (sets : List (List Bool)) (more : List Bool)
+    → Keeps sets (if b then sets else sets ++ more ∷ [])
+keeps_put true sets more place set there = there
+keeps_put false sets more place set there = more_at sets (more ∷ []) place set there
 
 -- ---- equal sets
 

@@ -2,4 +2,3 @@ pub mod Reading
 pub mod Keeping
 pub mod Changing
 pub mod Numbering
-pub mod Joining

@@ -9,6 +9,7 @@ use Rattle.std.proofs.lemmas.Bool.{cases_eq, cases_lt, false≢true}
 use Rattle.std.proofs.lemmas.List.{append-nil, drop_more, drop_all}
 use Rattle.std.proofs.lemmas.List.{map-append, append_assoc, get_or-set_same, get_or-set_other, set_past}
 use Rattle.std.proofs.lemmas.Option.{none-some, get_or_from_slice_get}
+use Rattle.ad_places.specs.Flags.{places_from, places_of}
 use Rattle.ad_sets.specs.declared.told.Sign.{Sign}
 use Rattle.ad_sets.specs.declared.told.Fact.{Fact}
 use Rattle.ad_sets.specs.declared.told.Fact.TheVariants.{In, On}
@@ -261,36 +262,18 @@ hints_entered sets told more numbers after place number is_new one hints one_is 
 
 -- ---- members
 
-pub members_more : (set : List Bool) (number place : ℕ) (rest : List Bool) (there : Bool) → set ≡ there ∷ rest
-    → members_from number place set ≡ (if there then In number place ∷ [] else []) ++ members_from number (place + 1) rest
-unfolding members_from
-members_more set number place rest there is = ap (members_from number place) is ∙ by there
-  where
-    by : (b : Bool) → members_from number place (b ∷ rest)
-        ≡ (if b then In number place ∷ [] else []) ++ members_from number (place + 1) rest
-    by true = refl
-    by false = refl
+members_are : (set : List Bool) (number place : ℕ)
+    → map (λ (p : ℕ). In number p) (places_from place set) ≡ members_from number place set
+unfolding members_from places_from
+members_are [] number place = refl
+members_are (true ∷ others) number place =
+    ap (λ (l : List Fact). In number place ∷ l) (members_are others number (place + 1))
+members_are (false ∷ others) number place = members_are others number (place + 1)
 
-pub members_next : (set : List Bool) (number i : ℕ) (d : Bool) (facts new start : List Fact) → i < length set
-    → new ≡ facts ++ (if get_or set i d then In number i ∷ [] else [])
-    → facts ++ members_from number i (drop i set) ≡ start
-    → new ++ members_from number (i + 1) (drop (i + 1) set) ≡ start
-members_next set number i d facts new start lt new_is was =
-    let one : List Fact = if get_or set i d then In number i ∷ [] else [] in
-    let others : List Fact = members_from number (i + 1) (drop (i + 1) set) in
-    ap (λ (l : List Fact). l ++ others) new_is
-    ∙ append_assoc facts one others
-    ∙ ap (λ (l : List Fact). facts ++ l)
-    (sym (members_more (drop i set) number i (drop (i + 1) set) (get_or set i d) (drop_more set i d lt)))
-    ∙ was
-
-pub members_end : (set : List Bool) (number i : ℕ) (facts start : List Fact) → length set ≤ i
-    → facts ++ members_from number i (drop i set) ≡ start → facts ≡ start
-unfolding members_from
-members_end set number i facts start past was =
-    sym (append-nil facts)
-    ∙ ap (λ (l : List Bool). facts ++ members_from number i l) (sym (drop_all i set past))
-    ∙ was
+-- a line for each place of a set
+pub members_is : (set : List Bool) (number : ℕ)
+    → map (λ (p : ℕ). In number p) (places_of set) ≡ members_from number 0 set
+members_is set number = members_are set number 0
 
 -- ---- all rows
 

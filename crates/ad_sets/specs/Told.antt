@@ -1,10 +1,9 @@
 -- What is told of sets and objects: each set once, by its members, and of each object which set is granted.
 use Rattle.std.specs.Prelude.{◌≡◌, ℕ, ◌+◌, Bool, false, not, ◌&&◌, ◌||◌, ◌==◌, if◌then◌else◌, Option, None, Some}
-use Rattle.std.specs.Prelude.{List, [], ◌∷◌, ◌++◌, length, slice_index_or}
-use Rattle.std.specs.Bool.{beq}
+use Rattle.std.specs.Prelude.{List, [], ◌∷◌, ◌++◌, length}
 use Rattle.std.specs.List.{list_any, AllByRecursion}
 use Rattle.std.specs.Option.{option_map, option_map_or}
-use Rattle.std.specs.Cmp.Lexicographic.{pointwise}
+pub use Rattle.ad_places.specs.Flags.{stands_in, same_set}
 use Rattle.ad_sets.specs.declared.told.Sign.{Sign}
 use Rattle.ad_sets.specs.declared.told.Sign.TheVariants.{Same, With, Without}
 use Rattle.ad_sets.specs.declared.told.Fact.{Fact}
@@ -18,10 +17,6 @@ pub record RowValue : Type 0 where
   pub own : Option ℕ
   pub set : List Bool
   pub sign : Sign
-
--- the identity stands in the set
-abbrev pub stands_in : List Bool → ℕ → Bool
-stands_in set member = slice_index_or set member false
 
 -- it is the object itself
 abbrev pub is_own : Option ℕ → ℕ → Bool
@@ -46,9 +41,6 @@ members_from number place [] = []
 members_from number place (there ∷ others) =
     if there then In number place ∷ members_from number (place + 1) others
     else members_from number (place + 1) others
-
-abbrev pub same_set : List Bool → List Bool → Bool
-same_set a b = pointwise beq a b
 
 -- the place of a set among those that were told
 unfoldable pub place_in : List (List Bool) → List Bool → Option ℕ

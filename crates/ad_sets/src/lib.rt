@@ -21,7 +21,8 @@
 //!
 //! # Cost
 //!
-//! A set costs its places once where it is put, and once more where it is told. A row costs its changes.
+//! A set costs its members once where it is put, and once more where it is told. A row costs its changes, and all places
+//! where another than the object itself differs.
 #![tactic(auto)]
 
 mod row;
@@ -30,6 +31,6 @@ mod telling;
 mod told;
 
 pub use row::{Change, Row, told_by};
-pub use sets::{Sets, both, either, is_nobody, stands_in};
+pub use sets::Sets;
 pub use telling::facts_of;
 pub use told::{Fact, Sign, a_row_tells_the_whole, what_is_told_gives_who_is_granted};

@@ -7,8 +7,9 @@ ghost use Rattle.ad_sets.specs.Sets.{sets_of, Keeps};
 ghost use Rattle.ad_sets.specs.Rows.{differ, is_elsewhere, own_sign, sign_of, told_set, told_sign};
 ghost use Rattle.ad_sets.specs.Rows.{put_all, IsChanged};
 
-use crate::sets::{Sets, stands_in};
+use crate::sets::Sets;
 use crate::told::Sign;
+use ad_places::Places;
 use std::alloc::{AllocError, Global};
 
 /// What is so of one place.
@@ -41,14 +42,14 @@ fn differ(a: bool, b: bool) -> bool
     if a { !b } else { b }
 }
 
-fn is_another(base: &[bool], own: Option<usize>, change: Change) -> bool
+fn is_another(base: &Places, own: Option<usize>, change: Change) -> bool
     ensures { result ≡ is_elsewhere base.now own change }
 {
-    !is_own(own, change.place) && differ(stands_in(base, change.place), change.value)
+    !is_own(own, change.place) && differ(base.has(change.place), change.value)
 }
 
 // Whether a change makes another than the object itself differ.
-fn is_elsewhere(base: &[bool], own: Option<usize>, changes: &[Change]) -> bool
+fn is_elsewhere(base: &Places, own: Option<usize>, changes: &[Change]) -> bool
     ensures { result ≡ list_any (is_elsewhere base.now own) changes.now }
 {
     for change in changes {
@@ -60,7 +61,7 @@ fn is_elsewhere(base: &[bool], own: Option<usize>, changes: &[Change]) -> bool
 }
 
 // Whether the object itself is in the whole.
-fn own_value(base: &[bool], own: usize, changes: &[Change]) -> bool
+fn own_value(base: &Places, own: usize, changes: &[Change]) -> bool
     ensures { (whole : List Bool) → IsChanged base.now changes.now whole → result
         ≡ stands_in whole own }
 {
@@ -69,7 +70,7 @@ fn own_value(base: &[bool], own: usize, changes: &[Change]) -> bool
             return change.value;
         }
     }
-    stands_in(base, own)
+    base.has(own)
 }
 
 fn sign_of(base: bool, whole: bool) -> Sign
@@ -83,12 +84,12 @@ fn sign_of(base: bool, whole: bool) -> Sign
 }
 
 // How the object's own stands to the base.
-fn own_sign(base: &[bool], own: Option<usize>, changes: &[Change]) -> Sign
+fn own_sign(base: &Places, own: Option<usize>, changes: &[Change]) -> Sign
     ensures { (whole : List Bool) → IsChanged base.now changes.now whole → result
         ≡ own_sign own base.now whole }
 {
     match own {
-        Some(own) => sign_of(stands_in(base, own), own_value(base, own, changes)),
+        Some(own) => sign_of(base.has(own), own_value(base, own, changes)),
         None => Sign::Same,
     }
 }
@@ -111,20 +112,14 @@ fn put_all(whole: &mut Vec<bool>, changes: &[Change])
     }
 }
 
-fn copy_of(alloc: Global, set: &[bool]) -> Result<Vec<bool>, AllocError>
-    ensures { IfOk result (λ copy. copy.items ≡ set.now) }
-{
-    Ok(set.to_vec(alloc)?)
-}
-
 // The set with all changes.
-fn whole_of(alloc: Global, base: &[bool], changes: &[Change]) -> Result<Vec<bool>, AllocError>
-    ensures { IfOk result (λ whole. (wanted : List Bool) → IsChanged base.now changes.now wanted
-        → whole.items ≡ wanted) }
+fn whole_of(alloc: Global, base: &Places, changes: &[Change]) -> Result<Places, AllocError>
+    ensures { IfOk result (λ whole. (wanted : List Bool) → IsChanged base.now changes.now wanted → whole
+        ≡ wanted) }
 {
-    let mut whole = copy_of(alloc, base)?;
-    put_all(&mut whole, changes);
-    Ok(whole)
+    let mut flags = base.flags(alloc)?;
+    put_all(&mut flags, changes);
+    Places::of_flags(alloc, flags.as_slice())
 }
 
 /// By which set and sign an object is told: the base where the changes are of the object itself alone, and else the

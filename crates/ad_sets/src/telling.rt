@@ -2,8 +2,8 @@
 
 ghost use Rattle.indexmap.specs.IndexSet.{index_set_len};
 ghost use Rattle.std.specs.Prelude.{◌<◌, ◌+◌, ◌≡◌, ◌++◌, ◌∷◌, [], List, if◌then◌else◌};
-ghost use Rattle.std.specs.Prelude.{set, length, slice_index_or, IfOk, OnOk};
-ghost use Rattle.ad_sets.specs.declared.told.Fact.TheVariants.{On};
+ghost use Rattle.std.specs.Prelude.{set, map, length, slice_index_or, IfOk, OnOk};
+ghost use Rattle.ad_sets.specs.declared.told.Fact.TheVariants.{In, On};
 ghost use Rattle.ad_sets.specs.Told.{RowValue, members_from, row_facts};
 ghost use Rattle.ad_sets.specs.Sets.{sets_of};
 ghost use Rattle.ad_sets.specs.Rows.{value_of, AreRows};
@@ -12,28 +12,25 @@ ghost use Rattle.ad_sets.specs.Telling.{told_of, AreHints, Tells, IsEntered};
 use crate::row::Row;
 use crate::sets::Sets;
 use crate::told::Fact;
+use ad_places::Places;
 use indexmap::IndexSet;
 use std::alloc::{AllocError, Global};
 
-// A fact, where it is one.
-fn put_if(facts: &mut Vec<Fact>, there: bool, fact: Fact) -> Result<(), AllocError>
-    ensures { OnOk result (facts.new.items ≡ facts.old.items
-        ++ (if there then fact ∷ [] else [])) }
+// A line for each of these members.
+fn put_each(facts: &mut Vec<Fact>, number: usize, members: &[usize]) -> Result<(), AllocError>
+    ensures { OnOk result (facts.new.items ≡ facts.old.items ++ map (In number) members.now) }
 {
-    if there {
-        facts.push(fact)?;
+    for member in members {
+        facts.push(Fact::In(number, *member))?;
     }
     Ok(())
 }
 
 // The members of a set.
-fn put_members(facts: &mut Vec<Fact>, number: usize, set: &[bool]) -> Result<(), AllocError>
+fn put_members(facts: &mut Vec<Fact>, number: usize, set: &Places) -> Result<(), AllocError>
     ensures { OnOk result (facts.new.items ≡ facts.old.items ++ members_from number 0 set.now) }
 {
-    for place in 0..set.len() {
-        put_if(facts, set[place], Fact::In(number, place))?;
-    }
-    Ok(())
+    put_each(facts, number, set.members())
 }
 
 // The number that is known of a place, 0 where none is.
@@ -56,7 +53,7 @@ fn note(numbers: &mut Vec<usize>, place: usize, number: usize)
 }
 
 // One more than a place of the table.
-fn after(told: &IndexSet<&[bool]>, place: usize) -> usize
+fn after(told: &IndexSet<&Places>, place: usize) -> usize
     requires { place < index_set_len told.now }
     ensures { result ≡ place + 1 }
 {
@@ -65,7 +62,7 @@ fn after(told: &IndexSet<&[bool]>, place: usize) -> usize
 }
 
 // The number of a set among those that were told, from 1, and whether it wasn't told yet.
-fn enter<'a>(told: &mut IndexSet<&'a [bool]>, set: &'a [bool]) -> Result<(usize, bool), AllocError>
+fn enter<'a>(told: &mut IndexSet<&'a Places>, set: &'a Places) -> Result<(usize, bool), AllocError>
     ensures { IfOk result (λ at. IsEntered (told_of told.old) (told_of told.new) set.now at.0 at.1) }
 {
     let (place, is_new) = told.insert_full(set)?;
@@ -77,7 +74,7 @@ fn put_line(
     facts: &mut Vec<Fact>,
     row: Row,
     number: usize,
-    set: &[bool],
+    set: &Places,
     is_new: bool,
 ) -> Result<(), AllocError>
     ensures { OnOk result (facts.new.items ≡ facts.old.items
@@ -102,7 +99,7 @@ fn put_known(facts: &mut Vec<Fact>, row: Row, number: usize) -> Result<(), Alloc
 // What is told of one row more.
 fn tell<'a>(
     sets: &'a Sets,
-    told: &mut IndexSet<&'a [bool]>,
+    told: &mut IndexSet<&'a Places>,
     numbers: &mut Vec<usize>,
     row: Row,
     facts: &mut Vec<Fact>,

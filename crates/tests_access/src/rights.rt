@@ -88,7 +88,8 @@ fn is_set(
 {
     let set = granted_set(rt.alloc(), &kept.view(), holding, self_sid, &[], bit);
     let set = set.expect(rt, "memory");
-    assert!(rt; set.as_slice() == wanted);
+    let flags = set.flags(rt.alloc()).expect(rt, "memory");
+    assert!(rt; flags.as_slice() == wanted);
 }
 
 // Who is denied first, who is in the group, and who owns.

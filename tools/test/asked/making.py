@@ -1,5 +1,6 @@
-"""Directories made by chance, as LDIF: groups in circles and of all kinds, foreign principals, denials, property sets,
-entries for the object itself and for owner rights, and lists that are still being passed down."""
+"""Directories made by chance, as LDIF: groups in circles and of all kinds, chains of them, foreign principals,
+identifiers without an object, those of before, guests, what was deleted, denials, property sets, entries for the object
+itself and for owner rights, and lists that are still being passed down."""
 
 import base64
 import os
@@ -31,6 +32,13 @@ objectClass: attributeSchema
 lDAPDisplayName: sIDHistory
 attributeSyntax: 2.5.5.17
 schemaIDGUID:: AAAAoAAAAECAAAAAAAAAMA==
+
+dn: CN=isDeleted
+objectClass: attributeSchema
+lDAPDisplayName: isDeleted
+attributeSyntax: 2.5.5.8
+schemaIDGUID:: AAAAoAAAAECAAAAAAAAAMQ==
+isSingleValued: TRUE
 
 """
 
@@ -122,13 +130,21 @@ class Maker:
             of = chance.choice(("", "", "-2147483646", "-2147483644", "2"))
             if of:
                 thing.lines.append(f"groupType: {of}")
-        for number, sid in enumerate(("S-1-5-11", "S-1-1-0", "S-1-5-7", STRANGERS[1])):
+        for number, sid in enumerate(("S-1-5-11", "S-1-1-0", "S-1-5-7", STRANGERS[1], "S-1-5-32")):
             if chance.random() < 0.3:
                 self.add(f"CN=f{number}", BASE, "container", sid)
+        for thing in self.things:
+            if thing.sid and thing.of_class != "domainDNS" and chance.random() < 0.08:
+                thing.lines.append(f"isDeleted: {chance.choice(('TRUE', 'TRUE', 'FALSE'))}")
 
     def members(self) -> None:
-        """Who is in which group; circles come by themselves."""
+        """Who is in which group; circles come by themselves, and now and then all groups stand in a chain."""
         names = [thing.name for thing in self.things]
+        groups = [thing for thing in self.things if thing.of_class == "group"]
+        if self.chance.random() < 0.2:
+            for one, other in zip(groups, groups[1:]):
+                one.lines.append(f"member: {other.name}")
+            return
         for thing in self.things:
             if thing.of_class == "group" or (thing.sid and self.chance.random() < 0.05):
                 some = self.chance.sample(names, min(len(names), self.chance.randint(0, 4)))

@@ -32,12 +32,14 @@ Decider = Optional[str]
 @dataclass(frozen=True)
 class Rules:
     """Which rules are on that came later: sIDHistory in the set, who isn't authenticated and who is a principal; questions
-    of intent; identifiers without a principal; and all objects at once."""
+    of intent; identifiers without a principal; all objects at once; and `diff`, and whether it knows these identifiers."""
 
     principals: bool = False
     intents: bool = False
     identities: bool = False
     rights: bool = False
+    diff: bool = False
+    diff_identities: bool = False
 
 
 class Token(NamedTuple):

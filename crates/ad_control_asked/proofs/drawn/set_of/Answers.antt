@@ -1,4 +1,4 @@
-use Rattle.std.proofs.Common.{Bool, List, sym, subst}
+use Rattle.std.proofs.Common.{◌∙◌, Bool, List, sym, subst}
 use Rattle.ad_sets.specs.Sets.{sets_of, set_at}
 use Rattle.ad_control_graph.specs.Drawing.{IsSetOf}
 use Rattle.ad_control_asked.specs.Drawn.{IsNodeOf}
@@ -13,7 +13,7 @@ returns-in-Some-clause-found c =
 pub returns-clause-found : goal.returns-clause-found
 returns-clause-found c =
     subst (λ (members : List Bool). IsSetOf c.put_members.new.self c.in_ok-found.found (IsNodeOf members c.args.at.now))
-    c.at.ensures c.in_ok-found.ensures.set
+    (c.as_slice.ensures.value ∙ c.in_ok-flags.ensures ∙ c.at.ensures) c.in_ok-found.ensures.set
 
 pub returns-clause-drawn : goal.returns-clause-drawn
 returns-clause-drawn c =
@@ -26,6 +26,6 @@ returns-clause-drawn c =
     (drawn_stays sets at c.args.graph.now new c.args.drawn.now c.in_ok-found.ensures.sets c.requires.drawn) (record {
       members = set_at sets c.args.place;
       is_members = there_is sets c.args.place c.requires.there;
-      is_set = subst (λ (members : List Bool). IsSetOf new found (IsNodeOf members at)) c.at.ensures
-          c.in_ok-found.ensures.set;
+      is_set = subst (λ (members : List Bool). IsSetOf new found (IsNodeOf members at))
+          (c.as_slice.ensures.value ∙ c.in_ok-flags.ensures ∙ c.at.ensures) c.in_ok-found.ensures.set;
     })

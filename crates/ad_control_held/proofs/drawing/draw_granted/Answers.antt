@@ -51,5 +51,5 @@ returns-clause-adds c =
     ground.at.items c.as_slice.result.now
     (λ (t : Token). sd_grants dir c.args.number t c.args.bit (seen c.args.view.now)) c.as_slice-2.result.now
     c.requires.steady c.as_slice.ensures.value
-    (c.as_slice-2.ensures.value ∙ c.in_ok-set.ensures tokens index indexed.bare) c.in_ok-place.ensures.readies
+    (c.as_slice-2.ensures.value ∙ c.in_ok-flags.ensures ∙ c.in_ok-set.ensures tokens index indexed.bare) c.in_ok-place.ensures.readies
     c.in_ok-place.ensures.set adds) c.draw.ensures.adds

@@ -11,7 +11,7 @@ loop-bit-init c = λ tokens index bare.
 
 pub loop-bit-preserved : goal.loop-bit-preserved
 loop-bit-preserved c = λ tokens index bare.
-    c.in_ok-joined.ensures tokens index bare (c.as_slice.ensures.value ∙ c.loop-bit.invariant tokens index bare)
+    c.in_ok-joined.ensures tokens index bare (c.loop-bit.invariant tokens index bare)
 
 pub returns : goal.returns
 returns c = λ tokens index bare.

@@ -10,4 +10,4 @@ use Rattle.ad_control_held.proofs.granting.any_set.Given as goal
 -- those who are granted one of the rights so far
 abbrev pub invariant-loop-bit : goal.invariant-loop-bit
 invariant-loop-bit l = (tokens : List Token) → IsHoldingOf tokens l.holding → AreBare tokens
-    → l.set.items ≡ any_set (seen l.view) tokens (option_copied l.self_sid) l.bit
+    → l.set ≡ any_set (seen l.view) tokens (option_copied l.self_sid) l.bit

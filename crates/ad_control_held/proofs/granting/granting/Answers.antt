@@ -8,12 +8,12 @@ pub returns-in-Some : goal.returns-in-Some
 returns-in-Some c =
     IfOk-weaker c.granted_set.result _ _ (λ set is tokens index bare.
     by_right c.args.dir.now c.args.number c.in-Some.bit c.args.bit (seen c.args.view.now) tokens
-    (option_copied c.self_sid-self_sid.result) set.items c.in-Some.is c.self_sid-self_sid.ensures
+    (option_copied c.self_sid-self_sid.result) set c.in-Some.is c.self_sid-self_sid.ensures
     (is tokens index bare)) c.granted_set.ensures
 
 pub returns-in-None : goal.returns-in-None
 returns-in-None c =
     IfOk-weaker c.any_set.result _ _ (λ set is tokens index bare.
     by_any c.args.dir.now c.args.number c.args.bit (seen c.args.view.now) tokens
-    (option_copied c.self_sid-self_sid.result) set.items c.in-None.is c.self_sid-self_sid.ensures
+    (option_copied c.self_sid-self_sid.result) set c.in-None.is c.self_sid-self_sid.ensures
     (is tokens index bare)) c.any_set.ensures

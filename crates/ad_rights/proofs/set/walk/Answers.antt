@@ -1,4 +1,4 @@
-use Rattle.std.proofs.Common.{◌≡◌, ◌∙◌, ℕ, List, refl, sym, ap, arith}
+use Rattle.std.proofs.Common.{◌≡◌, ◌∙◌, ℕ, List, ap}
 use Rattle.std.specs.Prelude.{unwrap_or}
 use Rattle.std.specs.Option.{option_copied}
 use Rattle.ad_ids.specs.SidValue.{SidValue}
@@ -18,12 +18,15 @@ loop-ace-init c =
     let all : to_come c.into_iter-ace-iterator.result ≡ whole
     = ap to_come c.into_iter-ace-iterator.ensures.into_iter_gives ∙ c.dacl_in-ace-items.ensures in
     record {
-      len = refl;
-      each = λ q lt.
-          ap (λ (l : List Entry). unwrap_or (stand_at c.args.stands.now q)
+      granted = c.requires.granted;
+      each = λ q.
+          ap (λ (l : List Entry). unwrap_or (stand_at c.args.stands.now.known q)
           (granted_by (listed c.args.holding.now.holders) l (option_copied c.args.self_sid) c.args.owner.now
           c.args.path.now c.args.bit q)) all;
     }
+
+pub take_entry-requires-clause-granted : goal.take_entry-requires-clause-granted
+take_entry-requires-clause-granted c = c.loop-ace.invariant.granted
 
 pub loop-ace-preserved : goal.loop-ace-preserved
 loop-ace-preserved c =
@@ -31,13 +34,14 @@ loop-ace-preserved c =
     let holders : SidValue → List ℕ = listed c.args.holding.now.holders in
     let self = option_copied c.args.self_sid in
     record {
-      len = c.take_entry.ensures.len ∙ l.invariant.len;
-      each = λ q lt.
+      granted = c.in_ok-take_entry.ensures.granted;
+      each = λ q.
           walk_more holders q (entry_seen c.in-Some.ace) (to_come c.next.new.self) (to_come l.ace-iterator) self
-          c.args.owner.now c.args.path.now c.args.bit (stand_at l.stands q) (stand_at c.take_entry.new.stands q)
-          (unwrap_or (stand_at c.args.stands.now q) (granted_by holders (seen c.args.view.now).dacl.entries self
+          c.args.owner.now c.args.path.now c.args.bit (stand_at l.stands.known q)
+          (stand_at c.take_entry.new.stands.known q)
+          (unwrap_or (stand_at c.args.stands.now.known q) (granted_by holders (seen c.args.view.now).dacl.entries self
           c.args.owner.now c.args.path.now c.args.bit q)) c.in-Some.ensures.steps
-          (c.take_entry.ensures.each q (omega (arith, lt, l.invariant.len))) (l.invariant.each q lt);
+          (c.in_ok-take_entry.ensures.each q) (l.invariant.each q);
     }
 
 pub returns : goal.returns
@@ -46,10 +50,10 @@ returns c =
     let holders : SidValue → List ℕ = listed c.args.holding.now.holders in
     let self = option_copied c.args.self_sid in
     record {
-      len = l.invariant.len;
-      each = λ q lt.
+      granted = l.invariant.granted;
+      each = λ q.
           walk_end holders q (to_come l.ace-iterator) self c.args.owner.now c.args.path.now c.args.bit
-          (stand_at l.stands q) (unwrap_or (stand_at c.args.stands.now q) (granted_by holders
+          (stand_at l.stands.known q) (unwrap_or (stand_at c.args.stands.now.known q) (granted_by holders
           (seen c.args.view.now).dacl.entries self c.args.owner.now c.args.path.now c.args.bit q))
-          c.in-None.ensures.steps.0 (l.invariant.each q lt);
+          c.in-None.ensures.steps.0 (l.invariant.each q);
     }

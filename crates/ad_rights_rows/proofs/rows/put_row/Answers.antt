@@ -10,9 +10,6 @@ returns-clause-ends c =
     on_ok_weaker c.push_if.result (λ pushed. ends_kept (sets_of c.args.judged.now.sets) (sets_of c.row_if.new.judged.sets)
     c.args.parties.now.tokens.all.items c.args.ends c.in_ok-row.ensures.kept c.requires.ends) c.push_if.ensures
 
-pub returns-clause-firsts : goal.returns-clause-firsts
-returns-clause-firsts c = on_ok_weaker c.push_if.result (λ pushed. c.in_ok-row.ensures.firsts) c.push_if.ensures
-
 pub returns-clause-rows : goal.returns-clause-rows
 returns-clause-rows c =
     on_ok_weaker c.push_if.result (λ pushed values are.

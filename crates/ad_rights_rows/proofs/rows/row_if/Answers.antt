@@ -1,29 +1,13 @@
-use Rattle.std.proofs.Common.{◌≡◌, ◌∙◌, ℕ, Option, [], Some, true, refl, sym, ap, subst}
-use Rattle.std.specs.Prelude.{is_some, slice_get}
+use Rattle.std.proofs.Common.{◌≡◌, ◌∙◌, ℕ, Option, [], Some, refl, sym, ap, subst}
 use Rattle.std.proofs.lemmas.Option.{get_or_from_slice_get}
 use Rattle.ad_sets.specs.declared.row.Row.{Row}
 use Rattle.ad_sets.specs.declared.sets.Sets.{Sets}
 use Rattle.ad_sets.specs.Sets.{sets_of, set_at}
 use Rattle.ad_sets.specs.Rows.{told_set, told_sign, IsRow}
 use Rattle.ad_rights_rows.specs.Rows.{own_at, base_at, whole_at, row_at}
-use Rattle.ad_rights_rows.specs.Steps.{AreFirsts, IsRowIf}
+use Rattle.ad_rights_rows.specs.Steps.{IsRowIf}
 use Rattle.ad_rights_rows.proofs.Telling.{told_by, same_length, row_unless}
-use Rattle.ad_rights_rows.proofs.Signs.{firsts_kept}
 use Rattle.ad_rights_rows.proofs.rows.row_if.Goals as goal
-
-pub is_nobody_at-requires-clause-there : goal.is_nobody_at-requires-clause-there
-is_nobody_at-requires-clause-there c =
-    ap is_some (ap (λ (s : Sets). slice_get (sets_of s) c.in_ok-place.place) c.sets.ensures ∙ c.in_ok-place.ensures.told.0)
-
-pub is_nobody_at-requires-clause-firsts : goal.is_nobody_at-requires-clause-firsts
-is_nobody_at-requires-clause-firsts c =
-    subst (λ (s : Sets). AreFirsts (sets_of s) c.args.firsts.now) (sym c.sets.ensures)
-    (firsts_kept (sets_of c.args.judged.now.sets) (sets_of c.told_on.new.judged.sets) c.args.firsts.now
-    c.in_ok-place.ensures.kept c.requires.firsts)
-
-pub returns-clause-firsts : goal.returns-clause-firsts
-returns-clause-firsts c =
-    subst (λ (s : Sets). AreFirsts (sets_of s) c.is_nobody_at.new.firsts) c.sets.ensures c.in_ok-nobody.ensures.firsts
 
 pub returns-clause-row : goal.returns-clause-row
 returns-clause-row c =
@@ -41,8 +25,9 @@ returns-clause-row c =
     let own = c.own_of-own.result in
     let own_is : own ≡ own_at members number = c.own_of-own.ensures ∙ c.requires.places number in
     let row : Row = record { object = number; place = place; sign = sign } in
-    let set_is : set_at (sets_of c.sets.result.now) place ≡ told_set own base whole
-    = ap (λ (s : Sets). set_at (sets_of s) place) c.sets.ensures
+    let set_is : c.at.result.now ≡ told_set own base whole
+    = c.at.ensures
+    ∙ ap (λ (s : Sets). set_at (sets_of s) place) c.sets.ensures
     ∙ get_or_from_slice_get new place (told_set own base whole) [] told.0 in
     let is_row : IsRow new row (row_at dir members tokens question number)
     = record {
@@ -51,7 +36,7 @@ returns-clause-row c =
       sign = told.1 ∙ ap (λ (o : Option ℕ). told_sign o base whole) own_is;
     } in
     subst (IsRowIf dir members tokens question number new) (sym c.row_unless.ensures)
-    (row_unless dir members tokens question number new c.in_ok-nobody.nobody row
-    (c.in_ok-nobody.ensures.nobody whole (told_by (set_at (sets_of c.sets.result.now) place) base whole own sign
+    (row_unless dir members tokens question number new c.tells_nobody-nobody.result row
+    (c.tells_nobody-nobody.ensures whole (told_by c.at.result.now base whole own sign
     (same_length dir tokens question number) set_is told.1
     (λ member. c.a_row_tells_the_whole.ensures number member own base whole))) is_row)

@@ -11,7 +11,6 @@ loop-number-preserved c =
     let tokens = c.args.parties.now.tokens.all.items in
     record {
       judged = c.in_ok-put_row.ensures.judged;
-      firsts = c.in_ok-put_row.ensures.firsts;
       ends = c.in_ok-put_row.ensures.ends;
       rows = rows_next c.args.dir.now members tokens c.args.question c.args.all.now l.number-index _
           (sets_of c.put_row.new.judged.sets) c.put_row.new.rows.items c.loop-number-test.true

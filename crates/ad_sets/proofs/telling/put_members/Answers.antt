@@ -1,13 +1,14 @@
-use Rattle.ad_sets.proofs.Numbering.{members_next, members_end}
+use Rattle.std.proofs.Common.{◌≡◌, ◌∙◌, ◌++◌, ℕ, List, map, ap}
+use Rattle.std.proofs.lemmas.Result.{on_ok_weaker}
+use Rattle.ad_sets.specs.declared.told.Fact.{Fact}
+use Rattle.ad_sets.specs.declared.told.Fact.TheVariants.{In}
+use Rattle.ad_sets.proofs.Numbering.{members_is}
 use Rattle.ad_sets.proofs.telling.put_members.Goals as goal
-
-pub loop-place-preserved : goal.loop-place-preserved
-loop-place-preserved c =
-    let l = c.loop-place in
-    members_next c.args.set.now c.args.number l.place _ l.facts.items c.put_if.new.facts.items _ c.loop-place-test.true
-    c.in_ok-put_if.ensures l.invariant
 
 pub returns : goal.returns
 returns c =
-    let l = c.loop-place in
-    members_end c.args.set.now c.args.number l.place l.facts.items _ c.loop-place-test.false l.invariant
+    let facts = c.args.facts.now.items in
+    on_ok_weaker c.put_each.result (λ put.
+    put
+    ∙ ap (λ (l : List ℕ). facts ++ map (In c.args.number) l) c.members.ensures
+    ∙ ap (λ (l : List Fact). facts ++ l) (members_is c.args.set.now c.args.number)) c.put_each.ensures
