@@ -93,9 +93,9 @@ class Session:
         self.bridge, self.number, self.reader, self.writer = bridge, number, reader, writer
         self.uid = user_of(writer)
         host, port = host_of(writer)
-        self.peer, self.who, self.reading, self.starts_tls = f"{host}:{port}", None, None, False
+        self.peer, self.who, self.reading, self.starts_tls = f"{host}:{port}", None, False, False
         # Whether a request has come, and under which peer the client is counted as long as it hasn't bound.
-        self.has_asked, self.counted, self.host = False, False, peers.peer_of(host)
+        self.has_asked, self.counted, self.host, self.is_cut = False, False, peers.peer_of(host), False
         self.is_near, self.silent_since, self.why_let_go = peers.is_loopback(host), time.monotonic(), ""
         self.payer = bridge.turns.payer(("peer", self.host))
         self.token, self.face = b"", Face(self)
@@ -133,12 +133,13 @@ class Session:
     def stop(self, why=""):
         """Ends the wait for a request; why the client is let go, where others go on."""
         self.why_let_go = why
-        if self.reading is not None:
-            self.reading.cancel()
+        if self.reading and not self.is_cut:
+            self.is_cut = True
+            self.task.cancel()
 
     def is_silent(self):
         """Whether a request is waited for."""
-        return self.reading is not None and not self.reading.done() and not self.why_let_go
+        return self.reading and not self.is_cut
 
     async def become(self, who):
         """Gives the connection the token of somebody, or of whoever hasn't bound."""
@@ -159,16 +160,26 @@ class Session:
         return self.bridge.first if is_first else self.bridge.idle
 
     async def next(self):
+        """The next request. The wait for it is cut where it takes too long, or the client is to be let go."""
         seconds, self.silent_since = self.patience(), time.monotonic()
-        self.reading = asyncio.ensure_future(messages.one(self.reader, budgets.most_bytes(self)))
-        await asyncio.wait({self.reading}, timeout=seconds)
-        if not self.reading.done():
-            self.reading.cancel()
-            raise Gone(f"no request for {seconds} seconds")
-        if self.reading.cancelled():
-            raise Gone(self.why_let_go) if self.why_let_go else Stopped
+        timer = None
+        if seconds is not None:
+            late = f"no request for {seconds} seconds"
+            timer = asyncio.get_running_loop().call_later(seconds, self.stop, late)
+        self.reading = True
+        try:
+            found = await messages.one(self.reader, budgets.most_bytes(self))
+        except asyncio.CancelledError:
+            if not self.is_cut:
+                raise
+            getattr(self.task, "uncancel", int)()  # (it goes on, which Python knows of from 3.11 on)
+            raise (Gone(self.why_let_go) if self.why_let_go else Stopped) from None
+        finally:
+            self.reading = False
+            if timer is not None:
+                timer.cancel()
         self.has_asked = True
-        return self.reading.result()
+        return found
 
     async def step(self):
         """One request; whether another one may follow."""
@@ -271,6 +282,8 @@ class Session:
         """Sends an answer. Who takes nothing of it for a while is let go; who takes it slowly isn't."""
         self.writer.write(data)
         left = None
+        if not self.writer.transport.get_write_buffer_size():
+            return await self.writer.drain()
         while True:
             try:
                 return await asyncio.wait_for(self.writer.drain(), STALLED)

@@ -37,6 +37,11 @@ class Waiting:
         self.data, self.behind, self.named, self.id = data, behind, named, entries.request_of(data)
         self.answer, self.is_sent = asyncio.get_running_loop().create_future(), False
 
+    def late(self):
+        """Nobody waits any more. It isn't put, where it hasn't been sent."""
+        unknown = "it isn't known whether the change was made, or will be"
+        refuse(self.answer, NotPut(f"the log doesn't answer; {unknown if self.is_sent else 'nothing was changed'}"))
+
 
 class Appender:
     """The changes of one replica."""
@@ -61,12 +66,11 @@ class Appender:
         one = Waiting(data, behind, named)
         (self.queue if behind is None else self.exacts).append(one)
         self.news.set()
+        timer = asyncio.get_running_loop().call_later(self.patience, one.late)
         try:
-            return await asyncio.wait_for(asyncio.shield(one.answer), self.patience)
-        except asyncio.TimeoutError:
-            refuse(one.answer)  # It isn't put, where it hasn't been sent.
-            unknown = "it isn't known whether the change was made, or will be"
-            raise NotPut(f"the log doesn't answer; {unknown if one.is_sent else 'nothing was changed'}") from None
+            return await asyncio.shield(one.answer)
+        finally:
+            timer.cancel()
 
     def applied(self, entry, reply, _):
         """Answers whoever put an entry. (What the program took before a crash nobody waits for.)"""
