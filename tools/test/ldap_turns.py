@@ -47,6 +47,17 @@ class Fake:
             raise Ended(-9)
         return body
 
+    async def together(self, frames, tell):
+        """Frames that are asked at once have one turn, and each takes its while."""
+        self.asked.append([(connection, body) for _, connection, body in frames])
+        await asyncio.sleep(0)
+        self.moment += self.takes * len(frames)
+        for _, _, body in frames:
+            if body in self.ends:
+                self.ends.remove(body)
+                raise Ended(-9)
+            tell(body)
+
     async def revive(self):
         self.revivals += 1
 

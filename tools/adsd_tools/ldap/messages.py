@@ -8,6 +8,8 @@ from adsd_tools.forms import ber
 
 BIND, UNBIND, SEARCH, EXTENDED, COMPARE = 0x60, 0x42, 0x63, 0x77, 0x6E
 CHANGES = {0x66: "modify", 0x68: "add", 0x4A: "delete", 0x6C: "rename"}
+# Changes of one object: of those without a control also a deletion.
+OF_ONE = (0x66, 0x68, 0x4A)
 BIND_RESPONSE, ENTRY, SEARCH_DONE, EXTENDED_RESPONSE = 0x61, 0x64, 0x65, 0x78
 # The response of each operation that has one: search, modify, add, delete, rename, compare, bind, extended.
 RESPONSES = {0x63: 0x65, 0x66: 0x67, 0x68: 0x69, 0x4A: 0x6B, 0x6C: 0x6D, 0x6E: 0x6F, 0x60: 0x61, 0x77: 0x78}
@@ -77,6 +79,20 @@ def read(data):
     if tag != ber.INTEGER or not 1 <= number <= LAST_NUMBER:
         return None
     return Message(number, operation, body, critical, tuple(controls))
+
+
+def operation_of(data):
+    """The operation of a message that is read here; of a deletion only where nothing stands behind it. 0 where it isn't
+    looked at closely enough."""
+    try:
+        at = 2 + (data[1] & 0x7F if data[1] & 0x80 else 0)
+        at += 2 + data[at + 1]
+        size = data[at + 1]
+        if data[at] == 0x4A and (size & 0x80 or at + 2 + size != len(data)):
+            return 0
+        return data[at]
+    except IndexError:
+        return 0
 
 
 def bind_of(body):

@@ -16,6 +16,8 @@ HEADER, PIECE = 7, 65536
 SOON = 0.01
 # So long what it said is waited for once it has ended, in seconds: somebody else may have its standard error still.
 LEFT = 3.0
+# So many changes are asked at once: it syncs its store for each of them, and a reader would wait for all.
+TOGETHER = 1
 # As many frames as one run of the program takes.
 MOST_FRAMES = 1_000_000
 # What takes the token from a connection: an unbind.
@@ -90,11 +92,26 @@ class Program:
         if self.frames >= self.most:
             await self.again()
         answer = await self.exchange(kind, connection, body)
+        self.answered(kind, connection, body)
+        return answer
+
+    async def together(self, frames, tell):
+        """Asks some frames at once, and tells the body of each answer in order, as it comes."""
+        if self.frames + len(frames) > self.most:
+            await self.again()
+        self.frames += len(frames)
+        await self.write(b"".join([frame(*one) for one in frames]))
+        for kind, connection, body in frames:
+            told = await self.answer(kind, connection)
+            self.answered(kind, connection, body)
+            tell(told)
+
+    def answered(self, kind, connection, body):
+        """Which token a connection has behind a frame."""
         if kind == TOKEN:
             self.tokens[connection] = body
         elif body == DROP:
             self.tokens.pop(connection, None)
-        return answer
 
     async def again(self):
         status = await self.end()
@@ -110,12 +127,19 @@ class Program:
 
     async def exchange(self, kind, connection, body):
         self.frames += 1
-        head = b""
+        await self.write(frame(kind, connection, body))
+        return await self.answer(kind, connection)
+
+    async def write(self, data):
         try:
-            self.running.stdin.write(frame(kind, connection, body))
+            self.running.stdin.write(data)
             await self.running.stdin.drain()
         except (BrokenPipeError, ConnectionResetError):
-            pass  # It ended; what it said before is read below.
+            pass  # It ended; what it said before is read as its answer.
+
+    async def answer(self, kind, connection):
+        """The body of the next answer, which has to be to such a frame."""
+        head = b""
         try:
             head = await self.running.stdout.readexactly(HEADER)
             if head[0] != 0x80 | kind or int.from_bytes(head[1:3], "big") != connection:

@@ -6,7 +6,7 @@ import time
 from adsd_tools.ldap import messages
 from adsd_tools.ldap.program import MESSAGE
 from adsd_tools.ldap.searches import Refused
-from adsd_tools.ldap.turns import Stopped, Turns
+from adsd_tools.ldap.turns import UNASKED, Asks, Stopped, Turns, unasked
 
 from . import entries, judging
 from .appending import NotPut, Overtaken
@@ -36,6 +36,8 @@ class LogTurns(Turns):
     async def ask(self, kind, connection, body, changes=False):
         """The body of an answer; of a change that of the own program to its entry. No other frame of a client that
         could change anything reaches the program."""
+        if UNASKED.get():
+            raise Asks
         if kind == MESSAGE and connection and not changes:
             message = messages.read(body)
             if message is None:
@@ -87,16 +89,19 @@ class LogTurns(Turns):
         question = judging.of(message)
         if question is None:
             return None
-        reply = await super().ask(MESSAGE, connection, question.data)
+        reply = await self.asked((MESSAGE, connection, question.data), False, True)
         own = None
         if question.own is not None and not messages.is_notice(reply):
-            own = await super().ask(MESSAGE, connection, question.own)
+            own = await self.asked((MESSAGE, connection, question.own), False, True)
         return judging.answer(message, question, reply, own)
 
     async def judged(self, connection, judge, send, exact):
         """The reply to a change that is judged before, by what is read here; where that has to be so still when the
         change is made, its entry has to follow the last one that was taken here. Of these one is put after the other:
         they would only overtake each other."""
+        made = await unasked(judge)
+        if made is not None:
+            return await send(*made)
         made, number = await self.judging(connection, judge, exact)
         if number is None:
             return await send(*made)
