@@ -1,7 +1,8 @@
-"""Gives the entries of the log to the program, one after the other, and notes where the replica stands.
+"""Gives the entries of the log to the program, in their order and those that wait together, and notes where the replica
+stands.
 
-It stands in the place of a bridge's upkeep (ldap/upkeep.py): an entry has its turn once the position after the one
-before is noted. Meanwhile clients' frames have theirs."""
+It stands in the place of a bridge's upkeep (ldap/upkeep.py): entries have their turn once the position after those
+before is noted. Clients' frames have theirs in between."""
 
 import asyncio
 import time
@@ -10,14 +11,15 @@ from concurrent.futures import ThreadPoolExecutor
 
 from adsd_tools.ldap.program import DROP, MESSAGE, TOKEN, Ended
 from adsd_tools.ldap.turns import refuse
+from adsd_tools.rows import store as rows
 
 from . import replay
 from .answers import Answer
 from .digests import Digests
 from .entries import is_named
 from .noting import Noting
-from .position import taken
 from .slots import Unfit
+from .together import Largest, is_done, size_of
 
 # The connection at the program that entries have; clients have those below.
 CONNECTION = 1023
@@ -45,15 +47,11 @@ class Unsuited(Ended):
         self.entry = entry
 
 
-def size_of(entry):
-    return sum(len(body) for _, body in entry.frames)
-
-
 class Applying:
     """The entries that wait for the program, and the position."""
 
     def __init__(self):
-        self.slots, self.positions, self.position, self.place = None, None, None, None
+        self.slots, self.positions, self.position = None, None, None
         # How many changes the store has taken since its position, before a crash; and what looks which entries these
         # were, with what it has found.
         self.ahead, self.program, self.again, self.redone = 0, None, None, []
@@ -64,18 +62,23 @@ class Applying:
         # What named requests were answered; where the last entries left the store, by their numbers; when entries came
         # that wait; and what is asked of an entry that the program doesn't take.
         self.answers, self.places, self.came, self.may_skip = None, {}, deque(), None
-        self.digests = Digests()
+        self.digests, self.largest = Digests(), Largest()
 
     def open(self, slots, positions, answers, news, program):
         """Finds out where the store stands, which the program has opened and synced by now."""
         self.slots, self.positions, self.news, self.room = slots, positions, news, asyncio.Event()
         self.program, self.answers = program, answers
-        self.position, self.place = positions.read(), slots.look()
+        self.position = positions.read()
+        slots.look()
         if self.position is None:
             raise Unfit(f"{slots.store} isn't a replica's store: {positions.path} isn't there")
         self.ahead = slots.since(self.position.generation, self.position.records)
         answers.open(self.position.entry)
         positions.open()
+        try:
+            self.largest.open(slots.store)
+        except rows.Broken as why:
+            raise Unfit(f"{slots.store}: {why}") from None
         self.noting = Noting(positions, answers, self.position, news)
         self.places = {self.position.entry: (self.position.generation, self.position.records)}
         self.digests.add(self.position.entry, self.position.id, self.position.digest)
@@ -103,7 +106,7 @@ class Applying:
         if made is not None:
             self.ahead, last = 0, self.redone[-1]
             for one in self.redone:
-                self.note(one.entry, one.reply, one.changed, self.place if one is last else one.place, one.body)
+                self.note([one.entry], [one.reply], self.slots.known if one is last else one.place, one.fresh)
         await self.forgotten()
         return None if made is None else len(made)
 
@@ -131,64 +134,97 @@ class Applying:
         """Whatever changes something is an entry."""
 
     async def turn(self, program):
-        """One entry; whether it changed the directory."""
+        """Some entries; how often they changed the directory at least."""
         if self.noting.fault:
             raise Spoilt(self.noting.fault)
-        entry = self.pulled()
+        some = [self.queue[at] for at in range(self.largest.some(self.queue, self.slots.first()))]
         try:
-            reply, changed = await self.done(program, entry)
-            body = self.slots.body() if changed else b""
+            self.unchanged()
+            replies, changed = await self.given(program, some), 0
+            if replies:
+                changed = self.taken(some[: len(replies)], replies)
+            if len(replies) < len(some):
+                await self.passed(program, some[len(replies)])
         except (Unfit, OSError) as why:
             raise Spoilt(f"{self.slots.store}: {why}") from None
-        self.note(entry, reply, changed, self.place, body)
         return changed
 
-    async def done(self, program, entry):
-        """The program's answer to an entry, and whether it changed the directory."""
-        self.look(0)
+    def taken(self, some, replies):
+        """Notes what the program answered to entries, and where that left the store; how many changes it has taken."""
+        place, fresh = self.slots.look(), self.slots.fresh
+        for one in fresh or ():
+            self.largest.see(one.body)
+        self.pull(len(some))
+        return self.note(some, replies, place, fresh)
+
+    def unchanged(self):
+        """Looks whether the store has taken nothing since the last look."""
+        self.slots.look()
+        if self.slots.fresh != []:
+            raise Unfit("the store was changed by something that isn't in the log")
+
+    async def passed(self, program, entry):
+        """Passes over an entry that the program doesn't take, where an operator has said so."""
+        if not await self.may_skip(entry):
+            raise Unsuited(entry) from None
+        await program.anew()
+        self.unchanged()
+        self.pull(1)
+        self.note([entry], [b""], self.slots.known, [])
+
+    def note(self, some, replies, place, fresh):
+        """Notes where entries left the store, and tells what they were answered; how many changes it has taken. `fresh`
+        are the records that it has appended for them. Where these are fewer than the changes that were made, since what
+        one asks for stood there already, it isn't known which one each is of: nor, of the entries but the last, where
+        the store was after them."""
+        done = [bool(one.frames) and (one.frames[-1][0] != MESSAGE or is_done(reply))
+                for one, reply in zip(some, replies)]
+        if (fresh is None and len(some) == 1) or len(fresh or ()) > sum(done):
+            raise Unfit("the store was changed by something that isn't in the log")
+        done = [bool(fresh)] if len(some) == 1 else done
+        is_exact, left, answers = fresh is not None and len(fresh) == sum(done), list(fresh or ()), []
+        last = self.position.behind(some[-1], place, fresh)
+        for entry, reply, is_changed in zip(some, replies, done):
+            if is_exact and is_changed:
+                record = left.pop(0)
+                self.position = self.position.behind(entry, record, [record])
+            elif is_exact:
+                self.position = self.position.behind(entry, self.position, [])
+            if entry is some[-1]:
+                self.position = last
+            self.noted_at(entry, is_exact or entry is some[-1])
+            if is_named(entry.request) and reply and entry.frames:
+                answers.append(Answer(entry.number, entry.request, reply))
+                self.answers.note(answers[-1])
+        self.noting.note(self.position, answers, sum(map(size_of, some)))
+        for entry, reply, is_changed in zip(some, replies, done):
+            self.tell(entry, reply, is_changed)
+        return sum(done) if fresh is None else len(fresh)
+
+    def noted_at(self, entry, is_known):
+        """Keeps in mind where an entry left the store, and what the running hash is then, where that is known."""
+        if is_known:
+            self.places[entry.number] = self.position.generation, self.position.records
+        self.places.pop(entry.number - LAST, None)
+        self.digests.add(entry.number, entry.id, self.position.digest if is_known else None)
+
+    async def given(self, program, some):
+        """The program's answers to entries, of each that to its last frame, nothing where it has none; as far as it
+        takes them."""
+        held, frames, ends, told = program.tokens.get(CONNECTION, b""), [], [], []
+        for entry in some:
+            wanted = entry.frames[0][1] if entry.frames and entry.frames[0][0] == TOKEN else b""
+            if entry.frames and entry.frames[-1][0] == MESSAGE and wanted != held:
+                frames.append((TOKEN, CONNECTION, wanted) if wanted else (MESSAGE, CONNECTION, DROP))
+                held = wanted
+            frames += [(kind, CONNECTION, body) for kind, body in entry.frames[-1:]]
+            ends.append(len(frames))
         try:
-            reply = await self.given(program, entry)
+            await program.together(frames, told.append)
         except Ended as why:
             if why.status != NO_FRAME:
                 raise
-            if not await self.may_skip(entry):
-                raise Unsuited(entry) from None
-            await program.anew()
-            reply = b""
-        return reply, self.look(1)
-
-    def note(self, entry, reply, changed, place, body):
-        """Notes where an entry left the store, and tells what it was answered."""
-        self.position = self.position.behind(entry, place, body)
-        self.places[entry.number] = self.position.generation, self.position.records
-        self.places.pop(entry.number - LAST, None)
-        self.digests.add(self.position.entry, self.position.id, self.position.digest)
-        made = None
-        if is_named(entry.request) and reply and entry.frames:
-            made = Answer(entry.number, entry.request, reply)
-            self.answers.note(made)
-        self.noting.note(self.position, made, size_of(entry))
-        self.tell(entry, reply, changed)
-
-    def look(self, most):
-        """Whether the store has taken a change since the last look, of so many that it may have."""
-        before, self.place = self.place, self.slots.look()
-        found = taken(before, self.place)
-        if found > most:
-            raise Unfit("the store was changed by something that isn't in the log")
-        return found > 0
-
-    async def given(self, program, entry):
-        """The program's answer to the last frame of an entry; nothing where it is passed over."""
-        if not entry.frames:
-            return b""
-        held = program.tokens.get(CONNECTION, b"")
-        frames = dict(entry.frames)
-        wanted = frames.pop(TOKEN, b"")
-        if MESSAGE in frames and wanted != held:
-            await program.ask(*((TOKEN, CONNECTION, wanted) if wanted else (MESSAGE, CONNECTION, DROP)))
-        ((kind, body),) = frames.items()
-        return await program.ask(kind, CONNECTION, body)
+        return [told[end - 1] if entry.frames else b"" for entry, end in zip(some, ends) if end <= len(told)]
 
     # ---- the queue
 
@@ -201,13 +237,13 @@ class Applying:
             self.room.clear()
         self.news.set()
 
-    def pulled(self):
-        entry = self.queue.popleft()
-        self.came.popleft()
-        self.bytes -= size_of(entry)
+    def pull(self, count):
+        """Takes the next entries away, which were answered."""
+        for _ in range(count):
+            self.bytes -= size_of(self.queue.popleft())
+            self.came.popleft()
         if len(self.queue) < MOST // 2 and self.bytes < MOST_BYTES // 2:
             self.room.set()
-        return entry
 
     # ---- after an answer
 

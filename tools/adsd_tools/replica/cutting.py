@@ -4,10 +4,10 @@ replicas that have told nothing for long."""
 import time
 from collections import deque
 
-from .applying import size_of
 from .etcd import Denied
 from .lane import Lane
 from .ordered import MANY
+from .together import size_of
 
 # Of so many entries the sizes are kept in mind. Etcd forgets what it had before as often as this, in seconds.
 KNOWN, FORGETS = 200_000, 300.0

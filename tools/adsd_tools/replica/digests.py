@@ -1,14 +1,16 @@
 """The running hash of a replica: what it is made of, and what one replica makes of what the others tell.
 
-It begins with the rows that a log begins with. Each entry adds its id and what the store has appended for it: a body
-of its journal (docs/profile/store.md), which is the rows that the entry changes, or nothing. The rows of a directory
-are what the bodies leave, one after the other. So two replicas that have one hash at one entry hold the same rows, up
-to the strength of SHA-256, and as far as each store has what was written to it."""
+It begins with the rows that a log begins with. Each record that the store appends for an entry is added: the body is the
+rows that the entry changes (docs/profile/store.md). What changes nothing adds nothing. The rows of a directory are what
+the bodies leave, one after the other. So two replicas that have one hash at one entry hold the same rows, up to the
+strength of SHA-256, and as far as each store has what was written to it. Which entry of those that were taken at once a
+record is of isn't asked for by it."""
 
 import hashlib
-from typing import Dict, List, Mapping, Optional, Tuple
+from typing import Dict, Iterable, List, Mapping, Optional, Tuple
 
 from .ordered import Other
+from .slots import Record
 
 # Of so many entries it is kept in mind what the hash was after them.
 LAST = 20_000
@@ -37,9 +39,11 @@ def beginning(table: Mapping[Tuple[int, int], bytes]) -> bytes:
     return hashlib.sha256(b"adsd-replica rows " + sum_of(table).encode()).digest()
 
 
-def after(before: bytes, own: bytes, body: bytes) -> bytes:
-    """The hash after an entry of some id, for which a store has appended this, or nothing."""
-    return hashlib.sha256(before + own + body).digest()
+def after(before: bytes, fresh: Iterable[Record]) -> bytes:
+    """The hash after some records that a store has appended."""
+    for one in fresh:
+        before = hashlib.sha256(before + one.body).digest()
+    return before
 
 
 class Digests:

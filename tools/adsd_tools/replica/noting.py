@@ -1,4 +1,4 @@
-"""Notes where a replica stands after each entry, with what named requests were answered, and syncs both now and then.
+"""Notes where a replica stands after the entries that it took at once, with what named requests were answered, and syncs both now and then.
 
 A position is written once the program has answered, which is when the store has the change on its disk. So what a
 crash leaves is a position that the store has reached, at most so many entries before where it was: those are found
@@ -22,12 +22,12 @@ class Noting:
         self.now = self.synced = position
         self.lane, self.bytes, self.timer, self.syncing, self.fault = ThreadPoolExecutor(1), 0, None, None, ""
 
-    def note(self, position, answer, size):
-        """Notes a position, and the answer to a named request before it."""
+    def note(self, position, answers, size):
+        """Notes a position, and the answers to named requests before it."""
         self.now, self.bytes = position, self.bytes + size
         try:
-            if answer:
-                self.answers.write([answer])
+            if answers:
+                self.answers.write(answers)
             if self.syncing is None:
                 self.positions.write(position)
         except OSError as why:

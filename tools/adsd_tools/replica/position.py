@@ -1,7 +1,7 @@
 """Where a replica stands in the log, in a file beside its store, and what that says after a crash.
 
-The file has two blocks, each a line with a checksum. Positions are written over the older one, each after the answer to
-its entry, until it is synced; then they go over the other one. So a torn write leaves a position from before, and after
+The file has two blocks, each a line with a checksum. Positions are written over the older one, each after the answers to
+its entries, until it is synced; then they go over the other one. So a torn write leaves a position from before, and after
 a crash the store is that of the position, or has taken some entries more (noting.py)."""
 
 import os
@@ -22,7 +22,7 @@ WORD, OLD = b"adsd-replica 2", b"adsd-replica 1 "
 class Position:
     """The log's name and id, the replica's name; the number and id of the last entry that the program answered; and the
     generation and the number of records of the live slot after that; and the running hash (digests.py), where it is
-    known: a position of before has none."""
+    known: a position of before has none, or another one."""
 
     log: str
     own: bytes
@@ -36,12 +36,13 @@ class Position:
     def line(self):
         told = f"log={self.log} own={self.own.decode()} name={self.name} entry={self.entry} id={self.id.hex()} "
         told += f"generation={self.generation} records={self.records}"
-        text = WORD + b" " + (told + (f" digest={self.digest.hex()}" if self.digest else "")).encode()
+        text = WORD + b" " + (told + (f" rows={self.digest.hex()}" if self.digest else "")).encode()
         return text + b" sum=%08x\n" % zlib.crc32(text)
 
-    def behind(self, entry, place, body):
-        """The position after an entry, for which the store has appended this body, or nothing."""
-        digest = digests.after(self.digest, entry.id, body) if self.digest else None
+    def behind(self, entry, place, fresh):
+        """The position after an entry, and where others come before it after these too: the store has appended some
+        records for them, or it isn't known which."""
+        digest = None if fresh is None or self.digest is None else digests.after(self.digest, fresh)
         return replace(self, entry=entry.number, id=entry.id, generation=place.generation, records=place.records,
                        digest=digest)
 
@@ -53,18 +54,6 @@ class Position:
         return entries.Head(self.entry, self.id)
 
 
-def taken(before, now):
-    """How many changes a store has taken since it stood at a place, or at a position: 0 or 1. A frame is one commit at
-    most, and a snapshot, which begins a new generation with one record, comes before a commit."""
-    by, base = now.generation - before.generation, before.records
-    if by == 1:
-        base = 1
-    if by not in (0, 1) or now.records - base not in (0, 1):
-        raise Unfit(f"the store has generation {now.generation} and {now.records} records, after generation "
-                    f"{before.generation} and {before.records}: something else has written to it")
-    return now.records - base
-
-
 def read_line(block):
     """The position of a block; None where it holds none."""
     text, sign, told = block.partition(b"\n")[0].rpartition(b" sum=")
@@ -73,7 +62,7 @@ def read_line(block):
     pairs = dict(piece.partition("=")[::2] for piece in text[len(WORD) + 1 :].decode().split(" "))
     return Position(pairs["log"], pairs["own"].encode(), pairs["name"], int(pairs["entry"]),
                     bytes.fromhex(pairs["id"]), int(pairs["generation"]), int(pairs["records"]),
-                    bytes.fromhex(pairs.get("digest", "")) or None)
+                    bytes.fromhex(pairs.get("rows", "")) or None)
 
 
 class Old(Unfit):

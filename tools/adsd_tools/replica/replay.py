@@ -9,7 +9,7 @@ import contextlib
 import os
 import subprocess
 from dataclasses import dataclass
-from typing import Optional
+from typing import List, Optional
 
 from adsd_tools.ask.requests import frame
 from adsd_tools.ldap.program import DROP, HEADER, MESSAGE
@@ -17,8 +17,7 @@ from adsd_tools.rows import store as rows
 
 from .copying import cut_to, removed
 from .entries import Entry
-from .position import taken
-from .slots import Place, Slots, Unfit
+from .slots import Place, Record, Slots, Unfit
 
 # What the copy is called, behind the store's own name; it is removed at once.
 SUFFIX = ".replay"
@@ -28,14 +27,13 @@ NO_FRAME = 1
 
 @dataclass(frozen=True)
 class Done:
-    """An entry that was done once more: what the program answered, whether it changed something, where the copy stands
-    behind it, and what it has appended for it."""
+    """An entry that was done once more: what the program answered, where the copy stands behind it, and what it has
+    appended for it: a record, or nothing."""
 
     entry: Entry
     reply: Optional[bytes]
-    changed: bool
     place: Place
-    body: bytes
+    fresh: List[Record]
 
 
 def frames_of(entry):
@@ -68,7 +66,7 @@ class Replay:
         self.asked(MESSAGE, DROP)
         if self.slots is None:
             self.slots = Slots(self.copy)
-            self.place = self.slots.look()
+            self.slots.look()
 
     def take(self, some):
         """What is done once more of some entries: as many as are needed. Nothing where the store isn't what these
@@ -79,7 +77,7 @@ class Replay:
                 if not self.left:
                     break
                 made.append(self.done(entry))
-                self.left -= made[-1].changed
+                self.left -= len(made[-1].fresh)
             return made if self.left or self.alike() else None
         except (OSError, rows.Broken) as why:
             raise self.unfit(why) from None
@@ -97,9 +95,10 @@ class Replay:
             if reply is None:
                 self.begin()
                 break
-        before, self.place = self.place, self.slots.look()
-        changed = taken(before, self.place) == 1
-        return Done(entry, reply or b"", changed, self.place, self.slots.body() if changed else b"")
+        place = self.slots.look()
+        if self.slots.fresh is None or len(self.slots.fresh) > 1:
+            raise Unfit(f"{self.copy} was changed by something else")
+        return Done(entry, reply or b"", place, self.slots.fresh)
 
     def asked(self, kind, body):
         """The body of the program's answer to a frame; None where it takes it for none."""

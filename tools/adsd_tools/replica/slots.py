@@ -7,7 +7,7 @@ from dataclasses import dataclass
 SLOTS = ("", ".b")
 HEAD, RECORD = 14, 9
 # So many bytes are read at once behind the last known record.
-AHEAD = 4096
+AHEAD = 16_384
 OPEN = b"\x01"
 
 
@@ -17,20 +17,29 @@ class Unfit(Exception):
 
 @dataclass(frozen=True)
 class Place:
-    """A slot, its generation, its number of records, and the offsets of the gate that ends them and of the last one."""
+    """A slot, its generation, its number of records, and the offset of the gate that ends them."""
 
     slot: int
     generation: int
     records: int
     end: int
-    last: int = HEAD
+
+
+@dataclass(frozen=True)
+class Record:
+    """A record that was appended: its slot's generation, how many records stand there with it, and its body."""
+
+    generation: int
+    records: int
+    body: bytes
 
 
 class Slots:
     """The two files of a store. They are never replaced by others, so they are opened once, and read without a lock."""
 
     def __init__(self, store):
-        self.store, self.known, self.files, self.newest = store, None, [], b""
+        # `fresh` has the records that were appended between the last two looks; None where they can't be told.
+        self.store, self.known, self.files, self.fresh = store, None, [], []
         try:
             for name in SLOTS:
                 self.files.append(os.open(store + name, os.O_RDONLY))
@@ -53,12 +62,25 @@ class Slots:
         return int.from_bytes(head[6:], "big")
 
     def look(self):
-        """Where the store stands now, while no frame is in work."""
-        known = self.known
-        if known is None or self.generation(1 - known.slot) > known.generation:
-            known = self.live()
-        self.known = self.counted(known)
+        """Where the store stands now, while no frame is in work. A snapshot, which begins a new generation with one
+        record, is no record that was appended; two of them leave nothing of what came before the first."""
+        known, self.fresh = self.known, []
+        if known is None:
+            self.known = self.counted(self.live())
+        elif self.generation(1 - known.slot) <= known.generation:
+            self.known = self.counted(known, self.fresh)
+        else:
+            now = self.live()
+            is_next = now.generation == known.generation + 1
+            if is_next:
+                self.counted(known, self.fresh)
+            self.known = self.counted(now, self.fresh)
+            self.fresh = self.fresh if is_next else None
         return self.known
+
+    def first(self):
+        """How many bytes the first record of the live slot has: the rows as the last snapshot, or load, has put them."""
+        return int.from_bytes(os.pread(self.files[self.known.slot], RECORD, HEAD)[1:], "big")
 
     def live(self):
         """The slot that is live, without its records."""
@@ -68,9 +90,10 @@ class Slots:
             raise Unfit(f"{self.store} is empty")
         return Place(slot, generation, 0, HEAD)
 
-    def counted(self, place):
-        """The same place with the records that stand after it."""
-        file, records, end, last = self.files[place.slot], place.records, place.end, place.last
+    def counted(self, place, fresh=None):
+        """The same place with the records that stand after it; they are added to a list, where one is given, but for
+        the first of the slot."""
+        file, records, end = self.files[place.slot], place.records, place.end
         at, held = end, os.pread(file, AHEAD, end)
         while True:
             if end + RECORD > at + len(held):
@@ -78,17 +101,13 @@ class Slots:
             head = held[end - at : end - at + RECORD]
             if head[:1] != OPEN:
                 break
-            records, last, end = records + 1, end, end + RECORD + int.from_bytes(head[1:], "big")
-            self.newest = held[last - at + RECORD : end - at]
-        return Place(place.slot, place.generation, records, end, last)
-
-    def body(self):
-        """The body of the last record, as of the last look."""
-        place = self.known
-        size = place.end - place.last - RECORD
-        if len(self.newest) != size:
-            self.newest = os.pread(self.files[place.slot], size, place.last + RECORD)
-        return self.newest
+            begin, records = end + RECORD, records + 1
+            end = begin + int.from_bytes(head[1:], "big")
+            if fresh is not None and records > 1:
+                body = held[begin - at : end - at]
+                body = body if len(body) == end - begin else os.pread(file, end - begin, begin)
+                fresh.append(Record(place.generation, records, body))
+        return Place(place.slot, place.generation, records, end)
 
     def since(self, generation, records):
         """How many changes the store has taken since it stood at a place, of its live slot or of the one before: a
@@ -97,7 +116,7 @@ class Slots:
         found = place.records - records
         if place.generation == generation + 1 and self.generation(1 - place.slot) == generation:
             before = self.counted(Place(1 - place.slot, generation, 0, HEAD))
-            found, self.newest = place.records - 1 + before.records - records, b""
+            found = place.records - 1 + before.records - records
         if place.generation - generation not in (0, 1) or found < 0 or 0 < before.records < records:
             raise Unfit(f"the store has generation {place.generation} and {place.records} records, after generation "
                         f"{generation} and {records}: something else has written to it")

@@ -173,6 +173,21 @@ def table(store: str, kinds: tuple[int, ...] = (OBJECT, PENDING, COUNTERS, RECOR
     return rows
 
 
+def largest(body: bytes) -> int:
+    """How many bytes the largest row has that a body puts."""
+    at, found = 8, 0
+    try:
+        for _ in range(int.from_bytes(body[:8], "big")):
+            act = body[at]
+            at += ROW.size
+            if act == PUT:
+                size = SIZE.unpack_from(body, at)[0]
+                at, found = at + SIZE.size + size, max(found, size)
+    except (struct.error, IndexError):
+        raise Broken("a row is cut short") from None
+    return found
+
+
 def record_of(row: bytes) -> tuple[int, list[tuple[bytes, bytes]]]:
     """A schema record: its kind, and its lines."""
     given = Bytes(row)
