@@ -13,61 +13,18 @@ from replica_appending import Fickle, Known, Taking
 from replica_asked import control
 from replica_cases import DONE, WRITE, alike, has, same
 from replica_checks import differences
+from replica_copies import FILES, Between
 from replica_crashes import Crashes
 from replica_world import MANY, World, free_port, is_apart
 from adsd_tools.ask.requests import Line, operation
 from adsd_tools.replica import appending, channel, claiming, entries, following, getting, protocol, rpc, seal
 from adsd_tools.replica.etcd import Etcd, decoded, encoded
 from adsd_tools.replica.ordered import Parted
-from adsd_tools.replica.slots import SLOTS
 
-FILES = (*SLOTS, ".position", ".answers")
 OWN = b"the log"
 
 
 # ---- copies
-
-
-class Between:
-    """Hands on what two sides of one connection say: to who asks so many bytes at most, and one of them turned."""
-
-    def __init__(self, address, most=None, turned=None):
-        self.address, self.most, self.turned = address, most, turned
-        self.server = socket.create_server(("127.0.0.1", 0))
-        self.port = self.server.getsockname()[1]
-        threading.Thread(target=self.work, daemon=True).start()
-
-    def work(self):
-        near, _ = self.server.accept()
-        far = socket.create_connection(self.address)
-        threading.Thread(target=self.hand, args=(near, far), daemon=True).start()
-        self.hand(far, near, self.most, self.turned)
-
-    def hand(self, one, other, most=None, turned=None):
-        count = 0
-        while True:
-            try:
-                data = bytearray(one.recv(65536))
-            except OSError:
-                data = b""
-            if data and turned is not None and count <= turned < count + len(data):
-                data[turned - count] ^= 1
-            data = data[: most - count] if most is not None else data
-            if not data:
-                break
-            count += len(data)
-            try:
-                other.sendall(data)
-            except OSError:
-                break
-        for each in (one, other):
-            try:
-                each.shutdown(socket.SHUT_RDWR)
-            except OSError:
-                pass
-
-    def close(self):
-        self.server.close()
 
 
 def words_of_copies(world, one):
@@ -80,8 +37,8 @@ def words_of_copies(world, one):
 
 
 def given(world):
-    """A new replica's store comes from one that runs, under changes, and holds what that one holds; nothing comes
-    without the secret, and of what broke off nothing is left."""
+    """A new replica's store comes from one that runs, under changes, by three connections of which two are cut, and holds
+    what that one holds; nothing comes without the secret, and of what came to nothing nothing is left."""
     a, b = world.replicas
     address, path = words_of_copies(world, a)
     a.kill()
@@ -97,12 +54,15 @@ def given(world):
     writer = threading.Thread(target=writing, args=(world, ends))
     writer.start()
     try:
-        url = f"replica://{address[0]}:{address[1]}"
+        near = Between(address, 200_000, 500_000)
+        url = f"replica://127.0.0.1:{near.port}"
         said = world.command("copy", url, new.store, "--name", "d", "--copy-key", path)
+        near.close()
     finally:
         ends.set()
         writer.join()
     wrong += has(said, "is replica d of log adsd, at entry ") + has(a.said(), "for replica d")
+    wrong += same((near.count, said.count("the rest is asked for")), (3, 2))
     wrong += same(b"d" in world.log().replicas()[0], True)
     new.begin()
     world.serves(new)
@@ -125,13 +85,12 @@ def broken_off(world, address, path, new):
     """What comes to nothing, and leaves nothing."""
     other, wrong = path + "2", []
     seal.make_key(other)
-    near = [Between(address, 200_000), Between(address, turned=150_000), Between(address, turned=40)]
+    near = [Between(address, turned=150_000), Between(address, turned=40)]
     url = f"replica://{address[0]}:{address[1]}"
     for told, *words in (("hasn't this secret", url, new.store, "--name", "d", "--copy-key", other),
                          ("replica b runs already", url, new.store, "--name", "b", "--copy-key", path),
-                         *(("the copy broke off" if one is near[0] else "came between",
-                            f"replica://127.0.0.1:{one.port}", new.store, "--name", "d", "--copy-key", path)
-                           for one in near)):
+                         *(("came between", f"replica://127.0.0.1:{one.port}", new.store, "--name", "d",
+                            "--copy-key", path) for one in near)):
         status, said = world.command("copy", *words, good=False)
         wrong += same(status, 1) + has(said, told)
         wrong += same([end for end in FILES if os.path.exists(new.store + end)], [])

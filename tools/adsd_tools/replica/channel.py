@@ -7,7 +7,7 @@ elsewhere or taken from another connection without the secret. Who is who is kno
 
 from typing import Tuple
 
-HELLO, DRAWN, LENGTH, MOST = b"adsd-replica copy 1\n", 32, 4, (1 << 20) + 64
+HELLO, DRAWN, LENGTH, MOST = b"adsd-replica copy 2\n", 32, 4, (1 << 20) + 64
 
 
 class Foreign(Exception):

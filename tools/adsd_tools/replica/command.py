@@ -103,11 +103,15 @@ def secret_for_copies(asked):
     return seal.secret_of(seal.private_text(asked.copy_key), asked.copy_key)
 
 
+def said(text):
+    print(f"adsd-replica: {shown(text)}", file=sys.stderr, flush=True)
+
+
 def do_copy(asked):
     address = getting.address_of(asked.store)
     if address:
-        one, count = getting.got(address, asked.new, asked.name, secret_for_copies(asked))
-        print(shown(f"{asked.new} is replica {one.name} of log {one.log}, at entry {one.entry}, with {count} rows"))
+        one, size = getting.got(address, asked.new, asked.name, secret_for_copies(asked), said)
+        print(shown(f"{asked.new} is replica {one.name} of log {one.log}, at entry {one.entry}, with {size} bytes"))
         return
     incomplete.warn(asked.store)
     position = copied(asked.store, asked.new, asked.name, lambda one: log_of(asked, one.log, one.own))
