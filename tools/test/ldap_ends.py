@@ -9,9 +9,10 @@ import tempfile
 import time
 
 from ldap_client import COMMAND, PROGRAM, SECONDS, TOP
+from adsd_tools.ldap.program import SERVES
 
 ROUNDS = 5
-SAID = ("stopped before the store was opened", "stopped; adsd serve ended with 0")
+SAID = ("stopped before the store was opened", f"stopped; adsd {SERVES} ended with 0")
 # A bridge that gets a signal with each answer of the program, so first with the one that tells that the store is open.
 OPENED = """
 import asyncio, os, signal, sys

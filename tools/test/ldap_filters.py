@@ -14,6 +14,7 @@ from ldap_face import ROOT, asked, order, page
 from ldap_peers import same
 from adsd_tools.ask import words
 from adsd_tools.forms.sids import text_of_guid
+from adsd_tools.ldap.program import SERVES
 from adsd_tools.ldap.rewriting import MOST_ITEMS
 
 OBJECTS, FILTERS = 40, int(os.environ.get("LDAP_FILTERS", "150"))
@@ -409,7 +410,7 @@ def mangled():
             except ConnectionError:
                 pass
         same([line for line in bridge.lines() if "fault" in line], [])
-        same(bridge.end(), (0, "adsd-ldap: stopped; adsd serve ended with 0"))
+        same(bridge.end(), (0, f"adsd-ldap: stopped; adsd {SERVES} ended with 0"))
 
 
 CASES = (filters, mangled)

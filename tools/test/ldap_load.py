@@ -13,6 +13,7 @@ from ldap_peers import BOUND, same
 from ldap_store import GROUPS, ROOT, UNIT, WELL_KNOWN
 from ldap_who import Made
 from adsd_tools.ldap.extended import PASSWORD
+from adsd_tools.ldap.program import SERVES
 
 MANY, LOOK = 1000, f"search base='{BOB}' attrs=cn"
 SEES = f"dn: {BOB}\ncn: bob\n\n# search: 0 success"
@@ -122,7 +123,7 @@ def mangled_changes():
             except ConnectionError:
                 pass
         same([line for line in bridge.lines() if "fault" in line], [])
-        same(bridge.end(), (0, "adsd-ldap: stopped; adsd serve ended with 0"))
+        same(bridge.end(), (0, f"adsd-ldap: stopped; adsd {SERVES} ended with 0"))
 
 
 CASES = (many, patient, mangled_changes)

@@ -13,6 +13,7 @@ from ldap_client import BOB, NAMES, REFUSED, SECONDS, Bridge, Client, Closed, be
 from adsd_tools.forms.sids import sid_of_text
 from adsd_tools.ldap.guesses import ENDING, FREE, Guesses
 from adsd_tools.ldap.guesses import read as read_guesses
+from adsd_tools.ldap.program import SERVES
 from adsd_tools.ldap.stretching import of_export, stretched
 
 PROTOCOL = 2
@@ -178,7 +179,7 @@ def guesses():
         for _ in range(12):
             one.bind("nobody", "a guess")
         same(one.bind("nobody", "a guess"), CLOSED)
-        same(bridge.end(), (0, "adsd-ldap: stopped; adsd serve ended with 0"))
+        same(bridge.end(), (0, f"adsd-ldap: stopped; adsd {SERVES} ended with 0"))
         found, _ = read_guesses(bridge.store + ENDING)
         same(any(told[0] > FREE for told in found.values()), True)
         with open(bridge.store + ENDING, "rb") as file:

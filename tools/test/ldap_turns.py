@@ -17,7 +17,7 @@ from ldap_face import asked
 from ldap_filters import search_of
 from ldap_load import PATIENCE, SEES
 from ldap_peers import LOOK, is_gone, same
-from adsd_tools.ldap.program import MESSAGE, Ended
+from adsd_tools.ldap.program import MESSAGE, SERVES, Ended
 from adsd_tools.ldap.searches import Refused
 from adsd_tools.ldap.shares import PAYER
 from adsd_tools.ldap.turns import Stopped, Turns
@@ -312,8 +312,8 @@ def killed():
             os.kill(bridge.program(), signal.SIGKILL)
             same([client.reply(number) for client, number in zip(clients[1:], numbers)], 3 * [SEES])
             same(clients[0].reply(changed).split(",")[0] in (DONE, f"# modify: {LOST}"), True)
-            bridge.wait_for("adsd serve ended with -9: .*; what was answered stands, and it is started again")
-            bridge.wait_for("adsd serve is back after")
+            bridge.wait_for(f"adsd {SERVES} ended with -9: .*; what was answered stands, and it is started again")
+            bridge.wait_for(f"adsd {SERVES} is back after")
         try:
             same([client.ask(LOOK) for client in clients], 4 * [SEES])
         except Closed:

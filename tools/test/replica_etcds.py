@@ -7,6 +7,7 @@ import signal
 import time
 
 from adsd_tools.forms import ber
+from adsd_tools.ldap.program import SERVES
 from adsd_tools.replica import entries
 from adsd_tools.replica.etcd import Away, Denied, User, encoded
 from replica_asked import is_told, put_by_hand
@@ -178,7 +179,7 @@ def stopped(world):
         for one in world.replicas * 2:
             time.sleep(1)
             one.signal(signal.SIGTERM)
-            wrong += same(one.running.wait(timeout=SECONDS), 0) + has(one.said(), "stopped; adsd serve ended with 0")
+            wrong += same(one.running.wait(timeout=SECONDS), 0) + has(one.said(), f"stopped; adsd {SERVES} ended with 0")
             world.serves(one)
     finally:
         ended(workers)

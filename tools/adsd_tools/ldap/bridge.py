@@ -15,7 +15,7 @@ from .guesses import Guesses
 from .log import place_of
 from .paging import Shelf
 from .peers import Peers, peer_of
-from .program import DROP, MESSAGE, Ended, Program
+from .program import DROP, MESSAGE, SERVES, Ended, Program
 from .session import GIVEN_AWAY, Session, farewell, host_of
 from .tls import HANDSHAKE
 from .turns import Stopped, Turns
@@ -179,7 +179,7 @@ class Bridge:
             left = asyncio.ensure_future(self.let_go())
             code = await self.program.end()
             await left
-            self.log.say(f"stopped; adsd serve ended with {code}" if not code else str(Ended(code)))
+            self.log.say(f"stopped; adsd {SERVES} ended with {code}" if not code else str(Ended(code)))
             return self.status if not code else PROGRAM
         except Ended as why:
             self.log.say(f"{why}; what was answered stands")

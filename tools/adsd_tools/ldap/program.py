@@ -16,8 +16,9 @@ HEADER, PIECE = 7, 65536
 SOON = 0.01
 # So long what it said is waited for once it has ended, in seconds: somebody else may have its standard error still.
 LEFT = 3.0
-# So many changes are asked at once: it syncs its store for each of them, and a reader would wait for all.
-TOGETHER = 1
+# The program's command that takes frames; and so many changes are asked at once, since it syncs its store for each of
+# them, and a reader would wait for all.
+SERVES, TOGETHER = "serve", 1
 # As many frames as one run of the program takes.
 MOST_FRAMES = 1_000_000
 # What takes the token from a connection: an unbind.
@@ -46,7 +47,7 @@ class Ended(Exception):
         why = self.said or ENDS.get(self.status, "")
         if self.status < 0:
             why = f"signal {-self.status}: {signal.Signals(-self.status).name}"
-        return f"adsd serve ended with {self.status}" + (f": {why}" if why else "")
+        return f"adsd {SERVES} ended with {self.status}" + (f": {why}" if why else "")
 
 
 async def hand_on(pipe):
@@ -65,7 +66,7 @@ class Program:
     since it takes no more, and each connection gets its token again."""
 
     def __init__(self, command, store, most=MOST_FRAMES):
-        self.words, self.most = [command, "serve", store], most
+        self.words, self.most = [command, SERVES, store], most
         self.running, self.gone, self.telling, self.frames, self.tokens = None, None, None, 0, {}
 
     async def start(self):

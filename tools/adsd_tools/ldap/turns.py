@@ -13,7 +13,7 @@ from typing import Any
 
 from . import messages
 from .disk import Disk
-from .program import MESSAGE, TOGETHER, Ended
+from .program import MESSAGE, SERVES, TOGETHER, Ended
 from .searches import Refused
 from .shares import PAYER, Payer, Shares
 
@@ -285,7 +285,7 @@ class Turns:
             raise why
         self.say(f"{why}; what was answered stands, and it is started again")
         await self.program.revive()
-        self.say(f"adsd serve is back after {time.monotonic() - now:.1f} seconds")
+        self.say(f"adsd {SERVES} is back after {time.monotonic() - now:.1f} seconds")
 
     async def idle(self):
         """Waits until there is something to do, or the program ends."""
