@@ -87,7 +87,7 @@ def ends_amid():
 
 
 def asks_nothing():
-    """A change that is judged by nothing that is read waits for nobody's judging; one that asks something has it alone."""
+    """A change that is judged by nothing that is read waits for nobody's judging; one that asks has that alone."""
     async def client(turns, number):
         told = []
 

@@ -1,5 +1,5 @@
-"""Copies over a network whose connections end: they go on where they were, are begun anew where the rest isn't there any
-more, and take no more memory for a larger store."""
+"""Copies over a network whose connections end: they go on where they were, are begun anew where the rest isn't there
+any more, and take no more memory for a larger store."""
 
 import argparse
 import asyncio

@@ -179,7 +179,8 @@ def stopped(world):
         for one in world.replicas * 2:
             time.sleep(1)
             one.signal(signal.SIGTERM)
-            wrong += same(one.running.wait(timeout=SECONDS), 0) + has(one.said(), f"stopped; adsd {SERVES} ended with 0")
+            wrong += same(one.running.wait(timeout=SECONDS), 0)
+            wrong += has(one.said(), f"stopped; adsd {SERVES} ended with 0")
             world.serves(one)
     finally:
         ended(workers)

@@ -1,5 +1,5 @@
-"""Entries that are given to the program at once: the store, the answers and the running hash are those of entries that are
-given one by one, whatever is refused, changes nothing, or isn't taken; and after a crash they are found again."""
+"""Entries that are given to the program at once: the store, the answers and the running hash are those of entries that
+are given one by one, whatever is refused, changes nothing, or isn't taken; and after a crash they are found again."""
 
 import asyncio
 import os
@@ -42,7 +42,8 @@ def drawn(dice, count):
         name, value = f"CN=u{dice.randrange(6)},{STAFF}", dice.randrange(3)
         line = dice.choice((
             f"modify dn='{BOB}' replace:description=v{value}", f"modify dn='{BOB}' replace:description=v{value}",
-            f"modify dn='{name}' replace:description=v{value}", f"add dn='{name}' objectClass=user description=v{value}",
+            f"modify dn='{name}' replace:description=v{value}",
+            f"add dn='{name}' objectClass=user description=v{value}",
             f"delete dn='{name}'", f"rename dn='{name}' rdn=CN=u{dice.randrange(6)}",
             f"modify dn='CN=nobody,{STAFF}' replace:description=x"))
         request = entries.named(b"u", b"%d" % at) if dice.random() < 0.2 else b""

@@ -1,10 +1,10 @@
 """The running hash of a replica: what it is made of, and what one replica makes of what the others tell.
 
-It begins with the rows that a log begins with. Each record that the store appends for an entry is added: the body is the
-rows that the entry changes (docs/profile/store.md). What changes nothing adds nothing. The rows of a directory are what
-the bodies leave, one after the other. So two replicas that have one hash at one entry hold the same rows, up to the
-strength of SHA-256, and as far as each store has what was written to it. Which entry of those that were taken at once a
-record is of isn't asked for by it."""
+It begins with the rows that a log begins with. Each record that the store appends for an entry is added: the body is
+the rows that the entry changes (docs/profile/store.md). What changes nothing adds nothing. The rows of a directory are
+what the bodies leave, one after the other. So two replicas that have one hash at one entry hold the same rows, up to
+the strength of SHA-256, and as far as each store has what was written to it. Which entry of those that were taken at
+once a record is of isn't asked for by it."""
 
 import hashlib
 from typing import Dict, Iterable, List, Mapping, Optional, Tuple

@@ -24,8 +24,8 @@ SCHEME = "replica"
 # all is found out sooner: it is asked after so long, so often, so many times.
 CONNECT, SILENT = 10.0, 600.0
 IDLE, OFTEN, ASKS = 10, 5, 4
-# So long one goes on asking for the rest where nothing more comes, each time after a pause; and so often a copy is begun
-# anew.
+# So long one goes on asking for the rest where nothing more comes, each time after a pause; and so often a copy is
+# begun anew.
 RESUMES, PAUSE, TRIES = 120.0, 1.0, 5
 
 

@@ -2,8 +2,8 @@
 
 What is given is the store as it was after one entry, as `copy` on the same machine makes it, with what named requests
 were answered. The new replica's name is noted in the log before, so that the log is kept for it from that entry on; and
-forgotten again where who asked doesn't say that it has all. Who has a part of a copy by then asks for the rest of it: it
-gets that where the store's slot and the log still have what it takes, and the sum of the whole at the end."""
+forgotten again where who asked doesn't say that it has all. Who has a part of a copy by then asks for the rest of it:
+it gets that where the store's slot and the log still have what it takes, and the sum of the whole at the end."""
 
 import asyncio
 import contextlib

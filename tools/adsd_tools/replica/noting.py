@@ -1,4 +1,5 @@
-"""Notes where a replica stands after the entries that it took at once, with what named requests were answered, and syncs both now and then.
+"""Notes where a replica stands after the entries that it took at once, with what named requests were answered, and
+syncs both now and then.
 
 A position is written once the program has answered, which is when the store has the change on its disk. So what a
 crash leaves is a position that the store has reached, at most so many entries before where it was: those are found

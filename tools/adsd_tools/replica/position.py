@@ -1,8 +1,8 @@
 """Where a replica stands in the log, in a file beside its store, and what that says after a crash.
 
-The file has two blocks, each a line with a checksum. Positions are written over the older one, each after the answers to
-its entries, until it is synced; then they go over the other one. So a torn write leaves a position from before, and after
-a crash the store is that of the position, or has taken some entries more (noting.py)."""
+The file has two blocks, each a line with a checksum. Positions are written over the older one, each after the answers
+to its entries, until it is synced; then they go over the other one. So a torn write leaves a position from before, and
+after a crash the store is that of the position, or has taken some entries more (noting.py)."""
 
 import os
 import zlib

@@ -79,7 +79,7 @@ class Slots:
         return self.known
 
     def first(self):
-        """How many bytes the first record of the live slot has: the rows as the last snapshot, or load, has put them."""
+        """How many bytes the first record of the live slot has: the rows that the last snapshot, or load, put."""
         return int.from_bytes(os.pread(self.files[self.known.slot], RECORD, HEAD)[1:], "big")
 
     def live(self):

@@ -1,5 +1,5 @@
-"""Which entries are given to the program at once: it has the next one there when it has answered one, and where the store
-stands is looked at, noted and told once for all of them.
+"""Which entries are given to the program at once: it has the next one there when it has answered one, and where the
+store stands is looked at, noted and told once for all of them.
 
 Each of them changes one object. After a crash the entries that a store has taken are found by a copy of what it was at
 its position, so no more than one snapshot may come meanwhile: it leaves the slot of before as it was, and a second one
