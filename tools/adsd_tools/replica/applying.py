@@ -145,7 +145,7 @@ class Applying:
                 changed = self.taken(some[: len(replies)], replies)
             if len(replies) < len(some):
                 await self.passed(program, some[len(replies)])
-        except (Unfit, OSError) as why:
+        except (Unfit, OSError, rows.Broken) as why:
             raise Spoilt(f"{self.slots.store}: {why}") from None
         return changed
 
