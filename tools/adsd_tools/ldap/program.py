@@ -1,4 +1,4 @@
-"""The one `adsd serve` behind the bridge: a frame in, its answer out, one after the other (docs/profile/frames.md)."""
+"""The one `adsd host` behind the bridge: frames in, their answers out, in order (docs/profile/frames.md)."""
 
 import asyncio
 import contextlib
@@ -16,9 +16,9 @@ HEADER, PIECE = 7, 65536
 SOON = 0.01
 # So long what it said is waited for once it has ended, in seconds: somebody else may have its standard error still.
 LEFT = 3.0
-# The program's command that takes frames; and so many changes are asked at once, since it syncs its store for each of
-# them, and a reader would wait for all.
-SERVES, TOGETHER = "serve", 1
+# The program's command that takes frames; and so many changes are asked at once, since it syncs its store once for all
+# frames that it finds whole.
+SERVES, TOGETHER = "host", 128
 # As many frames as one run of the program takes.
 MOST_FRAMES = 1_000_000
 # What takes the token from a connection: an unbind.

@@ -1,4 +1,4 @@
-"""Which entries are given to the program at once: it has the next one there when it has answered one, and where the
+"""Which entries are given to the program at once: it syncs its store once for those that it finds whole, and where the
 store stands is looked at, noted and told once for all of them.
 
 Each of them changes one object. After a crash the entries that a store has taken are found by a copy of what it was at
@@ -13,7 +13,7 @@ from adsd_tools.ldap.program import MESSAGE
 from adsd_tools.rows import store as rows
 
 # So many entries, of so many bytes, are given at once: a client's frame waits for all of them.
-MOST, MOST_BYTES = 16, 1 << 19
+MOST, MOST_BYTES = 100, 1 << 19
 # So many bytes more than the first record, and than this, the others have before a snapshot.
 SNAPSHOT = 1 << 20
 # A value takes so many times the bytes of an entry in a row at most; a new object has its own descriptor, that of its
