@@ -168,7 +168,7 @@ class Replica(Bridge):
             while not work.done() and not self.status and self.signals < 2 and time.monotonic() < end:
                 for session in self.sessions:
                     session.stop()
-                if self.turns.appender.is_idle():
+                if not self.turns.working and self.turns.appender.is_idle():
                     break
                 await asyncio.sleep(SOON)
             # (what was answered by now is sent to clients before they are let go)

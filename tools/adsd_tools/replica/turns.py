@@ -29,6 +29,8 @@ class LogTurns(Turns):
         self.applying, self.linear, self.patience = applying, options.reads == "linear", options.patience
         self.max_age, self.rates, self.counts = options.max_age, Rates(options.user_bytes), counts
         self.appender, self.heads, self.room, self.drains = None, None, None, False
+        # How many changes were taken that have no answer yet.
+        self.working = 0
         # How many frames each connection that judges a change asked for reading, which entry its change has to follow,
         # and which name its request has.
         self.reads, self.behind, self.names, self.exact = {}, {}, {}, asyncio.Lock()
@@ -54,6 +56,14 @@ class LogTurns(Turns):
         """The answer to a change, by the token that the connection has."""
         if self.closed or self.drains or self.appender is None:
             raise Stopped
+        self.working += 1
+        try:
+            return await self.taken(connection, body)
+        finally:
+            self.working -= 1
+
+    async def taken(self, connection, body):
+        """The answer to a change that is taken: a replica that is stopped waits for it."""
         message, token = messages.read(body), self.program.tokens.get(connection, b"")
         # (what a named request was answered is known again by its entry)
         refused = await self.refused(connection, message) if message and connection not in self.names else None
