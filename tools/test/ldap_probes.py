@@ -53,7 +53,7 @@ def filters():
         "(|(nosuch=x)(cn=ann))", "(cn=\\61nn)", "(accountExpires=9223372036854775807)", "(accountExpires=0)",
         "(accountExpires>=1)", "(badPwdCount=0)", "(sAMAccountType=805306368)", "(primaryGroupID=513)",
         "(instanceType=4)", "(uSNChanged>=1)", "(uSNCreated<=0)", "(nTSecurityDescriptor=*)", "(codePage=0)",
-        "(&(objectCategory=person)(objectClass=user))", "(lastLogonTimestamp=*)", "(mail=*)", "(proxyAddresses=*)",
+        "(&(objectCategory=person)(objectClass=user))", "(mail=*)", "(proxyAddresses=*)",
         "(servicePrincipalName=*)", "(objectSid=*)", "(&)", "(|)", "(2.5.4.3=ann)", "(objectClass=1.2.840.113556.1.5.9)",
         "(1.2.840.113556.1.4.221=ann)", "(pwdLastSet>=1)", "(isDeleted=TRUE)", "(!(isDeleted=TRUE))", "(cn:dn:=ann)",
         "(!(nosuch=x))", "(cn~=ann)", "(cn>=b)", "(cn<=b)", "(objectClass=u*)", "(objectCategory=CN=Per*)",
@@ -74,11 +74,11 @@ def attributes():
            "msDS-User-Account-Control-Computed", "msDS-UserPasswordExpiryTimeComputed", "structuralObjectClass",
            "subSchemaSubEntry", "objectSid", "objectGUID", "nTSecurityDescriptor", "unicodePwd", "distinguishedName",
            "name", "whenCreated", "uSNChanged", "sDRightsEffective", "nosuch", "1.1", "2.5.4.3", "cn;lang-en",
-           "replPropertyMetaData", "msDS-KeyVersionNumber", "lastLogonTimestamp", "possibleInferiors", "fromEntry",
+           "replPropertyMetaData", "msDS-KeyVersionNumber", "possibleInferiors", "fromEntry",
            "msDS-ResultantPSO", "msDS-MembersForAzRole", "supplementalCredentials", "pwdLastSet", "adminCount")
     made = [Probe("attribute of ann", f"`{one}`", "search", (ANN, "base", "(objectClass=*)", [one], "has")) for one in own]
     made += [Probe("attribute of club", f"`{one}`", "search", (CLUB, "base", "(objectClass=*)", [one], "values"))
-             for one in ("primaryGroupToken", "member", "member;range=0-0", "member;range=1-*", "member;range=7-*",
+             for one in ("primaryGroupToken", "member", "member;range=7-*",
                          "memberOf", "canonicalName", "msDS-PrincipalName")]
     return made
 
